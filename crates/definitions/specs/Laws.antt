@@ -1,0 +1,136 @@
+-- What follows from the definitions.
+use Rattle.std.specs.Prelude.{codes, ◌≡◌, ◌≤◌, ◌<◌, ◌+◌, ◌^◌, ◌++◌, ◌∷◌, [], ℕ, List, length, Some, None, Ok, IfSome, decimal, if◌then◌else◌}
+use Rattle.std.specs.Map.{keys_of}
+use Rattle.std.specs.List.Sorted.{IsStrictlySortedBy}
+use Rattle.serde_json.specs.Data.{Data}
+use Rattle.serde_json.specs.Written.{compact_text}
+use Rattle.definitions.specs.declared.kinds.Kind.{Kind}
+use Rattle.definitions.specs.Lines.{Session, start, after_lines}
+use Rattle.definitions.specs.Names.{Name, name_cmp, is_named}
+use Rattle.definitions.specs.History.{History, Write, write, writes, present, found, members, state, View, list, seen}
+use Rattle.definitions.specs.Refusals.{Refusal}
+use Rattle.definitions.specs.Metadata.{metadata_text, uid, version}
+use Rattle.definitions.specs.Reading.{reading}
+use Rattle.definitions.specs.Targets.{Route, route, path_text, with_body}
+use Rattle.definitions.specs.Uids.{uid_text, uid_revision, cluster_word}
+use Rattle.definitions.specs.Verbs.{Request, create_object, update_object, Outcome, refused, accept, write_of, outcome_body, history_after}
+
+-- ---- history
+
+-- under each key the members have what the last write that names it put there
+abbrev pub MembersAreState : Type 0
+MembersAreState = (h : History) (r : ℕ) (k : Name) → found k (members h r) ≡ state h r k
+
+-- the members stand in strictly ascending order, so each key stands once
+abbrev pub MembersAreInOrder : Type 0
+MembersAreInOrder = (h : History) (r : ℕ) → IsStrictlySortedBy name_cmp (keys_of (members h r))
+
+-- a list has under each key what is there, if the view asks for it
+abbrev pub ListsShowTheState : Type 0
+ListsShowTheState = (h : History) (v : View) (r : ℕ) (k : Name) → found k (list h v r) ≡ seen v k (state h r k)
+
+-- a list too stands in strictly ascending order
+abbrev pub ListsAreInOrder : Type 0
+ListsAreInOrder = (h : History) (v : View) (r : ℕ) → IsStrictlySortedBy name_cmp (keys_of (list h v r))
+
+-- more entries leave what is there at a revision that was reached before them
+abbrev pub PastStands : Type 0
+PastStands = (h more : History) (r : ℕ) → r ≤ present h → members (h ++ more) r ≡ members h r
+
+-- after one more write its key has what it put, and every other key has what it had
+abbrev pub WritesSetState : Type 0
+WritesSetState =
+    (h : History) (w : Write) (k : Name) → state (h ++ write w ∷ []) (present h + 1) k ≡ (if is_named k w.key then w.put else state h (present h) k)
+
+-- ---- the verbs
+
+-- what holds of the object that an outcome writes, if it writes one
+abbrev pub OfStored : Outcome → (Name → Data → Type 0) → Type 0
+OfStored o P = IfSome (write_of o) (λ w. IfSome w.put (P w.key))
+
+-- each object that is written carries the revision of its write (Kubernetes API Concepts, Resource versions)
+abbrev pub WritesCarryTheirRevision : Type 0
+WritesCarryTheirRevision = (q : Request) (h : History) (moment : List ℕ) → OfStored (accept q h moment) (λ k d. version d ≡ Some (decimal (present h + 1)))
+
+-- the uid of a new object holds the revision of its create, and no object was there
+abbrev pub CreatesAreNew : Type 0
+CreatesAreNew =
+    (kind : Kind) (ns : List ℕ) (d : Data) (h : History) (moment : List ℕ)
+    → OfStored (accept (create_object kind ns d) h moment) (λ k new. (state h (present h) k ≡ None) × (uid new ≡ Some (uid_text cluster_word (present h + 1))))
+
+-- an update whose body names a version replaces exactly that version (Kubernetes API Conventions, Concurrency Control and Consistency)
+abbrev pub NamedVersionsAreReplaced : Type 0
+NamedVersionsAreReplaced =
+    (k : Name) (d o : Data) (named : List ℕ) (h : History) (moment : List ℕ) → reading k.kind d ≡ Ok o → version o ≡ Some named
+    → OfStored (accept (update_object k d) h moment) (λ written new. (held : Data) × (written ≡ k) × (state h (present h) k ≡ Some held) × (version held ≡ Some named))
+
+-- what is there, if it is a text, is there after
+abbrev pub KeepsText : List ℕ → Data → Data → Type 0
+KeepsText k held new = IfSome (metadata_text k held) (λ t. metadata_text k new ≡ Some t)
+
+-- an update keeps the uid and the time of creation that an object has (Kubernetes API Conventions, Metadata)
+abbrev pub UpdatesKeepIdentity : Type 0
+UpdatesKeepIdentity =
+    (k : Name) (d : Data) (h : History) (moment : List ℕ)
+    → OfStored (accept (update_object k d) h moment)
+    (λ written new.
+    (held : Data) × (state h (present h) k ≡ Some held) × KeepsText (codes "uid") held new × KeepsText (codes "creationTimestamp") held new)
+
+-- no object is longer than an object may be
+abbrev pub WritesFit : Type 0
+WritesFit = (q : Request) (h : History) (moment : List ℕ) → OfStored (accept q h moment) (λ k d. length (compact_text d) ≤ 1572864)
+
+-- a refusal writes nothing
+abbrev pub RefusalsWriteNothing : Type 0
+RefusalsWriteNothing = (q : Request) (h : History) (moment : List ℕ) (f : Refusal) → accept q h moment ≡ refused f → history_after h (accept q h moment) ≡ h
+
+-- what is answered to a create or an update is what the next read of that key finds
+abbrev pub AnswersAreRead : Type 0
+AnswersAreRead =
+    (q : Request) (h : History) (moment : List ℕ)
+    → OfStored (accept q h moment)
+    (λ k d.
+    (outcome_body (accept q h moment) ≡ d) × (state (history_after h (accept q h moment)) (present (history_after h (accept q h moment))) k ≡ Some d))
+
+-- ---- uids
+
+-- the revision is read back from the uid, so two revisions have two uids
+abbrev pub UidsHoldRevisions : Type 0
+UidsHoldRevisions = (cluster r : ℕ) → r < 2 ^ 62 → uid_revision (uid_text cluster r) ≡ r
+
+-- ---- paths
+
+-- a path is read as the route that has it, and as no other
+abbrev pub PathsAreRoutes : Type 0
+PathsAreRoutes = (t : List ℕ) (r : Route) → route t ≡ Some r → path_text r ≡ t
+
+-- a body that is read is no longer than a body may be
+abbrev pub BodiesFit : Type 0
+BodiesFit = (f : Data → Request) (text : List ℕ) (q : Request) → with_body f text ≡ Ok q → length text ≤ 1048576
+
+-- ---- runs
+
+-- the history after some lines begins with the history before them
+abbrev pub RunsOnlyAdd : Type 0
+RunsOnlyAdd = (s : Session) (lines : List (List ℕ)) → (more : History) × ((after_lines s lines).history ≡ s.history ++ more)
+
+-- these writes in order, the first at revision r: each object carries the revision of its write
+abbrev pub Carry : ℕ → List Write → Type 0
+Carry r [] = Unit {0}
+Carry r (w ∷ ws) = IfSome w.put (λ d. version d ≡ Some (decimal r)) × Carry (r + 1) ws
+
+-- whatever lines are read, each object that was ever stored carries the revision of its write, the first of which is 2
+abbrev pub RunsCarryRevisions : Type 0
+RunsCarryRevisions = (lines : List (List ℕ)) → Carry 2 (writes (after_lines start lines).history)
+
+-- whatever lines are read, there are no more objects and no greater revision than there may be
+abbrev pub RunsStayWithinLimits : Type 0
+RunsStayWithinLimits =
+    (lines : List (List ℕ))
+    → (length (members (after_lines start lines).history (present (after_lines start lines).history)) ≤ 65536) × (present (after_lines start lines).history ≤ 9007199254740991)
+
+-- ---- reading
+
+-- what was read reads as itself
+abbrev pub ReadsAgain : Type 0
+ReadsAgain = (k : Kind) (d e : Data) → reading k d ≡ Ok e → reading k e ≡ Ok e

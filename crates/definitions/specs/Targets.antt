@@ -1,0 +1,190 @@
+-- What a method, a target and a body ask for.
+use Rattle.std.specs.Prelude.{ℕ, List, [], ◌∷◌, ◌++◌, Bool, true, false, not, ◌&&◌, length, Option, Some, None, Result, Ok, Err, codes, nat_lt, if◌then◌else◌, option_and_then, option_map, ◌==◌}
+use Rattle.std.specs.List.{slice_split, list_any, list_all, before_first}
+use Rattle.std.specs.Str.{bytes_eq, is_utf8}
+use Rattle.std.specs.Str.Lossy.{utf8_lossy}
+use Rattle.serde_json.specs.Data.{Data}
+use Rattle.serde_json.specs.Read.{read}
+use Rattle.definitions.specs.declared.kinds.Group.{Group}
+use Rattle.definitions.specs.declared.kinds.Group.TheVariants.{Core, Apps}
+use Rattle.definitions.specs.declared.kinds.Kind.{Kind}
+use Rattle.definitions.specs.declared.kinds.Kind.TheVariants.{ConfigMap, Pod, ReplicaSet, Deployment}
+use Rattle.definitions.specs.declared.methods.Method.{Method}
+use Rattle.definitions.specs.declared.methods.Method.TheVariants.{Get, Post, Put, Patch, Delete}
+use Rattle.definitions.specs.declared.refusals.Part.TheVariants as part
+use Rattle.definitions.specs.Kinds.{group, plural, kind_named, has_status}
+use Rattle.definitions.specs.Names.{Name, is_namespace}
+use Rattle.definitions.specs.Refusals.{Refusal, bad_request, no_such_path, method_not_allowed, too_large}
+use Rattle.definitions.specs.Verbs.{Request, get_object, list_objects, create_object, update_object, update_status}
+
+-- a collection of a kind, in one namespace or in all; an object; the status of an object (Kubernetes API Concepts, Resource URIs)
+pub data Route : Type 0 where
+  collection : Kind → Option (List ℕ) → Route
+  object_at : Name → Route
+  status_of : Name → Route
+
+-- ---- paths
+
+-- the start of a group's paths (Kubernetes API Concepts, Resource URIs)
+abbrev pub prefix : Group → List ℕ
+prefix Core = codes "/api/v1"
+prefix Apps = codes "/apis/apps/v1"
+
+-- the path of a route (Kubernetes API Concepts, Resource URIs)
+abbrev pub collection_text : Kind → Option (List ℕ) → List ℕ
+collection_text k None = prefix (group k) ++ (47 ∷ plural k)
+collection_text k (Some ns) = prefix (group k) ++ (codes "/namespaces/" ++ (ns ++ (47 ∷ plural k)))
+
+abbrev pub object_text : Name → List ℕ
+object_text n = collection_text n.kind (Some n.namespace) ++ (47 ∷ n.name)
+
+abbrev pub path_text : Route → List ℕ
+path_text (collection k ns) = collection_text k ns
+path_text (object_at n) = object_text n
+path_text (status_of n) = object_text n ++ codes "/status"
+
+-- the texts between the slashes; none is decoded (RFC 3986, Path)
+abbrev pub segments : List ℕ → List (List ℕ)
+segments path = slice_split (λ b. b == 47) path
+
+-- the forms of a path, with its group and its parts
+pub data Form : Type 0 where
+  all_form : Group → (resource : List ℕ) → Form
+  namespace_form : Group → (namespace resource : List ℕ) → Form
+  object_form : Group → (namespace resource name : List ℕ) → Form
+  status_form : Group → (namespace resource name : List ℕ) → Form
+
+-- below a prefix: `P`, `namespaces/N/P`, `namespaces/N/P/O` and `namespaces/N/P/O/status`
+abbrev pub below : Group → List (List ℕ) → Option Form
+below g [] = None
+below g (resource ∷ []) = Some (all_form g resource)
+below g (word ∷ n ∷ []) = None
+below g (word ∷ n ∷ resource ∷ []) = if bytes_eq (codes "namespaces") word then Some (namespace_form g n resource) else None
+below g (word ∷ n ∷ resource ∷ name ∷ []) = if bytes_eq (codes "namespaces") word then Some (object_form g n resource name) else None
+below g (word ∷ n ∷ resource ∷ name ∷ last ∷ []) =
+    if bytes_eq (codes "namespaces") word && bytes_eq (codes "status") last then Some (status_form g n resource name) else None
+below g (word ∷ n ∷ resource ∷ name ∷ last ∷ more ∷ rest) = None
+
+-- the segments after the words of a prefix
+abbrev pub after_words : List (List ℕ) → List (List ℕ) → Option (List (List ℕ))
+after_words [] segs = Some segs
+after_words (word ∷ words) [] = None
+after_words (word ∷ words) (s ∷ segs) = if bytes_eq word s then after_words words segs else None
+
+abbrev pub below_apps : Option (List (List ℕ)) → Option Form
+below_apps (Some rest) = below Apps rest
+below_apps None = None
+
+abbrev pub below_either : List (List ℕ) → Option (List (List ℕ)) → Option Form
+below_either segs (Some rest) = below Core rest
+below_either segs None = below_apps (after_words (codes "apis" ∷ codes "apps" ∷ codes "v1" ∷ []) segs)
+
+-- the prefix is `api/v1` or `apis/apps/v1`
+abbrev pub by_prefix : List (List ℕ) → Option Form
+by_prefix segs = below_either segs (after_words (codes "api" ∷ codes "v1" ∷ []) segs)
+
+abbrev pub is_filled : List ℕ → Bool
+is_filled s = nat_lt 0 (length s)
+
+-- the path begins with a slash, and no segment after it is empty
+abbrev pub form_of : List (List ℕ) → Option Form
+form_of ([] ∷ segs) = if list_all is_filled segs then by_prefix segs else None
+form_of _ = None
+
+-- the kinds that are served so far
+abbrev pub is_served : Kind → Bool
+is_served ConfigMap = true
+is_served Pod = false
+is_served ReplicaSet = false
+is_served Deployment = false
+
+abbrev pub served : Kind → Option Kind
+served k = if is_served k then Some k else None
+
+abbrev pub served_named : Group → List ℕ → Option Kind
+served_named g resource = option_and_then served (kind_named g resource)
+
+abbrev pub with_status : Kind → Option Kind
+with_status k = if has_status k then Some k else None
+
+abbrev pub route_of : Form → Option Route
+route_of (all_form g resource) = option_map (λ k. collection k None) (served_named g resource)
+route_of (namespace_form g n resource) = option_map (λ k. collection k (Some n)) (served_named g resource)
+route_of (object_form g n resource name) = option_map (λ k. object_at (record { kind = k; namespace = n; name = name })) (served_named g resource)
+route_of (status_form g n resource name) = option_map (λ k. status_of (record { kind = k; namespace = n; name = name })) (option_and_then with_status (served_named g resource))
+
+-- the route with this path (Kubernetes API Concepts, Resource URIs)
+abbrev pub route : List ℕ → Option Route
+route path = option_and_then route_of (form_of (segments path))
+
+-- whether the namespace that a route names can be one
+abbrev pub names_namespace : Route → Bool
+names_namespace (collection k None) = true
+names_namespace (collection k (Some ns)) = is_namespace ns
+names_namespace (object_at n) = is_namespace n.namespace
+names_namespace (status_of n) = is_namespace n.namespace
+
+-- ---- methods, queries and bodies
+
+-- the methods of each route that are served so far (Kubernetes API Concepts, API verbs)
+abbrev pub is_allowed : Method → Route → Bool
+is_allowed Get r = true
+is_allowed Post (collection k None) = false
+is_allowed Post (collection k (Some ns)) = true
+is_allowed Post (object_at n) = false
+is_allowed Post (status_of n) = false
+is_allowed Put (collection k ns) = false
+is_allowed Put (object_at n) = true
+is_allowed Put (status_of n) = true
+is_allowed Patch r = false
+is_allowed Delete r = false
+
+-- a target is a path, and a query after a `?` (RFC 3986, Query)
+abbrev pub has_query : List ℕ → Bool
+has_query target = list_any (λ b. b == 63) target
+
+abbrev pub path_of : List ℕ → List ℕ
+path_of target = before_first (λ b. b == 63) target
+
+abbrev pub longest_body : ℕ
+longest_body = 1048576
+
+-- a body is JSON in UTF-8 (RFC 8259, Character Encoding)
+abbrev pub data_of : List ℕ → Option Data
+data_of text = if is_utf8 text then read text else None
+
+abbrev pub asks_with : (Data → Request) → Option Data → Result Request Refusal
+asks_with f None = Err (bad_request part.Body)
+asks_with f (Some d) = Ok (f d)
+
+abbrev pub with_body : (Data → Request) → List ℕ → Result Request Refusal
+with_body f text = if nat_lt longest_body (length text) then Err too_large else asks_with f (data_of text)
+
+-- what a method asks of a route (Kubernetes API Concepts, API verbs)
+abbrev pub asked : Method → Route → List ℕ → Result Request Refusal
+asked Get (collection k ns) text = Ok (list_objects (record { kind = k; namespace = ns }))
+asked Get (object_at n) text = Ok (get_object n)
+asked Get (status_of n) text = Ok (get_object n)
+asked Post (collection k None) text = Err method_not_allowed
+asked Post (collection k (Some ns)) text = with_body (create_object k ns) text
+asked Post (object_at n) text = Err method_not_allowed
+asked Post (status_of n) text = Err method_not_allowed
+asked Put (collection k ns) text = Err method_not_allowed
+asked Put (object_at n) text = with_body (update_object n) text
+asked Put (status_of n) text = with_body (update_status n) text
+asked Patch r text = Err method_not_allowed
+asked Delete r text = Err method_not_allowed
+
+abbrev pub asked_at : Method → List ℕ → List ℕ → Option Route → Result Request Refusal
+asked_at method target text None = Err no_such_path
+asked_at method target text (Some r) =
+    if not (names_namespace r) then Err (bad_request part.Path)
+    else (if not (is_allowed method r) then Err method_not_allowed else (if has_query target then Err (bad_request part.Query) else asked method r text))
+
+-- a target that is no text is read as one, with U+FFFD in the place of what is none (Unicode, U+FFFD Substitution)
+abbrev pub decoded : List ℕ → List ℕ
+decoded t = if is_utf8 t then t else utf8_lossy t
+
+-- the request, or the first refusal: of the path, the method, the query, the body
+abbrev pub read_request : Method → List ℕ → List ℕ → Result Request Refusal
+read_request method target text = asked_at method (decoded target) text (route (path_of (decoded target)))

@@ -1,0 +1,58 @@
+-- What is done to JSON values (RFC 8259): members set and taken out, merge patches.
+use Rattle.std.specs.Ordering.{nat_cmp, is_eq}
+use Rattle.std.specs.Cmp.Lexicographic.{slice_cmp}
+use Rattle.std.specs.Prelude.{unwrap_or, ℕ, List, Bool, if◌then◌else◌, is_some, Option, Some, None}
+use Rattle.serde_json.specs.Data.{Data, null, boolean, number, string, array, object, Items, no_items, item, Members, no_members, member, put}
+use Rattle.serde_json.specs.Find.{as_null, get_member, get}
+
+-- the value with d at the member k, if it is an object
+abbrev pub with_member : List ℕ → Data → Data → Data
+with_member k d null = null
+with_member k d (boolean b) = boolean b
+with_member k d (number n) = number n
+with_member k d (string s) = string s
+with_member k d (array ds) = array ds
+with_member k d (object ms) = object (put k d ms)
+
+-- the value with e at the member k, where it has none
+abbrev pub with_default : List ℕ → Data → Data → Data
+with_default k e d = if is_some (get k d) then d else with_member k e d
+
+-- the members of an object; another value has none
+abbrev pub members_of : Data → Members
+members_of null = no_members
+members_of (boolean b) = no_members
+members_of (number n) = no_members
+members_of (string s) = no_members
+members_of (array ds) = no_members
+members_of (object ms) = ms
+
+abbrev pub inner_of : Option Data → Members
+inner_of None = no_members
+inner_of (Some d) = members_of d
+
+abbrev pub is_null : Data → Bool
+is_null d = is_some (as_null d)
+
+-- the members without that at k
+abbrev pub without : List ℕ → Members → Members
+without k no_members = no_members
+without k (member l e ms) = if is_eq (slice_cmp nat_cmp k l) then ms else member l e (without k ms)
+
+-- the value at k, or null
+abbrev pub found_or_null : List ℕ → Members → Data
+found_or_null k ms = unwrap_or (get_member k ms) null
+
+-- a merge patch (RFC 7396): objects merge, null removes, anything else replaces
+abbrev mutual
+  pub merged : Data → Data → Data
+  merged target null = null
+  merged target (boolean b) = boolean b
+  merged target (number n) = number n
+  merged target (string s) = string s
+  merged target (array ds) = array ds
+  merged target (object changes) = object (merged_members (members_of target) changes)
+
+  pub merged_members : Members → Members → Members
+  merged_members ms no_members = ms
+  merged_members ms (member k d changes) = merged_members (if is_null d then without k ms else put k (merged (found_or_null k ms) d) ms) changes

@@ -1,0 +1,8 @@
+//! What the words of a Kubernetes-style API mean, as mathematics, and the laws that follow.
+//! No other crate is known here: each of them proves that it does what stands here.
+#![tactic(auto)]
+
+pub mod kinds;
+pub mod methods;
+pub mod refusals;
+pub mod schemas;

@@ -1,0 +1,57 @@
+//! What the members of an object are described by.
+use crate::kinds::Kind;
+
+/// What a value has to be.
+#[derive(Clone, Copy, Debug, PartialEq, Eq)]
+pub enum Shape {
+    /// Any value.
+    Anything,
+    /// A text.
+    Text,
+    /// A text that names the kind's API version.
+    VersionOf(Kind),
+    /// A text that names the kind.
+    NameOf(Kind),
+    /// A truth value.
+    Truth,
+    /// A whole number, from the first to the second.
+    Whole(i64, i64),
+    /// A list of texts.
+    TextList,
+    /// A list of objects, each with this schema.
+    List(Schema),
+    /// An object with this schema.
+    Object(Schema),
+}
+
+/// The objects within objects whose members are described.
+#[derive(Clone, Copy, Debug, PartialEq, Eq)]
+pub enum Schema {
+    /// An object of the kind itself.
+    Root(Kind),
+    /// Each member is a text.
+    Texts,
+    Metadata,
+    OwnerReference,
+    PodSpec,
+    PodStatus,
+    Condition,
+    ReplicaSetSpec,
+    ReplicaSetStatus,
+    DeploymentSpec,
+    DeploymentStatus,
+    Selector,
+    Expression,
+    Template,
+    TemplateMetadata,
+    Strategy,
+    /// No member is described.
+    Unknown,
+}
+
+/// What is said of a member: its shape, and whether an empty one counts as absent.
+#[derive(Clone, Copy, Debug, PartialEq, Eq)]
+pub struct Member {
+    pub shape: Shape,
+    pub drops_empty: bool,
+}
