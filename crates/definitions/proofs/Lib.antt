@@ -1,0 +1,11 @@
+pub mod Cases
+pub mod JsonMembers
+pub mod Limits
+pub mod NoFloatsRead
+pub mod Past
+pub mod Paths
+pub mod PutLaws
+pub mod ReadAgain
+pub mod Runs
+pub mod Uids
+pub mod VerbLaws

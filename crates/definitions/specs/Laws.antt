@@ -7,7 +7,7 @@ use Rattle.serde_json.specs.Written.{compact_text}
 use Rattle.definitions.specs.declared.kinds.Kind.{Kind}
 use Rattle.definitions.specs.Lines.{Session, start, after_lines}
 use Rattle.definitions.specs.Names.{Name, name_cmp, is_named}
-use Rattle.definitions.specs.History.{History, Write, write, writes, present, found, members, state, View, list, seen}
+use Rattle.definitions.specs.History.{History, Write, write, writes, CanHappen, present, found, members, state, View, list, seen}
 use Rattle.definitions.specs.Refusals.{Refusal}
 use Rattle.definitions.specs.Metadata.{metadata_text, uid, version}
 use Rattle.definitions.specs.Reading.{reading}
@@ -113,6 +113,10 @@ BodiesFit = (f : Data → Request) (text : List ℕ) (q : Request) → with_body
 -- the history after some lines begins with the history before them
 abbrev pub RunsOnlyAdd : Type 0
 RunsOnlyAdd = (s : Session) (lines : List (List ℕ)) → (more : History) × ((after_lines s lines).history ≡ s.history ++ more)
+
+-- whatever lines are read, what has happened by then can happen
+abbrev pub RunsCanHappen : Type 0
+RunsCanHappen = (lines : List (List ℕ)) → CanHappen (after_lines start lines).history
 
 -- these writes in order, the first at revision r: each object carries the revision of its write
 abbrev pub Carry : ℕ → List Write → Type 0

@@ -1,8 +1,8 @@
 -- What an object's metadata says (Kubernetes API Conventions, Metadata).
 use Rattle.std.specs.Prelude.{ℕ, List, [], Bool, false, Option, is_some, option_and_then, unwrap_or, codes, ◌∷◌}
-use Rattle.serde_json.specs.Data.{Data, object, Members, Items, no_items, item}
+use Rattle.serde_json.specs.Data.{Data, object, Members, put, Items, no_items, item}
 use Rattle.serde_json.specs.Find.{get, get_member, as_str, as_bool, as_array}
-use Rattle.definitions.specs.Values.{with_member, inner_of}
+use Rattle.definitions.specs.Values.{members_of, inner_of}
 
 -- the members of an object's metadata
 abbrev pub metadata_of : Data → Members
@@ -10,7 +10,7 @@ metadata_of d = inner_of (get (codes "metadata") d)
 
 -- the object with this metadata
 abbrev pub with_metadata : Members → Data → Data
-with_metadata meta d = with_member (codes "metadata") (object meta) d
+with_metadata meta d = object (put (codes "metadata") (object meta) (members_of d))
 
 -- a member of the metadata
 abbrev pub metadata : List ℕ → Data → Option Data

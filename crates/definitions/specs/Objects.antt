@@ -1,6 +1,6 @@
 -- Objects and their keys, as JSON data.
-use Rattle.std.specs.Prelude.{ℕ, List, refl}
-use Rattle.std.specs.Coded.{Coded, code_by, coded×, coded_ℕ, coded_list}
+use Rattle.std.specs.Prelude.{refl}
+use Rattle.std.specs.Coded.{Coded, code_by, coded×}
 use Rattle.serde_json.specs.Data.{Data}
 use Rattle.definitions.specs.declared.kinds.Kind.{Kind}
 use Rattle.definitions.specs.contracts.kinds.Kind as kind

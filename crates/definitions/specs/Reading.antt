@@ -1,7 +1,7 @@
 -- Reading an object: what is wanted of it, and what is left out of it and filled in.
 use Rattle.std.specs.Prelude.{◌≡◌, ℕ, ℤ, List, Bool, true, false, not, nat_le, Result, Ok, Err, ◌&&◌, ◌||◌, ◌==◌, length, if◌then◌else◌, bytes_eq, int_le, is_some, option_map, unwrap_or, codes}
 use Rattle.serde_json.specs.Data.{Num, Data, null, boolean, number, string, array, object, Items, no_items, item, Members, no_members, member, put, depth}
-use Rattle.serde_json.specs.Find.{as_null, as_object, as_i64}
+use Rattle.serde_json.specs.Find.{as_object, as_i64}
 use Rattle.serde_json.specs.Written.{has_float}
 use Rattle.serde_json.specs.Events.{items_len, members_len}
 use Rattle.definitions.specs.declared.kinds.Kind.{Kind}

@@ -2,7 +2,9 @@
 //! No other crate is known here: each of them proves that it does what stands here.
 #![tactic(auto)]
 
+pub mod examples;
 pub mod kinds;
+pub mod laws;
 pub mod methods;
 pub mod refusals;
 pub mod schemas;
