@@ -1,0 +1,76 @@
+#!/usr/bin/env python3
+"""Runs the program on each case and compares what it writes.
+
+A case is a pair of files in cases/: NAME.replay has the bytes of standard input of `kcp replay`, NAME.expect those of its
+standard output. The program is built from the sources by `rt try`, which takes seconds and proves nothing;
+`--program PATH` runs one that is built already.
+Usage: run.py [--program PATH] [WORD]      WORD: only cases whose name has it
+"""
+import argparse
+import pathlib
+import subprocess
+import sys
+import tempfile
+
+HERE = pathlib.Path(__file__).resolve().parent
+CASES = HERE / "cases"
+SECONDS = 60
+
+
+def cases(word):
+    """The names of the cases, in order."""
+    names = {path.stem for path in CASES.glob("*.replay")} | {path.stem for path in CASES.glob("*.expect")}
+    return sorted(name for name in names if word in name)
+
+
+def by_program(program, names):
+    """The names of the cases that a built program fails."""
+    failed = []
+    for name in names:
+        given = (CASES / f"{name}.replay").read_bytes()
+        wanted = (CASES / f"{name}.expect").read_bytes()
+        run = subprocess.run([program, "replay"], input=given, capture_output=True, timeout=SECONDS)
+        if run.stdout != wanted or run.returncode != 0:
+            failed.append(name)
+            show(name, wanted, run.stdout, run.returncode)
+    return failed
+
+
+def show(name, wanted, written, code):
+    """The first line that differs."""
+    print(f"FAILED {name} (exit {code})")
+    for number, (want, got) in enumerate(zip(wanted.split(b"\n"), written.split(b"\n")), 1):
+        if want != got:
+            print(f"  line {number}\n    wanted  {want[:400]!r}\n    written {got[:400]!r}")
+            return
+    print(f"  wanted {len(wanted)} bytes, written {len(written)}")
+
+
+def by_try(names):
+    """The names of the cases that the program fails as `rt try` builds it."""
+    with tempfile.TemporaryDirectory() as folder:
+        for name in names:
+            (pathlib.Path(folder) / name).write_bytes((CASES / f"{name}.replay").read_bytes())
+            (pathlib.Path(folder) / f"{name}.stdout").write_bytes((CASES / f"{name}.expect").read_bytes())
+        command = ["rt", "try", "kcp", "--seconds", str(SECONDS), "--cases", folder, "--", "replay"]
+        run = subprocess.run(command, cwd=HERE.parent, capture_output=True, text=True, errors="replace")
+        if run.returncode == 0:
+            return []
+        print(run.stdout[-20000:] + run.stderr[-4000:])
+        failed = [name for name in names if any(name in line and "ok" not in line.split() for line in run.stdout.splitlines())]
+        return failed or names
+
+
+def main():
+    parser = argparse.ArgumentParser(description=__doc__.splitlines()[0])
+    parser.add_argument("--program")
+    parser.add_argument("word", nargs="?", default="")
+    asked = parser.parse_args()
+    names = cases(asked.word)
+    failed = by_program(asked.program, names) if asked.program else by_try(names)
+    print(f"{len(names) - len(failed)} passed, {len(failed)} failed")
+    sys.exit(1 if failed or not names else 0)
+
+
+if __name__ == "__main__":
+    main()
