@@ -3,7 +3,12 @@
 
 pub mod faults;
 pub mod keys;
+pub mod objects;
+pub mod reading;
+pub mod schemas;
+pub mod values;
 
 pub use definitions::kinds::Kind;
 pub use faults::Fault;
 pub use keys::Key;
+pub use objects::Object;
