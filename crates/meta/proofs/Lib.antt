@@ -1,0 +1,4 @@
+pub mod KeyOrder
+pub mod MapViews
+pub mod Tidied
+pub mod Tidying

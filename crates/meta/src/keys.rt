@@ -1,0 +1,28 @@
+//! Keys of objects.
+ghost use Rattle.std.specs.Prelude.{◌≡◌, IfOk};
+ghost use Rattle.meta.specs.Keys.{name_of};
+
+use definitions::kinds::Kind;
+use std::alloc::AllocError;
+
+/// What one object at a time is called: its kind, its namespace and its name. Keys go by kind, then namespace, then
+/// name, the texts in byte order.
+#[derive(Debug, PartialEq, Eq, PartialOrd, Ord, Drop)]
+pub struct Key {
+    pub kind: Kind,
+    pub namespace: String,
+    pub name: String,
+}
+
+impl Key {
+    /// A copy of the key. The error is want of memory.
+    pub fn try_copy(&self) -> Result<Key, AllocError>
+        ensures { IfOk result (λ k. name_of k ≡ name_of self.now) }
+    {
+        Ok(Key {
+            kind: self.kind,
+            namespace: self.namespace.clone()?,
+            name: self.name.clone()?,
+        })
+    }
+}

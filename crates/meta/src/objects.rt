@@ -1,0 +1,130 @@
+//! Objects.
+ghost use Rattle.std.specs.Prelude.{◌≡◌, Ok, IfOk, IfErr, option_map, string_bytes, false};
+ghost use Rattle.serde_json.specs.View.{view};
+ghost use Rattle.serde_json.specs.Written.{has_float, compact_text};
+ghost use Rattle.definitions.specs.Metadata.{name, namespace, uid, version, is_being_deleted, metadata, metadata_text};
+ghost use Rattle.definitions.specs.Reading.{reading};
+ghost use Rattle.meta.specs.Faults.{RefusesReading};
+
+use crate::faults::Fault;
+use crate::reading::read;
+use definitions::kinds::Kind;
+use serde_json::Value;
+use std::alloc::{AllocError, Global};
+use std::marker::Model;
+
+/// An object of a kind: a JSON object in which each number is a whole number.
+#[derive(Drop)]
+pub struct Object {
+    kind: Kind,
+    value: Value,
+}
+
+impl Model for Object {
+    ghost use Rattle.std.specs.Prelude.{◌≡◌, true, false, is_some};
+    ghost use Rattle.definitions.specs.Objects as objects;
+    ghost use Rattle.serde_json.specs.Find.{as_object};
+    ghost use Rattle.serde_json.specs.View as json;
+    ghost use Rattle.serde_json.specs.Written.{has_float};
+
+    ghost Value = { objects.Object };
+
+    ghost coded = { objects.coded_object };
+
+    ghost view = { λ o. record { kind = o.kind; value = json.view o.value } };
+
+    ghost invariant = { λ o. (has_float (json.view o.value) ≡ false)
+        × (is_some (as_object (json.view o.value)) ≡ true) };
+}
+
+impl Object {
+    /// Reads a value as an object of a kind. The errors are the part of the request at fault, and want of memory.
+    pub fn from_value(alloc: Global, kind: Kind, value: Value) -> Result<Object, Fault>
+        ensures read { IfOk result (λ o. reading kind (view value) ≡ Ok o.value) }
+        ensures kind { IfOk result (λ o. o.kind ≡ kind) }
+        ensures refused { IfErr result (RefusesReading kind (view value)) }
+    {
+        let value = read(alloc, kind, value)?;
+        Ok(Object { kind, value })
+    }
+
+    /// A copy of the object. The error is want of memory.
+    pub fn try_copy(&self) -> Result<Object, AllocError>
+        ensures { IfOk result (λ o. o ≡ self.now) }
+    {
+        let value = self.value.clone()?;
+        Ok(Object {
+            kind: self.kind,
+            value,
+        })
+    }
+
+    /// The object's text, with no space. The error is want of memory.
+    pub fn text(&self, alloc: Global) -> Result<String, AllocError>
+        ensures { IfOk result (λ s. string_bytes s ≡ compact_text self.now.value) }
+    {
+        self.value.to_string(alloc)
+    }
+
+    /// All that the object says.
+    pub fn into_value(self) -> Value
+        ensures value { view result ≡ self.value }
+        ensures no_float { has_float (view result) ≡ false }
+    {
+        self.value
+    }
+
+    pub fn kind(&self) -> Kind
+        ensures { result ≡ self.now.kind }
+    {
+        self.kind
+    }
+
+    /// The object's name, unique in its namespace.
+    pub fn name(&self) -> Option<&str>
+        ensures { option_map (λ s. s.now) result ≡ name self.now.value }
+    {
+        metadata_text(&self.value, "name")
+    }
+
+    pub fn namespace(&self) -> Option<&str>
+        ensures { option_map (λ s. s.now) result ≡ namespace self.now.value }
+    {
+        metadata_text(&self.value, "namespace")
+    }
+
+    /// What tells the object from others that had its name before.
+    pub fn uid(&self) -> Option<&str>
+        ensures { option_map (λ s. s.now) result ≡ uid self.now.value }
+    {
+        metadata_text(&self.value, "uid")
+    }
+
+    /// The revision of the object's last write, in decimal.
+    pub fn resource_version(&self) -> Option<&str>
+        ensures { option_map (λ s. s.now) result ≡ version self.now.value }
+    {
+        metadata_text(&self.value, "resourceVersion")
+    }
+
+    /// Whether the object is marked for deletion.
+    pub fn is_being_deleted(&self) -> bool
+        ensures { result ≡ is_being_deleted self.now.value }
+    {
+        metadata_text(&self.value, "deletionTimestamp").is_some()
+    }
+}
+
+/// A text of an object's metadata.
+fn metadata_text<'a>(value: &'a Value, name: &str) -> Option<&'a str>
+    ensures { option_map (λ s. s.now) result ≡ metadata_text name.now (view value.now) }
+{
+    metadata_member(value, name)?.as_str()
+}
+
+/// A member of an object's metadata.
+fn metadata_member<'a>(value: &'a Value, name: &str) -> Option<&'a Value>
+    ensures { option_map (λ v. view v.now) result ≡ metadata name.now (view value.now) }
+{
+    value.get("metadata")?.get(name)
+}

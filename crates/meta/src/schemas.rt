@@ -1,0 +1,236 @@
+//! What is said of the members of an object, by tables.
+ghost use Rattle.std.specs.Prelude.{◌≡◌};
+ghost use Rattle.definitions.specs.Schemas.{kept, unless_empty, described, member_at, root, metadata, owner_reference, pod_spec, pod_status, condition, replica_set_spec, replica_set_status, deployment_spec, deployment_status, selector, expression, template, template_metadata, strategy};
+
+use definitions::kinds::Kind;
+use definitions::schemas::{Member, Schema, Shape};
+
+/// A whole number of 32 bits.
+const COUNT: Shape = Shape::Whole(i32::MIN as i64, i32::MAX as i64);
+
+/// A whole number from 0, below 2^53.
+const GENERATION: Shape = Shape::Whole(0, (1 << 53) - 1);
+
+fn kept(shape: Shape) -> Member
+    ensures { result ≡ kept shape }
+{
+    Member {
+        shape,
+        drops_empty: false,
+    }
+}
+
+fn unless_empty(shape: Shape) -> Member
+    ensures { result ≡ unless_empty shape }
+{
+    Member {
+        shape,
+        drops_empty: true,
+    }
+}
+
+fn metadata_member(name: &str) -> Member
+    ensures { result ≡ described metadata name.now }
+{
+    match name {
+        "name"
+        | "generateName"
+        | "namespace"
+        | "uid"
+        | "resourceVersion"
+        | "creationTimestamp"
+        | "deletionTimestamp" => unless_empty(Shape::Text),
+        "labels" | "annotations" => unless_empty(Shape::Object(Schema::Texts)),
+        "finalizers" => unless_empty(Shape::TextList),
+        "ownerReferences" => unless_empty(Shape::List(Schema::OwnerReference)),
+        _ => kept(Shape::Anything),
+    }
+}
+
+fn owner_reference_member(name: &str) -> Member
+    ensures { result ≡ described owner_reference name.now }
+{
+    match name {
+        "controller" | "blockOwnerDeletion" => kept(Shape::Truth),
+        _ => kept(Shape::Anything),
+    }
+}
+
+fn pod_spec_member(name: &str) -> Member
+    ensures { result ≡ described pod_spec name.now }
+{
+    match name {
+        "nodeName" => kept(Shape::Text),
+        _ => kept(Shape::Anything),
+    }
+}
+
+fn pod_status_member(name: &str) -> Member
+    ensures { result ≡ described pod_status name.now }
+{
+    match name {
+        "phase" => kept(Shape::Text),
+        "conditions" => kept(Shape::List(Schema::Condition)),
+        _ => kept(Shape::Anything),
+    }
+}
+
+fn condition_member(name: &str) -> Member
+    ensures { result ≡ described condition name.now }
+{
+    match name {
+        "type" | "status" => kept(Shape::Text),
+        _ => kept(Shape::Anything),
+    }
+}
+
+fn replica_set_spec_member(name: &str) -> Member
+    ensures { result ≡ described replica_set_spec name.now }
+{
+    match name {
+        "replicas" => kept(COUNT),
+        "selector" => kept(Shape::Object(Schema::Selector)),
+        "template" => kept(Shape::Object(Schema::Template)),
+        _ => kept(Shape::Anything),
+    }
+}
+
+fn replica_set_status_member(name: &str) -> Member
+    ensures { result ≡ described replica_set_status name.now }
+{
+    match name {
+        "replicas" | "readyReplicas" | "availableReplicas" => kept(COUNT),
+        "observedGeneration" => kept(GENERATION),
+        _ => kept(Shape::Anything),
+    }
+}
+
+fn deployment_spec_member(name: &str) -> Member
+    ensures { result ≡ described deployment_spec name.now }
+{
+    match name {
+        "replicas" | "revisionHistoryLimit" => kept(COUNT),
+        "paused" => kept(Shape::Truth),
+        "selector" => kept(Shape::Object(Schema::Selector)),
+        "template" => kept(Shape::Object(Schema::Template)),
+        "strategy" => kept(Shape::Object(Schema::Strategy)),
+        _ => kept(Shape::Anything),
+    }
+}
+
+fn deployment_status_member(name: &str) -> Member
+    ensures { result ≡ described deployment_status name.now }
+{
+    match name {
+        "replicas"
+        | "readyReplicas"
+        | "availableReplicas"
+        | "updatedReplicas"
+        | "unavailableReplicas"
+        | "collisionCount" => kept(COUNT),
+        "observedGeneration" => kept(GENERATION),
+        _ => kept(Shape::Anything),
+    }
+}
+
+fn selector_member(name: &str) -> Member
+    ensures { result ≡ described selector name.now }
+{
+    match name {
+        "matchLabels" => kept(Shape::Object(Schema::Texts)),
+        "matchExpressions" => kept(Shape::List(Schema::Expression)),
+        _ => kept(Shape::Anything),
+    }
+}
+
+fn expression_member(name: &str) -> Member
+    ensures { result ≡ described expression name.now }
+{
+    match name {
+        "key" | "operator" => kept(Shape::Text),
+        "values" => kept(Shape::TextList),
+        _ => kept(Shape::Anything),
+    }
+}
+
+fn template_member(name: &str) -> Member
+    ensures { result ≡ described template name.now }
+{
+    match name {
+        "metadata" => kept(Shape::Object(Schema::TemplateMetadata)),
+        "spec" => kept(Shape::Object(Schema::Unknown)),
+        _ => kept(Shape::Anything),
+    }
+}
+
+fn template_metadata_member(name: &str) -> Member
+    ensures { result ≡ described template_metadata name.now }
+{
+    match name {
+        "labels" | "annotations" => unless_empty(Shape::Object(Schema::Texts)),
+        "finalizers" => unless_empty(Shape::TextList),
+        _ => kept(Shape::Anything),
+    }
+}
+
+fn strategy_member(name: &str) -> Member
+    ensures { result ≡ described strategy name.now }
+{
+    match name {
+        "type" => kept(Shape::Text),
+        "rollingUpdate" => kept(Shape::Object(Schema::Unknown)),
+        _ => kept(Shape::Anything),
+    }
+}
+
+fn root_member(kind: Kind, name: &str) -> Member
+    ensures { result ≡ described (root kind) name.now }
+{
+    match name {
+        "apiVersion" => kept(Shape::VersionOf(kind)),
+        "kind" => kept(Shape::NameOf(kind)),
+        "metadata" => kept(Shape::Object(Schema::Metadata)),
+        "data" => match kind {
+            Kind::ConfigMap => kept(Shape::Object(Schema::Texts)),
+            _ => kept(Shape::Anything),
+        },
+        "spec" => match kind {
+            Kind::ConfigMap => kept(Shape::Anything),
+            Kind::Pod => kept(Shape::Object(Schema::PodSpec)),
+            Kind::ReplicaSet => kept(Shape::Object(Schema::ReplicaSetSpec)),
+            Kind::Deployment => kept(Shape::Object(Schema::DeploymentSpec)),
+        },
+        "status" => match kind {
+            Kind::ConfigMap => kept(Shape::Anything),
+            Kind::Pod => kept(Shape::Object(Schema::PodStatus)),
+            Kind::ReplicaSet => kept(Shape::Object(Schema::ReplicaSetStatus)),
+            Kind::Deployment => kept(Shape::Object(Schema::DeploymentStatus)),
+        },
+        _ => kept(Shape::Anything),
+    }
+}
+
+/// What is said of the member `name` of an object with this schema.
+pub fn member_at(schema: Schema, name: &str) -> Member
+    ensures { result ≡ member_at schema name.now }
+{
+    match schema {
+        Schema::Root(kind) => root_member(kind, name),
+        Schema::Texts => kept(Shape::Text),
+        Schema::Unknown => kept(Shape::Anything),
+        Schema::Metadata => metadata_member(name),
+        Schema::OwnerReference => owner_reference_member(name),
+        Schema::PodSpec => pod_spec_member(name),
+        Schema::PodStatus => pod_status_member(name),
+        Schema::Condition => condition_member(name),
+        Schema::ReplicaSetSpec => replica_set_spec_member(name),
+        Schema::ReplicaSetStatus => replica_set_status_member(name),
+        Schema::DeploymentSpec => deployment_spec_member(name),
+        Schema::DeploymentStatus => deployment_status_member(name),
+        Schema::Selector => selector_member(name),
+        Schema::Expression => expression_member(name),
+        Schema::Template => template_member(name),
+        Schema::TemplateMetadata => template_metadata_member(name),
+        Schema::Strategy => strategy_member(name),
+    }
+}
