@@ -1,6 +1,7 @@
 pub mod Codes
 pub mod Examples
 pub mod History
+pub mod HistoryCodes
 pub mod Kinds
 pub mod Laws
 pub mod Lines

@@ -7,8 +7,10 @@ pub mod objects;
 pub mod reading;
 pub mod schemas;
 pub mod values;
+pub mod writes;
 
 pub use definitions::kinds::Kind;
 pub use faults::Fault;
 pub use keys::Key;
 pub use objects::Object;
+pub use writes::Write;

@@ -1,0 +1,2 @@
+pub mod SeenMaps
+pub mod Histories

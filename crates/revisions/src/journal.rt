@@ -1,0 +1,86 @@
+//! A journal.
+use crate::past::{put_in, state_at};
+use meta::objects::Object;
+use meta::writes::Write;
+use selector::View;
+use std::alloc::{AllocError, Global};
+use std::marker::Model;
+
+/// All writes, the oldest first. The first has revision 2, and each write the next one.
+#[derive(Drop)]
+pub struct Journal {
+    writes: Vec<Write>,
+}
+
+impl Model for Journal {
+    ghost use Rattle.definitions.specs.History.{History};
+    ghost use Rattle.definitions.specs.HistoryCodes.{coded_history};
+
+    ghost Value = { History };
+
+    ghost coded = { coded_history };
+
+    ghost use Rattle.revisions.specs.Journals.{history_of};
+
+    ghost view = { λ j. history_of j.writes.items };
+}
+
+impl Journal {
+    ghost use Rattle.std.specs.Prelude.{◌≡◌, ◌++◌, ◌∷◌, [], ◌+◌, IfOk, OnOk, OnErr, length, map, option_map};
+    ghost use Rattle.meta.specs.Writes.{write_of};
+    ghost use Rattle.selector.specs.Views.{view_of};
+    ghost use Rattle.definitions.specs.History as history;
+    ghost use Rattle.definitions.specs.History.{writes, list, put_at};
+
+    /// A journal of no writes.
+    pub fn new(alloc: Global) -> Journal
+        ensures { result ≡ [] }
+    {
+        Journal {
+            writes: Vec::new(alloc),
+        }
+    }
+
+    /// How many writes there are.
+    pub fn len(&self) -> usize
+        ensures { result ≡ length (writes self.now) }
+    {
+        self.writes.as_slice().len()
+    }
+
+    /// Adds a write. The error is want of memory, and changes nothing.
+    pub fn push(&mut self, write: Write) -> Result<(), AllocError>
+        ensures ok { OnOk result (self.new ≡ self.old ++ history.write (write_of write) ∷ []) }
+        ensures err { OnErr result (self.new ≡ self.old) }
+    {
+        self.writes.push(write)?;
+        Ok(())
+    }
+
+    /// The object that the write at a place put, the first place being 0. It takes no memory.
+    pub fn put_at(&self, place: usize) -> Option<&Object>
+        ensures { option_map (λ o. o.now.value) result ≡ put_at self.now place }
+    {
+        put_in(self.writes.as_slice(), place)
+    }
+
+    /// The objects of a view as they were at a revision, in the order of their keys. The error is want of memory.
+    pub fn list_at<'a>(
+        &'a self,
+        alloc: Global,
+        view: &View,
+        revision: u64,
+    ) -> Result<Vec<&'a Object>, AllocError>
+        ensures { IfOk result (λ found. map (λ o. o.now.value) found.items
+            ≡ map (λ m. m.1) (list self.entry.now (view_of view.entry.now) revision)) }
+    {
+        let state = state_at(alloc, self.writes.as_slice(), revision)?;
+        let mut found = Vec::new(alloc);
+        for (key, object) in state.iter() {
+            if view.contains(*key, *object) {
+                found.push(*object)?;
+            }
+        }
+        Ok(found)
+    }
+}

@@ -1,0 +1,64 @@
+//! What was there after some writes.
+ghost use Rattle.std.specs.Prelude.{◌≡◌, IfOk, OnOk, ◌-◌, take, option_map};
+ghost use Rattle.meta.specs.Writes.{write_of};
+ghost use Rattle.definitions.specs.History.{members, after, put_at};
+ghost use Rattle.revisions.specs.Journals.{history_of};
+ghost use Rattle.revisions.specs.Seen.{seen};
+
+use meta::keys::Key;
+use meta::objects::Object;
+use meta::writes::Write;
+use std::alloc::{AllocError, Global};
+use std::collections::BTreeMap;
+
+/// The objects there after the writes up to a revision.
+pub fn state_at<'a>(
+    alloc: Global,
+    writes: &'a [Write],
+    revision: u64,
+) -> Result<BTreeMap<&'a Key, &'a Object>, AllocError>
+    ensures { IfOk result (λ m. seen m.entries ≡ members (history_of writes.entry.now) revision) }
+{
+    let mut state = BTreeMap::new(alloc);
+    for write in up_to(writes, revision) {
+        apply(&mut state, write)?;
+    }
+    Ok(state)
+}
+
+/// Takes one write into the state.
+fn apply<'a>(state: &mut BTreeMap<&'a Key, &'a Object>, write: &'a Write) -> Result<(), AllocError>
+    ensures { OnOk result (seen state.new.entries ≡ after (seen state.old.entries) (write_of write.now)) }
+{
+    match &write.put {
+        Some(object) => {
+            state.insert(&write.key, object)?;
+        }
+        None => {
+            state.remove(&&write.key);
+        }
+    }
+    Ok(())
+}
+
+/// The writes up to a revision: the n-th has revision n + 1.
+fn up_to(writes: &[Write], revision: u64) -> &[Write]
+    ensures { result.now ≡ take (revision - 1) writes.now }
+{
+    let count = revision.saturating_sub(1) as usize;
+    if count < writes.len() {
+        &writes[..count]
+    } else {
+        writes
+    }
+}
+
+/// The object that the write at a place put.
+pub fn put_in(writes: &[Write], place: usize) -> Option<&Object>
+    ensures { option_map (λ o. o.now.value) result ≡ put_at (history_of writes.now) place }
+{
+    match writes.get(place) {
+        Some(write) => write.put.as_ref(),
+        None => None,
+    }
+}

@@ -1,0 +1,7 @@
+-- A view, by the bytes of its namespace.
+use Rattle.std.specs.Prelude.{option_map, string_bytes}
+use Rattle.definitions.specs.History as history
+use Rattle.selector.specs.declared.views.View.{View}
+
+abbrev pub view_of : View → history.View
+view_of v = record { kind = v.kind; namespace = option_map string_bytes v.namespace }
