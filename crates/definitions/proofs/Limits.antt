@@ -1,18 +1,18 @@
 -- Bodies, objects and revisions stay within their limits.
-use Rattle.std.proofs.Common.{◌≡◌, ℕ, suc, ◌+◌, ◌-◌, ◌≤◌, ◌||◌, List, [], ◌∷◌, ◌++◌, length, Bool, true, false, cond, Some, None, Ok, Err, nat_le, nat_lt, Ordering, Less, Equal, Greater, arith, subst, refl, sym, ap, ◌∙◌}
+use Rattle.std.proofs.Common.{◌≡◌, ℕ, suc, ◌+◌, ◌-◌, ◌≤◌, ◌||◌, ◌&&◌, not, is_some, Option, IfSome, List, [], ◌∷◌, ◌++◌, length, Bool, true, false, cond, Some, None, Ok, Err, nat_le, nat_lt, Ordering, Less, Equal, Greater, arith, subst, refl, sym, ap, ◌∙◌}
 use Rattle.std.specs.Cmp.{IsTotalOrder}
 use Rattle.std.specs.Ordering.{match_ordering}
-use Rattle.std.specs.Map.{lookup}
+use Rattle.std.specs.Map.{lookup, remove_entry}
 use Rattle.std.specs.BTreeMap.{insert_entry, is_at}
 use Rattle.serde_json.specs.Data.{Data}
-use Rattle.definitions.specs.Laws.{BodiesFit, RunsStayWithinLimits}
+use Rattle.definitions.specs.Laws.{BodiesFit, RunsStayWithinLimits, WritesHaveRoom}
 use Rattle.definitions.specs.Lines.{start}
 use Rattle.definitions.specs.Names.{Name, name_cmp}
-use Rattle.definitions.specs.History.{History, Write, write, writes, up_to, Members, after, after_all, members, found, present}
+use Rattle.definitions.specs.History.{History, Write, write, writes, up_to, Members, after, after_all, put_or_remove, members, found, present}
 use Rattle.definitions.specs.Reading.{reading}
 use Rattle.definitions.specs.Refusals.{too_large}
 use Rattle.definitions.specs.Targets.{asks_with, data_of}
-use Rattle.definitions.specs.Verbs.{Request, get_object, list_objects, create_object, update_object, update_status, patch_object, delete_object, accept, shown, new_name, created, updated, with_write, write_of}
+use Rattle.definitions.specs.Verbs.{Request, get_object, list_objects, create_object, update_object, update_status, patch_object, delete_object, accept, shown, new_name, created, updated, with_write, write_of, overflows, most_objects, is_past_greatest}
 use Rattle.definitions.proofs.Cases.{there, of_create, of_update}
 use Rattle.definitions.proofs.Past.{writes-append, whole}
 use Rattle.definitions.proofs.PutLaws.{IsAscending, IsAbove-below, none_above, name_cmp_total, IsAscending-after_all}
@@ -68,41 +68,87 @@ now-write : (h : History) (w : Write) → now (h ++ write w ∷ []) ≡ after (n
 now-write h w =
     now-is (h ++ write w ∷ []) ∙ ap (after_all []) (writes-append h (write w ∷ [])) ∙ after_all-append [] (writes h) w ∙ ap (λ ms. after ms w) (sym (now-is h))
 
-Within : History → Type 0
+-- what is there after one more write
+pub members-write : (h : History) (w : Write) → members (h ++ write w ∷ []) (present (h ++ write w ∷ [])) ≡ after (members h (present h)) w
+unfolding now
+members-write h w = now-write h w
+
+abbrev pub Within : History → Type 0
 Within h = (length (members h (present h)) ≤ 65536) × (present h ≤ 9007199254740991)
 
-within-put : (h : History) (k : Name) (d : Data) → length (insert_entry name_cmp (members h (present h)) k d) ≤ 65536 → present h + 1 ≤ 9007199254740991
-    → Within (h ++ write (record { key = k; put = Some d }) ∷ [])
-unfolding Within now
-within-put h k d few low =
-    let w : Write = record { key = k; put = Some d } in
-    (subst (λ ms. length ms ≤ 65536) (sym (now-write h w)) few, subst (λ r. r ≤ 9007199254740991) (sym (present-write h w)) low)
+no_more_at : (k : Name) (e : Name × Data) (es : Members) (b : Bool) → length (remove_entry (is_at (name_cmp k)) es) ≤ length es → length (cond b es (e ∷ remove_entry (is_at (name_cmp k)) es)) ≤ suc (length es)
+no_more_at k e es true h = omega arith
+no_more_at k e es false h = omega (arith, h)
 
-room_few : (n r : ℕ) → (nat_le 65536 n || nat_lt 9007199254740991 (r + 1)) ≡ false → (n + 1 ≤ 65536) × (r + 1 ≤ 9007199254740991)
-room_few n r h = (grind arith, grind arith)
+no_more : (k : Name) (es : Members) → length (remove_entry (is_at (name_cmp k)) es) ≤ length es
+no_more k [] = omega arith
+no_more k (e ∷ es) = no_more_at k e es (is_at (name_cmp k) e.0) (no_more k es)
 
-each : (q : Request) (h : History) (moment : List ℕ) → Within h → Within (with_write h (write_of (accept q h moment)))
-unfolding Within
-each (get_object k) h moment w = there (λ o. Within (with_write h (write_of o))) (λ f. w) k shown (found k (members h (present h))) (λ d is. w)
-each (list_objects v) h moment w = w
-each (create_object kind ns d) h moment w =
-    of_create (λ o. Within (with_write h (write_of o))) (λ f. w) kind ns (reading kind d) (members h (present h)) (present h) moment
-    (λ o fits free room.
-    let left = room_few (length (members h (present h))) (present h) room in
-    let key : Name = new_name kind ns o in
-    let new : Data = created (present h + 1) ns moment o in
-    let more : length (insert_entry name_cmp (members h (present h)) key new) ≤ length (members h (present h)) + 1 = one_more name_cmp_total key new (members h (present h)) in
-    within-put h key new (omega (arith, left.0, more)) left.1)
-each (update_object k d) h moment w =
-    of_update (λ o. Within (with_write h (write_of o))) (λ f. w) k (reading k.kind d) (members h (present h)) (present h)
-    (λ o held is at equal fits room.
-    let new : Data = updated (present h + 1) held o in
-    within-put h k new (subst (λ n. n ≤ 65536) (sym (as_many name_cmp_total k new (members h (present h)) held (IsAscending-after_all [] (up_to (present h) h) tt) at)) w.0)
-    (at_most 9007199254740991 (present h + 1) room))
-each (update_status k d) h moment w = w
-each (patch_object k d) h moment w = w
-each (delete_object k d) h moment w = w
+room_left : (n : ℕ) → (nat_le 65536 n && true) ≡ false → n + 1 ≤ 65536
+room_left n h = room_at (nat_le 65536 n) refl h
+  where
+    room_at : (b : Bool) → nat_le 65536 n ≡ b → (b && true) ≡ false → n + 1 ≤ 65536
+    room_at true is h = cc
+    room_at false is h = grind arith
+
+few_at : (k : Name) (d : Data) (ms : Members) (o : Option Data) → found k ms ≡ o → IsAscending name_cmp ms → length ms ≤ 65536
+    → (nat_le 65536 (length ms) && true && not (is_some o)) ≡ false → length (insert_entry name_cmp ms k d) ≤ 65536
+few_at k d ms None is a few room =
+    let left : length ms + 1 ≤ 65536 = room_left (length ms) (sym (and_true (nat_le 65536 (length ms) && true)) ∙ room) in
+    let more : length (insert_entry name_cmp ms k d) ≤ length ms + 1 = one_more name_cmp_total k d ms in
+    omega (arith, left, more)
+  where
+    and_true : (b : Bool) → (b && true) ≡ b
+    and_true true = refl
+    and_true false = refl
+few_at k d ms (Some held) is a few room = subst (λ n. n ≤ 65536) (sym (as_many name_cmp_total k d ms held a is)) few
+
+few_after : (k : Name) (o : Option Data) (ms : Members) → IsAscending name_cmp ms → length ms ≤ 65536
+    → (nat_le 65536 (length ms) && is_some o && not (is_some (found k ms))) ≡ false → length (put_or_remove ms k o) ≤ 65536
+few_after k None ms a few room = let less = no_more k ms in omega (arith, less, few)
+few_after k (Some d) ms a few room = few_at k d ms (found k ms) refl a few room
+
+either_false : (a b : Bool) → (a || b) ≡ false → (a ≡ false) × (b ≡ false)
+either_false true b h = cc
+either_false false b h = (refl, h)
+
+pub at_most_next : (n : ℕ) → nat_lt 9007199254740991 n ≡ false → n ≤ 9007199254740991
+at_most_next n h = at_most 9007199254740991 n h
+
+-- a write that does not overflow leaves what is within the limits within them
+pub within-write : (h : History) (w : Write) → overflows (members h (present h)) (present h) w ≡ false → Within h → Within (h ++ write w ∷ [])
+within-write h w room within =
+    let parts = either_false (nat_le 65536 (length (members h (present h))) && is_some w.put && not (is_some (found w.key (members h (present h))))) (is_past_greatest (present h + 1)) room in
+    (
+      subst (λ ms. length ms ≤ 65536) (sym (members-write h w)) (few_after w.key w.put (members h (present h)) (IsAscending-after_all [] (up_to (present h) h) tt) within.0 parts.0),
+      subst (λ r. r ≤ 9007199254740991) (sym (present-write h w)) (at_most_next (present h + 1) parts.1),
+    )
+
+held_room : (a b : Bool) (o : Option Data) (d : Data) → o ≡ Some d → b ≡ false → ((a && not (is_some o)) || b) ≡ false
+held_room a b None d is low = cc
+held_room true b (Some e) d is low = low
+held_room false b (Some e) d is low = low
+
+pub room : WritesHaveRoom
+room (get_object k) h moment = there (λ o. IfSome (write_of o) (λ w. overflows (members h (present h)) (present h) w ≡ false)) (λ f. tt) k shown (found k (members h (present h))) (λ d is. tt)
+room (list_objects v) h moment = tt
+room (create_object kind ns d) h moment =
+    of_create (λ o. IfSome (write_of o) (λ w. overflows (members h (present h)) (present h) w ≡ false)) (λ f. tt) kind ns (reading kind d) (members h (present h)) (present h) moment
+    (λ o fits free left. room_of (nat_le most_objects (length (members h (present h)))) (is_past_greatest (present h + 1)) (is_some (found (new_name kind ns o) (members h (present h)))) left)
+  where
+    room_of : (a b c : Bool) → (a || b) ≡ false → ((a && true && not c) || b) ≡ false
+    room_of true b c h = cc
+    room_of false b c h = h
+room (update_object k d) h moment =
+    of_update (λ o. IfSome (write_of o) (λ w. overflows (members h (present h)) (present h) w ≡ false)) (λ f. tt) k (reading k.kind d) (members h (present h)) (present h)
+    (λ o held is at equal fits low. held_room (nat_le most_objects (length (members h (present h))) && true) (is_past_greatest (present h + 1)) (found k (members h (present h))) held at low)
+room (update_status k d) h moment = tt
+room (patch_object k d) h moment = tt
+room (delete_object k d) h moment = tt
+
+each_outcome : (h : History) (o : Option Write) → IfSome o (λ w. overflows (members h (present h)) (present h) w ≡ false) → Within h → Within (with_write h o)
+each_outcome h None r w = w
+each_outcome h (Some v) r w = within-write h v r w
 
 pub limits : RunsStayWithinLimits
-unfolding Within
-limits lines = by_lines Within each start lines (omega arith, omega arith)
+limits lines = by_lines Within (λ q h moment w. each_outcome h (write_of (accept q h moment)) (room q h moment) w) start lines (omega arith, omega arith)

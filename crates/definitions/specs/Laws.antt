@@ -1,5 +1,5 @@
 -- What follows from the definitions.
-use Rattle.std.specs.Prelude.{codes, ◌≡◌, ◌≤◌, ◌<◌, ◌+◌, ◌^◌, ◌++◌, ◌∷◌, [], ℕ, List, length, Some, None, Ok, IfSome, decimal, if◌then◌else◌}
+use Rattle.std.specs.Prelude.{false, codes, ◌≡◌, ◌≤◌, ◌<◌, ◌+◌, ◌^◌, ◌++◌, ◌∷◌, [], ℕ, List, length, Some, None, Ok, IfSome, decimal, if◌then◌else◌}
 use Rattle.std.specs.Map.{keys_of}
 use Rattle.std.specs.List.Sorted.{IsStrictlySortedBy}
 use Rattle.serde_json.specs.Data.{Data}
@@ -13,7 +13,7 @@ use Rattle.definitions.specs.Metadata.{metadata_text, uid, version}
 use Rattle.definitions.specs.Reading.{reading}
 use Rattle.definitions.specs.Targets.{Route, route, path_text, with_body}
 use Rattle.definitions.specs.Uids.{uid_text, uid_revision, cluster_word}
-use Rattle.definitions.specs.Verbs.{Request, create_object, update_object, Outcome, refused, accept, write_of, outcome_body, history_after}
+use Rattle.definitions.specs.Verbs.{Request, create_object, update_object, Outcome, refused, accept, write_of, outcome_body, history_after, overflows}
 
 -- ---- history
 
@@ -79,6 +79,10 @@ UpdatesKeepIdentity =
 -- no object is longer than an object may be
 abbrev pub WritesFit : Type 0
 WritesFit = (q : Request) (h : History) (moment : List ℕ) → OfStored (accept q h moment) (λ k d. length (compact_text d) ≤ 1572864)
+
+-- a write that is accepted has room
+abbrev pub WritesHaveRoom : Type 0
+WritesHaveRoom = (q : Request) (h : History) (moment : List ℕ) → IfSome (write_of (accept q h moment)) (λ w. overflows (members h (present h)) (present h) w ≡ false)
 
 -- a refusal writes nothing
 abbrev pub RefusalsWriteNothing : Type 0

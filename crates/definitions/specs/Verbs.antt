@@ -94,6 +94,10 @@ is_too_large d = nat_lt longest_object (length (compact_text d))
 abbrev pub is_past_greatest : ℕ → Bool
 is_past_greatest r = nat_lt greatest_revision r
 
+-- whether a write makes more objects than there may be, or has a revision past the greatest
+abbrev pub overflows : history.Members → ℕ → Write → Bool
+overflows ms r w = (nat_le most_objects (length ms) && is_some w.put && not (is_some (found w.key ms))) || is_past_greatest (r + 1)
+
 -- whether a text is named, and is another than this one
 abbrev pub is_other : Option (List ℕ) → List ℕ → Bool
 is_other None t = false

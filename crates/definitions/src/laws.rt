@@ -1,5 +1,5 @@
 //! Laws of the definitions.
-ghost use Rattle.definitions.specs.Laws.{MembersAreState, MembersAreInOrder, ListsShowTheState, ListsAreInOrder, PastStands, WritesSetState, WritesCarryTheirRevision, CreatesAreNew, NamedVersionsAreReplaced, UpdatesKeepIdentity, WritesFit, RefusalsWriteNothing, AnswersAreRead, UidsHoldRevisions, PathsAreRoutes, BodiesFit, RunsOnlyAdd, RunsCanHappen, RunsCarryRevisions, RunsStayWithinLimits, ReadsAgain};
+ghost use Rattle.definitions.specs.Laws.{MembersAreState, MembersAreInOrder, ListsShowTheState, ListsAreInOrder, PastStands, WritesSetState, WritesCarryTheirRevision, CreatesAreNew, NamedVersionsAreReplaced, UpdatesKeepIdentity, WritesFit, WritesHaveRoom, RefusalsWriteNothing, AnswersAreRead, UidsHoldRevisions, PathsAreRoutes, BodiesFit, RunsOnlyAdd, RunsCanHappen, RunsCarryRevisions, RunsStayWithinLimits, ReadsAgain};
 
 /// What is there under a key at a revision is what the last write to that key put there.
 pub fn members_are_state()
@@ -54,6 +54,11 @@ pub fn updates_keep_identity()
 /// No object that is stored is longer than an object may be.
 pub fn writes_fit()
     ensures { WritesFit }
+{}
+
+/// Whatever is accepted fits: who applies an accepted write is not refused for want of room.
+pub fn writes_have_room()
+    ensures { WritesHaveRoom }
 {}
 
 /// After a refusal everything is as it was.

@@ -26,7 +26,7 @@ impl Model for Journal {
 }
 
 impl Journal {
-    ghost use Rattle.std.specs.Prelude.{◌≡◌, ◌++◌, ◌∷◌, [], ◌+◌, IfOk, OnOk, OnErr, length, map, option_map};
+    ghost use Rattle.std.specs.Prelude.{◌≡◌, ◌++◌, ◌∷◌, [], ◌+◌, IfOk, OnOk, OnErr, length, map, option_map, take, ◌-◌};
     ghost use Rattle.meta.specs.Writes.{write_of};
     ghost use Rattle.selector.specs.Views.{view_of};
     ghost use Rattle.definitions.specs.History as history;
@@ -55,6 +55,13 @@ impl Journal {
     {
         self.writes.push(write)?;
         Ok(())
+    }
+
+    /// Takes the newest write back. It takes no memory.
+    pub fn undo(&mut self)
+        ensures { self.new ≡ take (length self.old - 1) self.old }
+    {
+        drop(self.writes.pop());
     }
 
     /// The object that the write at a place put, the first place being 0. It takes no memory.

@@ -1,0 +1,7 @@
+//! The objects that are there, and the present revision.
+#![tactic(auto)]
+
+mod places;
+pub mod stores;
+
+pub use stores::Store;
