@@ -1,2 +1,5 @@
+pub mod Drafts
 pub mod Faults
+pub mod Items
 pub mod Keys
+pub mod Writes

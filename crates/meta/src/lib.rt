@@ -1,14 +1,20 @@
 //! Objects and their keys: JSON values that were read as objects of a kind, their metadata, and the faults of requests.
 #![tactic(auto)]
 
+pub mod drafts;
 pub mod faults;
+pub(crate) mod items;
 pub mod keys;
+pub mod members;
 pub mod objects;
 pub mod reading;
 pub mod schemas;
 pub mod values;
+pub mod writes;
 
 pub use definitions::kinds::Kind;
+pub use drafts::Draft;
 pub use faults::Fault;
 pub use keys::Key;
 pub use objects::Object;
+pub use writes::Write;

@@ -1,12 +1,15 @@
 //! Objects.
-ghost use Rattle.std.specs.Prelude.{◌≡◌, Ok, IfOk, IfErr, option_map, string_bytes, false};
+ghost use Rattle.std.specs.Prelude.{◌≡◌, ◌++◌, Ok, OnOk, IfOk, IfErr, IfSome, is_some, option_map, string_bytes, true, false};
+ghost use Rattle.serde_json.specs.Find.{as_object};
 ghost use Rattle.serde_json.specs.View.{view};
 ghost use Rattle.serde_json.specs.Written.{has_float, compact_text};
 ghost use Rattle.definitions.specs.Metadata.{name, namespace, uid, version, is_being_deleted, metadata, metadata_text};
 ghost use Rattle.definitions.specs.Reading.{reading};
+ghost use Rattle.definitions.specs.Verbs.{as_item};
 ghost use Rattle.meta.specs.Faults.{RefusesReading};
 
 use crate::faults::Fault;
+use crate::items::push_item_text;
 use crate::reading::read;
 use definitions::kinds::Kind;
 use serde_json::Value;
@@ -66,12 +69,43 @@ impl Object {
         self.value.to_string(alloc)
     }
 
+    /// Adds the object's text as an item of a list, which has no `apiVersion` and no `kind`. The error is want of
+    /// memory.
+    pub fn push_item_text(&self, alloc: Global, text: &mut String) -> Result<(), AllocError>
+        ensures { OnOk result (string_bytes text.new
+            ≡ string_bytes text.old ++ compact_text (as_item self.now.value)) }
+    {
+        match &self.value {
+            Value::Object(members) => push_item_text(alloc, members, text),
+            _ => text.push_str("{}"),
+        }
+    }
+
     /// All that the object says.
     pub fn into_value(self) -> Value
         ensures value { view result ≡ self.value }
         ensures no_float { has_float (view result) ≡ false }
+        ensures object { is_some (as_object (view result)) ≡ true }
     {
         self.value
+    }
+
+    /// An object of a kind, that says what a value says.
+    pub(crate) fn from_whole(kind: Kind, value: Value) -> Object
+        requires no_float { has_float (view value) ≡ false }
+        requires object { is_some (as_object (view value)) ≡ true }
+        ensures value { result.value ≡ view value }
+        ensures kind { result.kind ≡ kind }
+    {
+        Object { kind, value }
+    }
+
+    /// A member of the metadata.
+    pub(crate) fn metadata_member(&self, name: &str) -> Option<&Value>
+        ensures member { option_map (λ v. view v.now) result ≡ metadata name.now self.now.value }
+        ensures no_float { IfSome result (λ v. has_float (view v.now) ≡ false) }
+    {
+        metadata_member(&self.value, name)
     }
 
     pub fn kind(&self) -> Kind

@@ -1,0 +1,11 @@
+//! Writes.
+
+use crate::keys::Key;
+use crate::objects::Object;
+
+/// A write: an object put under a key, or, with none, the key's object removed.
+#[derive(Drop)]
+pub struct Write {
+    pub key: Key,
+    pub put: Option<Object>,
+}
