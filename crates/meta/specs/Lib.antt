@@ -2,4 +2,5 @@ pub mod Drafts
 pub mod Faults
 pub mod Items
 pub mod Keys
+pub mod Owners
 pub mod Writes

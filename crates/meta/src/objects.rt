@@ -1,18 +1,20 @@
 //! Objects.
-ghost use Rattle.std.specs.Prelude.{◌≡◌, ◌++◌, Ok, OnOk, IfOk, IfErr, IfSome, is_some, option_map, string_bytes, true, false};
-ghost use Rattle.serde_json.specs.Find.{as_object};
-ghost use Rattle.serde_json.specs.View.{view};
+ghost use Rattle.std.specs.Prelude.{◌≡◌, ◌++◌, Ok, OnOk, IfOk, IfErr, IfSome, is_some, map, codes, option_map, option_and_then, string_bytes, true, false};
+ghost use Rattle.serde_json.specs.Find.{as_array, as_object};
+ghost use Rattle.serde_json.specs.View.{view, items_view, members_view};
 ghost use Rattle.serde_json.specs.Written.{has_float, compact_text};
-ghost use Rattle.definitions.specs.Metadata.{name, namespace, uid, version, is_being_deleted, metadata, metadata_text};
+ghost use Rattle.definitions.specs.Metadata.{name, namespace, uid, version, is_being_deleted, label, owners, metadata, metadata_text};
 ghost use Rattle.definitions.specs.Reading.{reading};
 ghost use Rattle.definitions.specs.Verbs.{as_item};
 ghost use Rattle.meta.specs.Faults.{RefusesReading};
+ghost use Rattle.meta.specs.Owners.{owner_of};
 
 use crate::faults::Fault;
 use crate::items::push_item_text;
+use crate::owners::{OwnerReference, owners_in};
 use crate::reading::read;
 use definitions::kinds::Kind;
-use serde_json::Value;
+use serde_json::{Map, Value};
 use std::alloc::{AllocError, Global};
 use std::marker::Model;
 
@@ -147,6 +149,31 @@ impl Object {
     {
         metadata_text(&self.value, "deletionTimestamp").is_some()
     }
+
+    /// The value of a label.
+    pub fn label(&self, name: &str) -> Option<&str>
+        ensures { option_map (λ s. s.now) result ≡ label name.now self.now.value }
+    {
+        metadata_member(&self.value, "labels")?.get(name)?.as_str()
+    }
+
+    /// The labels, each a name and a text.
+    pub fn labels(&self) -> Option<&Map<String, Value>>
+        ensures { option_map (λ m. members_view m.now.entries) result
+            ≡ option_and_then as_object (metadata (codes "labels") self.now.value) }
+    {
+        metadata_member(&self.value, "labels")?.as_object()
+    }
+
+    /// The owners that the object's references name, in their order. The error is want of memory.
+    pub fn owners(&self, alloc: Global) -> Result<Vec<OwnerReference<'_>>, AllocError>
+        ensures { IfOk result (λ v. map owner_of v.items ≡ owners self.now.value) }
+    {
+        match owner_references(&self.value) {
+            Some(references) => owners_in(alloc, references),
+            None => Ok(Vec::new(alloc)),
+        }
+    }
 }
 
 /// A text of an object's metadata.
@@ -161,4 +188,12 @@ fn metadata_member<'a>(value: &'a Value, name: &str) -> Option<&'a Value>
     ensures { option_map (λ v. view v.now) result ≡ metadata name.now (view value.now) }
 {
     value.get("metadata")?.get(name)
+}
+
+/// The references to an object's owners.
+fn owner_references(value: &Value) -> Option<&Vec<Value>>
+    ensures { option_map (λ v. items_view v.now.items) result
+        ≡ option_and_then as_array (metadata (codes "ownerReferences") (view value.now)) }
+{
+    metadata_member(value, "ownerReferences")?.as_array()
 }
