@@ -1,5 +1,5 @@
 -- Members of a map: what is put, removed and looked up.
-use Rattle.std.proofs.Common.{◌≡◌, ℕ, List, [], ◌∷◌, Bool, true, false, cond, Option, Some, None, option_and_then, Ordering, Less, Equal, Greater, string_bytes, nat_cmp, is_eq, is_some, rules, refl, ap, ◌∙◌}
+use Rattle.std.proofs.Common.{◌≡◌, ℕ, List, [], ◌∷◌, Bool, true, false, cond, Option, Some, None, option_and_then, Ordering, Less, Equal, Greater, string_bytes, nat_cmp, is_eq, is_some, unwrap_or, rules, refl, ap, ◌∙◌}
 use Rattle.std.proofs.lemmas.Cmp.{nat_list_cmp_total, tied_itself}
 use Rattle.std.specs.Cmp.Lexicographic.{slice_cmp}
 use Rattle.std.specs.Map.{remove_entry}
@@ -10,7 +10,7 @@ use Rattle.serde_json.specs.Find.{get, get_member, as_object}
 use Rattle.serde_json.specs.View.{view, members_view}
 use Rattle.serde_json.specs.declared.value.Value.{Null, the_lemmas}
 use Rattle.serde_json.proofs.Views.{Entry}
-use Rattle.definitions.specs.Values.{members_of, inner_of, without}
+use Rattle.definitions.specs.Values.{members_of, inner_of, without, found_or_null}
 
 members_view-cond : (b : Bool) (xs ys : List Entry) → members_view (cond b xs ys) ≡ cond b (members_view xs) (members_view ys)
 members_view-cond true xs ys = refl
@@ -59,3 +59,11 @@ get-inner_of k (Some d) = get-members_of k d
 
 pub view-Null : view Null ≡ null
 view-Null = search (rules, the_lemmas)
+
+members_of-found : (o : Option Data) → members_of (unwrap_or o null) ≡ inner_of o
+members_of-found None = refl
+members_of-found (Some d) = refl
+
+-- the members of the object at a name, or none
+pub members_of-found_or_null : (k : List ℕ) (ms : Members) → members_of (found_or_null k ms) ≡ inner_of (get_member k ms)
+members_of-found_or_null k ms = members_of-found (get_member k ms)

@@ -6,7 +6,7 @@ ghost use Rattle.definitions.specs.Metadata.{metadata_of, with_metadata};
 ghost use Rattle.definitions.specs.Values.{without};
 ghost use Rattle.definitions.specs.Verbs.{as_held};
 
-use crate::members::{into_members, remove, take_members};
+use crate::members::{into_members, remove, take};
 use crate::objects::Object;
 use crate::values::text_value;
 use definitions::kinds::Kind;
@@ -53,7 +53,7 @@ impl Object {
     {
         let kind = self.kind();
         let mut rest = into_members(alloc, self.into_value());
-        let metadata = take_members(alloc, &mut rest, "metadata")?;
+        let metadata = into_members(alloc, take(alloc, &mut rest, "metadata")?);
         Ok(Draft {
             kind,
             rest,

@@ -6,6 +6,7 @@ pub mod faults;
 pub(crate) mod items;
 pub mod keys;
 pub mod members;
+pub mod merging;
 pub mod objects;
 pub mod owners;
 pub mod reading;
@@ -17,6 +18,10 @@ pub use definitions::kinds::Kind;
 pub use drafts::Draft;
 pub use faults::Fault;
 pub use keys::Key;
+pub use merging::merge;
 pub use objects::Object;
 pub use owners::OwnerReference;
 pub use writes::Write;
+
+#[cfg(test)]
+mod tests;

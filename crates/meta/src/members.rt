@@ -1,9 +1,8 @@
 //! What is done to the members of JSON objects, each by its meaning as data.
-ghost use Rattle.std.specs.Prelude.{◌≡◌, IfOk, OnOk, OnErr};
+ghost use Rattle.std.specs.Prelude.{◌≡◌, IfOk, OnOk};
 ghost use Rattle.serde_json.specs.Data.{null, put};
-ghost use Rattle.serde_json.specs.Find.{get_member};
 ghost use Rattle.serde_json.specs.View.{view, members_view};
-ghost use Rattle.definitions.specs.Values.{members_of, inner_of, without};
+ghost use Rattle.definitions.specs.Values.{members_of, without, found_or_null};
 
 use serde_json::{Map, Value};
 use std::alloc::{AllocError, Global};
@@ -25,20 +24,20 @@ pub fn remove(members: &mut Map<String, Value>, name: &str)
     drop(members.remove(name));
 }
 
-/// Takes the members of the object at `name`, and leaves null there.
-pub fn take_members(
+/// Takes the value at `name`, which is null where there is none, and leaves null there.
+pub fn take(
     alloc: Global,
     members: &mut Map<String, Value>,
     name: &str,
-) -> Result<Map<String, Value>, AllocError>
-    ensures taken { IfOk result (λ m. members_view m.entries
-        ≡ inner_of (get_member name.now (members_view members.old.entries))) }
+) -> Result<Value, AllocError>
+    ensures taken { IfOk result (λ v. view v
+        ≡ found_or_null name.now (members_view members.old.entries)) }
     ensures left { OnOk result (members_view members.new.entries
         ≡ put name.now null (members_view members.old.entries)) }
 {
     let name = String::from_str(alloc, name)?;
     match members.insert(name, Value::Null)? {
-        Some(held) => Ok(into_members(alloc, held)),
-        None => Ok(Map::new(alloc)),
+        Some(held) => Ok(held),
+        None => Ok(Value::Null),
     }
 }
