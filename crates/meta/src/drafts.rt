@@ -8,7 +8,6 @@ ghost use Rattle.definitions.specs.Verbs.{as_held};
 
 use crate::members::{into_members, remove, take};
 use crate::objects::Object;
-use crate::values::text_value;
 use definitions::kinds::Kind;
 use serde_json::{Map, Value};
 use std::alloc::{AllocError, Global};
@@ -79,7 +78,7 @@ impl Draft {
         ensures kind { self.new.kind ≡ self.old.kind }
         ensures err { OnErr result (self.new ≡ self.old) }
     {
-        let value = text_value(alloc, text)?;
+        let value = Value::try_from_str(alloc, text)?;
         serde_json::put(&mut self.metadata, alloc, name, value)
     }
 

@@ -89,7 +89,8 @@ impl Object {
         ensures no_float { has_float (view result) ≡ false }
         ensures object { is_some (as_object (view result)) ≡ true }
     {
-        self.value
+        let Object { value, .. } = self;
+        value
     }
 
     /// An object of a kind, that says what a value says.
