@@ -1,10 +1,7 @@
 -- What is read of a value with no float has none, and what is read of an object is one.
-use Rattle.std.proofs.Common.{◌≡◌, List, ℕ, Bool, true, false, cond, codes, not, ◌||◌, ◌&&◌, refl}
-use Rattle.std.specs.Ordering.{match_ordering, nat_cmp}
-use Rattle.std.specs.Cmp.Lexicographic.{slice_cmp}
-use Rattle.std.specs.declared.cmp.Ordering.{Ordering}
-use Rattle.std.proofs.Common.{Less, Equal, Greater, is_some}
-use Rattle.serde_json.specs.Data.{Data, null, boolean, number, string, array, object, Items, no_items, item, Members, no_members, member, put}
+use Rattle.std.proofs.Common.{◌≡◌, List, ℕ, Bool, true, false, cond, codes, not, ◌&&◌, refl}
+use Rattle.std.proofs.Common.{is_some}
+use Rattle.serde_json.specs.Data.{Data, null, boolean, number, string, array, object, Items, no_items, item, Members, no_members, member}
 use Rattle.serde_json.specs.Find.{get, as_object}
 use Rattle.serde_json.specs.Written.{has_float, items_have_float, members_have_float}
 use Rattle.definitions.specs.declared.kinds.Kind.{Kind}
@@ -14,18 +11,8 @@ use Rattle.definitions.specs.declared.schemas.Schema.{Schema}
 use Rattle.definitions.specs.Kinds.{api_version, kind_text}
 use Rattle.definitions.specs.Schemas.{member_at}
 use Rattle.definitions.specs.Values.{with_member, with_default}
+use Rattle.meta.proofs.NoFloats.{first_false, second_false, both_false, has_float-with_member}
 use Rattle.definitions.specs.Reading.{tidied, tidied_items, tidied_members, is_absent, item_of, schema_of, filled, with_spec, is_body, empty}
-
-first_false : (a b : Bool) → (a || b) ≡ false → a ≡ false
-first_false true b h = h
-first_false false b h = refl
-
-second_false : (a b : Bool) → (a || b) ≡ false → b ≡ false
-second_false true b h = cc
-second_false false b h = h
-
-both_false : (a b : Bool) → a ≡ false → b ≡ false → (a || b) ≡ false
-both_false a b h k = rw (h, k) refl
 
 unless_absent : (b : Bool) (k : List ℕ) (d : Data) (ms : Members) → has_float d ≡ false → members_have_float ms ≡ false → members_have_float (cond b ms (member k d ms)) ≡ false
 unless_absent true k d ms p q = q
@@ -48,25 +35,6 @@ mutual
   members_tidied p no_members h = refl
   members_tidied p (member k d ms) h =
       unless_absent (is_absent (member_at p k) (tidied (member_at p k).shape d)) k _ _ (has_float-tidied (member_at p k).shape d (first_false (has_float d) _ h)) (members_tidied p ms (second_false (has_float d) _ h))
-
-at_ordering : (o : Ordering) (a b c : Members) → members_have_float a ≡ false → members_have_float b ≡ false → members_have_float c ≡ false → members_have_float (match_ordering o a b c) ≡ false
-at_ordering Less a b c p q r = p
-at_ordering Equal a b c p q r = q
-at_ordering Greater a b c p q r = r
-
-pub members_have_float-put : (k : List ℕ) (d : Data) (ms : Members) → has_float d ≡ false → members_have_float ms ≡ false → members_have_float (put k d ms) ≡ false
-members_have_float-put k d no_members p q = both_false _ _ p refl
-members_have_float-put k d (member l e ms) p q =
-    at_ordering (slice_cmp nat_cmp k l) _ _ _ (both_false _ _ p q) (both_false _ _ p (second_false (has_float e) _ q))
-    (both_false _ _ (first_false (has_float e) _ q) (members_have_float-put k d ms p (second_false (has_float e) _ q)))
-
-has_float-with_member : (k : List ℕ) (d v : Data) → has_float d ≡ false → has_float v ≡ false → has_float (with_member k d v) ≡ false
-has_float-with_member k d null p q = refl
-has_float-with_member k d (boolean c) p q = refl
-has_float-with_member k d (number n) p q = q
-has_float-with_member k d (string s) p q = refl
-has_float-with_member k d (array ds) p q = q
-has_float-with_member k d (object ms) p q = members_have_float-put k d ms p q
 
 default_at : (b : Bool) (k : List ℕ) (e v : Data) → has_float e ≡ false → has_float v ≡ false → has_float (cond b v (with_member k e v)) ≡ false
 default_at true k e v g h = h

@@ -1,3 +1,6 @@
+pub mod Drafts
 pub mod Faults
+pub mod Items
 pub mod Keys
+pub mod Owners
 pub mod Writes

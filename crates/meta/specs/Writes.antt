@@ -1,8 +1,9 @@
--- A write, by what its key and its object say.
+-- What a write says.
 use Rattle.std.specs.Prelude.{option_map}
 use Rattle.definitions.specs.History as history
-use Rattle.meta.specs.Keys.{name_of}
 use Rattle.meta.specs.declared.writes.Write.{Write}
+use Rattle.meta.specs.Keys.{name_of}
 
+-- the write, by its key's name and its object's data
 abbrev pub write_of : Write → history.Write
 write_of w = record { key = name_of w.key; put = option_map (λ o. o.value) w.put }

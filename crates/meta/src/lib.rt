@@ -1,16 +1,27 @@
 //! Objects and their keys: JSON values that were read as objects of a kind, their metadata, and the faults of requests.
 #![tactic(auto)]
 
+pub mod drafts;
 pub mod faults;
+pub(crate) mod items;
 pub mod keys;
+pub mod members;
+pub mod merging;
 pub mod objects;
+pub mod owners;
 pub mod reading;
 pub mod schemas;
 pub mod values;
 pub mod writes;
 
 pub use definitions::kinds::Kind;
+pub use drafts::Draft;
 pub use faults::Fault;
 pub use keys::Key;
+pub use merging::merge;
 pub use objects::Object;
+pub use owners::OwnerReference;
 pub use writes::Write;
+
+#[cfg(test)]
+mod tests;

@@ -1,15 +1,20 @@
 //! Objects.
-ghost use Rattle.std.specs.Prelude.{◌≡◌, Ok, IfOk, IfErr, option_map, string_bytes, false};
-ghost use Rattle.serde_json.specs.View.{view};
+ghost use Rattle.std.specs.Prelude.{◌≡◌, ◌++◌, Ok, OnOk, IfOk, IfErr, IfSome, is_some, map, codes, option_map, option_and_then, string_bytes, true, false};
+ghost use Rattle.serde_json.specs.Find.{as_array, as_object};
+ghost use Rattle.serde_json.specs.View.{view, items_view, members_view};
 ghost use Rattle.serde_json.specs.Written.{has_float, compact_text};
-ghost use Rattle.definitions.specs.Metadata.{name, namespace, uid, version, is_being_deleted, metadata, metadata_text};
+ghost use Rattle.definitions.specs.Metadata.{name, namespace, uid, version, is_being_deleted, label, owners, metadata, metadata_text};
 ghost use Rattle.definitions.specs.Reading.{reading};
+ghost use Rattle.definitions.specs.Verbs.{as_item};
 ghost use Rattle.meta.specs.Faults.{RefusesReading};
+ghost use Rattle.meta.specs.Owners.{owner_of};
 
 use crate::faults::Fault;
+use crate::items::push_item_text;
+use crate::owners::{OwnerReference, owners_in};
 use crate::reading::read;
 use definitions::kinds::Kind;
-use serde_json::Value;
+use serde_json::{Map, Value};
 use std::alloc::{AllocError, Global};
 use std::marker::Model;
 
@@ -66,12 +71,44 @@ impl Object {
         self.value.to_string(alloc)
     }
 
+    /// Adds the object's text as an item of a list, which has no `apiVersion` and no `kind`. The error is want of
+    /// memory.
+    pub fn push_item_text(&self, alloc: Global, text: &mut String) -> Result<(), AllocError>
+        ensures { OnOk result (string_bytes text.new
+            ≡ string_bytes text.old ++ compact_text (as_item self.now.value)) }
+    {
+        match &self.value {
+            Value::Object(members) => push_item_text(alloc, members, text),
+            _ => text.push_str("{}"),
+        }
+    }
+
     /// All that the object says.
     pub fn into_value(self) -> Value
         ensures value { view result ≡ self.value }
         ensures no_float { has_float (view result) ≡ false }
+        ensures object { is_some (as_object (view result)) ≡ true }
     {
-        self.value
+        let Object { value, .. } = self;
+        value
+    }
+
+    /// An object of a kind, that says what a value says.
+    pub(crate) fn from_whole(kind: Kind, value: Value) -> Object
+        requires no_float { has_float (view value) ≡ false }
+        requires object { is_some (as_object (view value)) ≡ true }
+        ensures value { result.value ≡ view value }
+        ensures kind { result.kind ≡ kind }
+    {
+        Object { kind, value }
+    }
+
+    /// A member of the metadata.
+    pub(crate) fn metadata_member(&self, name: &str) -> Option<&Value>
+        ensures member { option_map (λ v. view v.now) result ≡ metadata name.now self.now.value }
+        ensures no_float { IfSome result (λ v. has_float (view v.now) ≡ false) }
+    {
+        metadata_member(&self.value, name)
     }
 
     pub fn kind(&self) -> Kind
@@ -113,6 +150,31 @@ impl Object {
     {
         metadata_text(&self.value, "deletionTimestamp").is_some()
     }
+
+    /// The value of a label.
+    pub fn label(&self, name: &str) -> Option<&str>
+        ensures { option_map (λ s. s.now) result ≡ label name.now self.now.value }
+    {
+        metadata_member(&self.value, "labels")?.get(name)?.as_str()
+    }
+
+    /// The labels, each a name and a text.
+    pub fn labels(&self) -> Option<&Map<String, Value>>
+        ensures { option_map (λ m. members_view m.now.entries) result
+            ≡ option_and_then as_object (metadata (codes "labels") self.now.value) }
+    {
+        metadata_member(&self.value, "labels")?.as_object()
+    }
+
+    /// The owners that the object's references name, in their order. The error is want of memory.
+    pub fn owners(&self, alloc: Global) -> Result<Vec<OwnerReference<'_>>, AllocError>
+        ensures { IfOk result (λ v. map owner_of v.items ≡ owners self.now.value) }
+    {
+        match owner_references(&self.value) {
+            Some(references) => owners_in(alloc, references),
+            None => Ok(Vec::new(alloc)),
+        }
+    }
 }
 
 /// A text of an object's metadata.
@@ -127,4 +189,12 @@ fn metadata_member<'a>(value: &'a Value, name: &str) -> Option<&'a Value>
     ensures { option_map (λ v. view v.now) result ≡ metadata name.now (view value.now) }
 {
     value.get("metadata")?.get(name)
+}
+
+/// The references to an object's owners.
+fn owner_references(value: &Value) -> Option<&Vec<Value>>
+    ensures { option_map (λ v. items_view v.now.items) result
+        ≡ option_and_then as_array (metadata (codes "ownerReferences") (view value.now)) }
+{
+    metadata_member(value, "ownerReferences")?.as_array()
 }

@@ -123,13 +123,6 @@ pub fn with_text(alloc: Global, value: Value, name: &str, text: &str) -> Result<
     if value.get(name).is_some() {
         return Ok(value);
     }
-    let inner = text_value(alloc, text)?;
+    let inner = Value::try_from_str(alloc, text)?;
     with_member(alloc, value, name, inner)
-}
-
-/// A text as a value.
-pub fn text_value(alloc: Global, text: &str) -> Result<Value, AllocError>
-    ensures { IfOk result (λ v. view v ≡ string text.now) }
-{
-    Ok(Value::String(String::from_str(alloc, text)?))
 }

@@ -1,8 +1,9 @@
 //! Writes.
+
 use crate::keys::Key;
 use crate::objects::Object;
 
-/// A write: an object put under a key, or the key's object removed.
+/// A write: an object put under a key, or, with none, the key's object removed.
 #[derive(Drop)]
 pub struct Write {
     pub key: Key,

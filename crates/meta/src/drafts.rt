@@ -1,0 +1,119 @@
+//! Objects whose metadata is being written.
+ghost use Rattle.std.specs.Prelude.{◌≡◌, IfOk, OnOk, OnErr};
+ghost use Rattle.serde_json.specs.Data.{Members, string, put};
+ghost use Rattle.serde_json.specs.Find.{get_member};
+ghost use Rattle.definitions.specs.Metadata.{metadata_of, with_metadata};
+ghost use Rattle.definitions.specs.Values.{without};
+ghost use Rattle.definitions.specs.Verbs.{as_held};
+
+use crate::members::{into_members, remove, take};
+use crate::objects::Object;
+use definitions::kinds::Kind;
+use serde_json::{Map, Value};
+use std::alloc::{AllocError, Global};
+use std::marker::Model;
+
+/// An object whose metadata is being written: its metadata stands apart, so that setting a member of it copies nothing
+/// else of the object.
+#[derive(Drop)]
+pub struct Draft {
+    kind: Kind,
+    rest: Map<String, Value>,
+    metadata: Map<String, Value>,
+}
+
+impl Model for Draft {
+    ghost use Rattle.std.specs.Prelude.{◌≡◌, false};
+    ghost use Rattle.serde_json.specs.Data.{object};
+    ghost use Rattle.serde_json.specs.View.{members_view};
+    ghost use Rattle.serde_json.specs.Written.{members_have_float};
+    ghost use Rattle.meta.specs.Drafts as drafts;
+
+    ghost Value = { drafts.Draft };
+
+    ghost coded = { drafts.coded_draft };
+
+    ghost view = { λ d. record {
+      kind = d.kind;
+      rest = object (members_view d.rest.entries);
+      metadata = members_view d.metadata.entries;
+    } };
+
+    ghost invariant = { λ d. (members_have_float (members_view d.rest.entries) ≡ false)
+        × (members_have_float (members_view d.metadata.entries) ≡ false) };
+}
+
+impl Object {
+    /// The object with its metadata open to be written. The error is want of memory.
+    pub fn open(self, alloc: Global) -> Result<Draft, AllocError>
+        ensures metadata { IfOk result (λ d. d.metadata ≡ metadata_of self.value) }
+        ensures rest { IfOk result (λ d. (m : Members) → with_metadata m d.rest ≡ with_metadata m self.value) }
+        ensures kind { IfOk result (λ d. d.kind ≡ self.kind) }
+    {
+        let kind = self.kind();
+        let mut rest = into_members(alloc, self.into_value());
+        let metadata = into_members(alloc, take(alloc, &mut rest, "metadata")?);
+        Ok(Draft {
+            kind,
+            rest,
+            metadata,
+        })
+    }
+}
+
+impl Draft {
+    /// Takes out the member `name` of the metadata, if it is there.
+    pub fn remove(&mut self, name: &str)
+        ensures metadata { self.new.metadata ≡ without name.now self.old.metadata }
+        ensures rest { self.new.rest ≡ self.old.rest }
+        ensures kind { self.new.kind ≡ self.old.kind }
+    {
+        remove(&mut self.metadata, name);
+    }
+
+    /// Sets the member `name` of the metadata to a text. The error, want of memory, leaves the draft as it was.
+    pub fn set_text(&mut self, alloc: Global, name: &str, text: &str) -> Result<(), AllocError>
+        ensures metadata { OnOk result (self.new.metadata ≡ put name.now (string text.now) self.old.metadata) }
+        ensures rest { self.new.rest ≡ self.old.rest }
+        ensures kind { self.new.kind ≡ self.old.kind }
+        ensures err { OnErr result (self.new ≡ self.old) }
+    {
+        let value = Value::try_from_str(alloc, text)?;
+        serde_json::put(&mut self.metadata, alloc, name, value)
+    }
+
+    /// Sets the member `name` of the metadata to what `held` has there, or takes it out where `held` has none.
+    /// The error, want of memory, leaves the draft as it was.
+    pub fn keep(&mut self, alloc: Global, name: &str, held: &Object) -> Result<(), AllocError>
+        ensures metadata { OnOk result (self.new.metadata
+            ≡ as_held name.now (get_member name.now (metadata_of held.now.value)) self.old.metadata) }
+        ensures rest { self.new.rest ≡ self.old.rest }
+        ensures kind { self.new.kind ≡ self.old.kind }
+        ensures err { OnErr result (self.new ≡ self.old) }
+    {
+        match held.metadata_member(name) {
+            Some(found) => {
+                let value = found.clone()?;
+                serde_json::put(&mut self.metadata, alloc, name, value)
+            }
+            None => {
+                remove(&mut self.metadata, name);
+                Ok(())
+            }
+        }
+    }
+
+    /// The object with the metadata as it was written. The error is want of memory.
+    pub fn close(self, alloc: Global) -> Result<Object, AllocError>
+        ensures value { IfOk result (λ o. o.value ≡ with_metadata self.metadata self.rest) }
+        ensures kind { IfOk result (λ o. o.kind ≡ self.kind) }
+    {
+        let Draft {
+            kind,
+            mut rest,
+            metadata,
+        } = self;
+        serde_json::put(&mut rest, alloc, "metadata", Value::Object(metadata))?;
+        Ok(Object::from_whole(kind, Value::Object(rest)))
+    }
+}
