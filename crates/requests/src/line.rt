@@ -9,7 +9,7 @@ use definitions::methods::Method;
 use stamps::moments::Moment;
 
 /// What a line says.
-#[derive(Clone, Copy, Debug)]
+#[derive(Clone, Copy, Debug, PartialEq, Eq)]
 pub enum Line<'l> {
     /// A request: its method, its target, which is not empty, and its body.
     Ask {

@@ -26,9 +26,9 @@ fn reads_lines(rt: HostRuntime) -> Result<(), Fail> {
     };
     assert_eq!(rt; moment.as_str(), "2026-02-28T23:59:59Z");
     assert!(rt; matches!(read_line(b"GET /"), Line::Ask { .. }));
-    assert!(rt; matches!(read_line(b"POST /"), Line::Unreadable));
-    assert!(rt; matches!(read_line(b"get /"), Line::Unreadable));
-    assert!(rt; matches!(read_line(b"GET  /"), Line::Unreadable));
+    assert_eq!(rt; read_line(b"POST /"), Line::Unreadable);
+    assert_eq!(rt; read_line(b"get /"), Line::Unreadable);
+    assert_eq!(rt; read_line(b"GET  /"), Line::Unreadable);
     assert!(rt; matches!(read_line(b"AT 2026-02-29T00:00:00Z"), Line::Unreadable));
     Ok(())
 }

@@ -6,7 +6,7 @@ use Rattle.matchit.proofs.OnLiterals.{matchit_on_literals}
 use Rattle.matchit.specs.Router.{RouteOf}
 use Rattle.matchit.specs.Seek.{same_text, or_else}
 use Rattle.routes.specs.Parts.{Part, word, any, tokens, rows, found, after_word, after_any}
-use Rattle.routes.specs.Table.{table}
+use Rattle.routes.specs.Table.{table, route_text}
 use Rattle.definitions.specs.Targets.{Form, all_form, namespace_form, object_form, status_form, below, form_of, by_prefix, after_words, below_apps, below_either, is_filled}
 use Rattle.definitions.specs.declared.kinds.Group.{Group}
 use Rattle.definitions.specs.declared.kinds.Group.TheVariants.{Core, Apps}
@@ -27,16 +27,6 @@ layout_parts All = any ∷ []
 layout_parts Namespace = word (codes "namespaces") ∷ any ∷ any ∷ []
 layout_parts Object = word (codes "namespaces") ∷ any ∷ any ∷ any ∷ []
 layout_parts Status = word (codes "namespaces") ∷ any ∷ any ∷ any ∷ word (codes "status") ∷ []
-
-abbrev pub route_text : Group → Layout → List ℕ
-route_text Core All = codes "/api/v1/{resource}"
-route_text Core Namespace = codes "/api/v1/namespaces/{namespace}/{resource}"
-route_text Core Object = codes "/api/v1/namespaces/{namespace}/{resource}/{name}"
-route_text Core Status = codes "/api/v1/namespaces/{namespace}/{resource}/{name}/status"
-route_text Apps All = codes "/apis/apps/v1/{resource}"
-route_text Apps Namespace = codes "/apis/apps/v1/namespaces/{namespace}/{resource}"
-route_text Apps Object = codes "/apis/apps/v1/namespaces/{namespace}/{resource}/{name}"
-route_text Apps Status = codes "/apis/apps/v1/namespaces/{namespace}/{resource}/{name}/status"
 
 abbrev pub names_from : ℕ → Layout → List (ℕ × ℕ)
 names_from n All = (n + 1, n + 9) ∷ []

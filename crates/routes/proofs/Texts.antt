@@ -8,7 +8,7 @@ use Rattle.matchit.specs.Params.{walk, part_of, AllText, named}
 use Rattle.matchit.specs.Router.{RouteOf}
 use Rattle.matchit.specs.Seek.{first}
 use Rattle.routes.specs.Parts.{Part, word, any, tokens, joined}
-use Rattle.routes.specs.Table.{table}
+use Rattle.routes.specs.Table.{table, route_text}
 use Rattle.definitions.specs.Targets.{Form, form_of, segments}
 use Rattle.routes.specs.Seen.{assembled, now}
 use Rattle.definitions.specs.Targets.{all_form, namespace_form, object_form, status_form}
@@ -20,7 +20,7 @@ use Rattle.routes.specs.declared.entries.Entry.{Entry}
 use Rattle.routes.proofs.Plain.{AllPlain, AreBytes, whole, whole-split, plain-split}
 use Rattle.routes.proofs.Seeks.{finds, finds-other, finds-empty, IsRoute}
 use Rattle.routes.proofs.Walks.{taken, walks}
-use Rattle.routes.proofs.Found.{routes, routes-are, table-rows, found-form, form-fits, Fitting, row, row_of, group_of, layout_of, layout_parts, prefix, route_text, route_names, params_of, route-by, and-both}
+use Rattle.routes.proofs.Found.{routes, routes-are, table-rows, found-form, form-fits, Fitting, row, row_of, group_of, layout_of, layout_parts, prefix, route_names, params_of, route-by, and-both}
 
 -- ---- segments of a text are texts
 

@@ -129,7 +129,7 @@ walks (any ∷ ps) (s ∷ ss) (n ∷ ns) pattern text path done pdone token at e
     (λ i. wild_stop (e i) (length done + 1) (q i) (length pdone + 1)) ∙ stops ps ss ns done pdone s f p.0 in
     let part : part_of path (length pdone + 1) (length pdone + 1 + length s) ≡ s =
     ap (λ z. part_of z (length pdone + 1) (length pdone + 1 + length s)) q ∙ part-segment pdone s (joined ss) in
-    let mark = 47 ∷ 256 ∷ [] in
+    let mark : List ℕ = 47 ∷ 256 ∷ [] in
     let e2 : pattern ≡ (done ++ mark) ++ tokens ps = e ∙ sym (append_assoc done mark (tokens ps)) in
     let q2 : path ≡ (pdone ++ 47 ∷ s) ++ joined ss = q ∙ sym (append_assoc pdone (47 ∷ s) (joined ss)) in
     let after : after_token (length done + 1) ≡ length (done ++ mark) = simp length-append (omega arith) in

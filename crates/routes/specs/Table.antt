@@ -26,22 +26,33 @@ is_new_in (Err e) old = false
 abbrev pub is_free : List ℕ → Table → Bool
 is_free text old = is_new_in (parse_route text) old
 
+-- the route of each entry, in the router's notation (Kubernetes API Concepts, Resource URIs)
+abbrev pub route_text : Group → Layout → List ℕ
+route_text Core All = codes "/api/v1/{resource}"
+route_text Core Namespace = codes "/api/v1/namespaces/{namespace}/{resource}"
+route_text Core Object = codes "/api/v1/namespaces/{namespace}/{resource}/{name}"
+route_text Core Status = codes "/api/v1/namespaces/{namespace}/{resource}/{name}/status"
+route_text Apps All = codes "/apis/apps/v1/{resource}"
+route_text Apps Namespace = codes "/apis/apps/v1/namespaces/{namespace}/{resource}"
+route_text Apps Object = codes "/apis/apps/v1/namespaces/{namespace}/{resource}/{name}"
+route_text Apps Status = codes "/apis/apps/v1/namespaces/{namespace}/{resource}/{name}/status"
+
 -- the table with one more route
 abbrev pub added : {E : Type 0} → Result Scan E → Entry → Table → Table
 added (Ok s) value old = placed ((route_from s value).pattern, route_from s value) old
 added (Err e) value old = old
 
-abbrev pub with_route : List ℕ → Group → Layout → Table → Table
-with_route text group layout old = added (parse_route text) (record { group = group; layout = layout }) old
+abbrev pub with_entry : Group → Layout → Table → Table
+with_entry group layout old = added (parse_route (route_text group layout)) (record { group = group; layout = layout }) old
 
--- the four layouts of each group
+-- the table with the four layouts of a group
+abbrev pub with_group : Group → Table → Table
+with_group group old = with_entry group Status (with_entry group Object (with_entry group Namespace (with_entry group All old)))
+
+-- the table before a group is added
+abbrev pub before : Group → Table
+before Core = []
+before Apps = with_group Core []
+
 abbrev pub table : Table
-table =
-    with_route (codes "/apis/apps/v1/namespaces/{namespace}/{resource}/{name}/status") Apps Status
-    (with_route (codes "/apis/apps/v1/namespaces/{namespace}/{resource}/{name}") Apps Object
-    (with_route (codes "/apis/apps/v1/namespaces/{namespace}/{resource}") Apps Namespace
-    (with_route (codes "/apis/apps/v1/{resource}") Apps All
-    (with_route (codes "/api/v1/namespaces/{namespace}/{resource}/{name}/status") Core Status
-    (with_route (codes "/api/v1/namespaces/{namespace}/{resource}/{name}") Core Object
-    (with_route (codes "/api/v1/namespaces/{namespace}/{resource}") Core Namespace
-    (with_route (codes "/api/v1/{resource}") Core All [])))))))
+table = with_group Apps (with_group Core [])

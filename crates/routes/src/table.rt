@@ -1,6 +1,6 @@
 //! The table of routes.
 ghost use Rattle.std.specs.Prelude.{◌≡◌, true, OnOk};
-ghost use Rattle.routes.specs.Table.{table, with_route, is_free};
+ghost use Rattle.routes.specs.Table.{table, route_text, with_entry, with_group, before, is_free};
 
 use crate::entries::{Entry, Layout};
 use crate::targets::{Target, assemble};
@@ -15,21 +15,28 @@ pub struct Routes {
     ghost whole: { router ≡ table },
 }
 
-/// Adds a route that the table can take.
-fn insert(
-    router: &mut Router<Entry>,
-    path: &str,
-    group: Group,
-    layout: Layout,
-) -> Result<(), AllocError>
-    requires { is_free path.now router.old ≡ true }
-    ensures { OnOk result (router.new ≡ with_route path.now group layout router.old) }
+/// Adds the route of an entry, with which no other conflicts.
+fn insert(router: &mut Router<Entry>, group: Group, layout: Layout) -> Result<(), AllocError>
+    requires { is_free (route_text group layout) router.old ≡ true }
+    ensures { OnOk result (router.new ≡ with_entry group layout router.old) }
 {
-    match router.insert(path, Entry { group, layout }) {
+    let entry = Entry { group, layout };
+    match router.insert(entry.path(), entry) {
         Ok(()) => Ok(()),
         Err(InsertError::OutOfMemory) => Err(AllocError),
         Err(_) => unreachable!(),
     }
+}
+
+/// Adds the routes of a group.
+fn insert_group(router: &mut Router<Entry>, group: Group) -> Result<(), AllocError>
+    requires { router.old ≡ before group }
+    ensures { OnOk result (router.new ≡ with_group group router.old) }
+{
+    insert(router, group, Layout::All)?;
+    insert(router, group, Layout::Namespace)?;
+    insert(router, group, Layout::Object)?;
+    insert(router, group, Layout::Status)
 }
 
 impl Routes {
@@ -40,22 +47,8 @@ impl Routes {
     /// The table. It fails only where memory runs out.
     pub fn new(alloc: Global) -> Result<Routes, AllocError> {
         let mut router = Router::new(alloc);
-        let all = "/api/v1/{resource}";
-        insert(&mut router, all, Group::Core, Layout::All)?;
-        let namespace = "/api/v1/namespaces/{namespace}/{resource}";
-        insert(&mut router, namespace, Group::Core, Layout::Namespace)?;
-        let object = "/api/v1/namespaces/{namespace}/{resource}/{name}";
-        insert(&mut router, object, Group::Core, Layout::Object)?;
-        let status = "/api/v1/namespaces/{namespace}/{resource}/{name}/status";
-        insert(&mut router, status, Group::Core, Layout::Status)?;
-        let all = "/apis/apps/v1/{resource}";
-        insert(&mut router, all, Group::Apps, Layout::All)?;
-        let namespace = "/apis/apps/v1/namespaces/{namespace}/{resource}";
-        insert(&mut router, namespace, Group::Apps, Layout::Namespace)?;
-        let object = "/apis/apps/v1/namespaces/{namespace}/{resource}/{name}";
-        insert(&mut router, object, Group::Apps, Layout::Object)?;
-        let status = "/apis/apps/v1/namespaces/{namespace}/{resource}/{name}/status";
-        insert(&mut router, status, Group::Apps, Layout::Status)?;
+        insert_group(&mut router, Group::Core)?;
+        insert_group(&mut router, Group::Apps)?;
         Ok(Routes { router })
     }
 

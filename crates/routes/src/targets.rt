@@ -8,7 +8,7 @@ use crate::names::is_namespace;
 use definitions::kinds::{Group, Kind};
 
 /// What a path names.
-#[derive(Clone, Copy, Debug)]
+#[derive(Clone, Copy, Debug, PartialEq, Eq)]
 pub enum Target<'p> {
     /// The objects of a kind, in one namespace or in all.
     Collection(Kind, Option<&'p str>),
