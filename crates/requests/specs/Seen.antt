@@ -1,0 +1,32 @@
+-- What the code's results say, as routes, data and refusals.
+use Rattle.std.specs.Prelude.{◌≡◌, ℕ, List, Result, Ok, Err, false, length, nat_lt}
+use Rattle.serde_json.specs.View.{view}
+use Rattle.serde_json.specs.declared.value.Value.{Value}
+use Rattle.definitions.specs.declared.refusals.Part.TheVariants as part
+use Rattle.definitions.specs.Refusals.{Refusal, bad_request, no_such_path, method_not_allowed, too_large}
+use Rattle.definitions.specs.Targets.{Route, longest_body}
+use Rattle.routes.specs.Seen.{route_seen}
+use Rattle.routes.specs.declared.targets.Target.{Target}
+use Rattle.requests.specs.Checked.{body_of}
+use Rattle.requests.specs.declared.check.CheckFault.{CheckFault}
+use Rattle.requests.specs.declared.check.CheckFault.TheVariants.{NoSuchPath, BadNamespace, MethodNotAllowed, BadQuery}
+use Rattle.requests.specs.declared.body.BodyFault.{BodyFault}
+use Rattle.requests.specs.declared.body.BodyFault.TheVariants.{TooLarge, NotJson, NoMemory}
+
+-- the refusal that a fault of the checks is
+abbrev pub check_refusal : CheckFault → Refusal
+check_refusal NoSuchPath = no_such_path
+check_refusal BadNamespace = bad_request part.Path
+check_refusal MethodNotAllowed = method_not_allowed
+check_refusal BadQuery = bad_request part.Query
+
+abbrev pub checked_seen : Result Target CheckFault → Result Route Refusal
+checked_seen (Ok t) = Ok (route_seen t)
+checked_seen (Err e) = Err (check_refusal e)
+
+-- the result of reading a body is the body's, but that memory may run out where it is not too long
+abbrev pub ReadsBody : List ℕ → Result Value BodyFault → Type 0
+ReadsBody text (Ok v) = body_of text ≡ Ok (view v)
+ReadsBody text (Err TooLarge) = body_of text ≡ Err too_large
+ReadsBody text (Err NotJson) = body_of text ≡ Err (bad_request part.Body)
+ReadsBody text (Err NoMemory) = nat_lt longest_body (length text) ≡ false

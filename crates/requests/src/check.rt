@@ -1,0 +1,91 @@
+//! The checks of a request before its body is read.
+ghost use Rattle.std.specs.Prelude.{◌≡◌, IfOk, IsOk};
+ghost use Rattle.std.specs.Str.{IsUtf8};
+ghost use Rattle.std.specs.Cow.{cow_str_bytes};
+ghost use Rattle.definitions.specs.Targets.{is_allowed, has_query, path_of, decoded};
+ghost use Rattle.routes.specs.Seen.{route_seen};
+ghost use Rattle.requests.specs.Checked.{checked_at};
+ghost use Rattle.requests.specs.Seen.{checked_seen};
+
+use definitions::methods::Method;
+use routes::table::Routes;
+use routes::targets::Target;
+use std::alloc::{AllocError, Global};
+use std::borrow::CowStr;
+
+/// Why a request is refused before its body is read, by the first check that it does not pass.
+#[derive(Clone, Copy, Debug, PartialEq, Eq)]
+pub enum CheckFault {
+    /// The path names nothing that is served.
+    NoSuchPath,
+    /// The path names what cannot be a namespace.
+    BadNamespace,
+    /// What the path names does not serve the method.
+    MethodNotAllowed,
+    /// The target has a query that is not understood.
+    BadQuery,
+}
+
+/// The path of a target: what stands before the first `?`.
+fn path_of<'t>(target: &'t str) -> &'t str
+    ensures { result.now ≡ path_of target.now }
+{
+    match target.split_once('?') {
+        Some((path, _)) => path,
+        None => target,
+    }
+}
+
+/// Whether a target has a query.
+fn has_query(target: &str) -> bool
+    ensures { result ≡ has_query target.now }
+{
+    target.bytes().any(|byte| byte == b'?')
+}
+
+/// Whether what a path names serves the method so far.
+fn is_allowed(method: Method, target: Target<'_>) -> bool
+    ensures { result ≡ is_allowed method (route_seen target.entry) }
+{
+    match (method, target) {
+        (Method::Get, _) => true,
+        (Method::Post, Target::Collection(_, Some(_))) => true,
+        (Method::Put, Target::Object(_, _, _) | Target::Status(_, _, _)) => true,
+        _ => false,
+    }
+}
+
+/// What a request's target names, if the request passes the checks: of the path, of the path's namespace, of the
+/// method, and of the query, in this order. The target is a path, and a query after a `?`.
+pub fn check_request<'t>(
+    routes: &Routes,
+    method: Method,
+    target: &'t str,
+) -> Result<Target<'t>, CheckFault>
+    ensures { checked_seen result ≡ checked_at method target.now }
+{
+    let Some(named) = routes.read(path_of(target)) else {
+        return Err(CheckFault::NoSuchPath);
+    };
+    if !named.names_namespace() {
+        return Err(CheckFault::BadNamespace);
+    }
+    if !is_allowed(method, named) {
+        return Err(CheckFault::MethodNotAllowed);
+    }
+    if has_query(target) {
+        return Err(CheckFault::BadQuery);
+    }
+    Ok(named)
+}
+
+/// A target as text: where its bytes are no UTF-8, each part that is none becomes U+FFFD. Memory is taken only then.
+pub fn decode<'t>(alloc: Global, target: &'t [u8]) -> Result<CowStr<'t, Global>, AllocError>
+    ensures text { IfOk result (λ text. cow_str_bytes text ≡ decoded target.now) }
+    ensures needs_no_memory { IsUtf8 target.now → IsOk result }
+{
+    match str::from_utf8(target) {
+        Ok(text) => Ok(CowStr::Borrowed(text)),
+        Err(_) => Ok(CowStr::Owned(String::from_utf8_lossy(alloc, target)?)),
+    }
+}

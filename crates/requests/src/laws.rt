@@ -1,0 +1,12 @@
+//! How the parts of a request's reading make the whole.
+ghost use Rattle.requests.specs.Checked.{ChecksComeFirst, BodiesAreReadOnce};
+
+/// A request is refused by the first check of its target that it does not pass, and else asks what its body says.
+pub fn checks_come_first()
+    ensures { ChecksComeFirst }
+{}
+
+/// What asks with a body asks with the body's data, and is else refused as the body is.
+pub fn bodies_are_read_once()
+    ensures { BodiesAreReadOnce }
+{}

@@ -1,0 +1,91 @@
+use crate::body::{BodyFault, LONGEST_BODY, read_body};
+use crate::check::{CheckFault, check_request, decode};
+use crate::line::{Line, read_line};
+use definitions::methods::Method;
+use routes::table::Routes;
+use routes::targets::Target;
+use std::test::Fail;
+
+#[test]
+fn reads_lines(rt: HostRuntime) -> Result<(), Fail> {
+    let Line::Ask {
+        method,
+        target,
+        body,
+    } = read_line(b"PUT /a/b {\"c\": 1}")
+    else {
+        assert!(rt; false);
+        return Ok(());
+    };
+    assert_eq!(rt; method, Method::Put);
+    assert_eq!(rt; target, b"/a/b".as_slice());
+    assert_eq!(rt; body, b"{\"c\": 1}".as_slice());
+    let Line::At(moment) = read_line(b"AT 2026-02-28T23:59:59Z") else {
+        assert!(rt; false);
+        return Ok(());
+    };
+    assert_eq!(rt; moment.as_str(), "2026-02-28T23:59:59Z");
+    assert!(rt; matches!(read_line(b"GET /"), Line::Ask { .. }));
+    assert_eq!(rt; read_line(b"POST /"), Line::Unreadable);
+    assert_eq!(rt; read_line(b"get /"), Line::Unreadable);
+    assert_eq!(rt; read_line(b"GET  /"), Line::Unreadable);
+    assert!(rt; matches!(read_line(b"AT 2026-02-29T00:00:00Z"), Line::Unreadable));
+    Ok(())
+}
+
+#[test]
+fn checks_in_order(rt: HostRuntime) -> Result<(), Fail> {
+    let routes = Routes::new(rt.alloc())?;
+    let object = "/api/v1/namespaces/a/configmaps/b";
+    let checked = check_request(&routes, Method::Get, object)?;
+    assert!(rt; matches!(checked, Target::Object(_, _, _)));
+    assert_eq!(rt;
+        check_request(&routes, Method::Post, "/api/v2/configmaps?").err(),
+        Some(CheckFault::NoSuchPath)
+    );
+    assert_eq!(rt;
+        check_request(&routes, Method::Post, "/api/v1/namespaces/A/configmaps/b?").err(),
+        Some(CheckFault::BadNamespace)
+    );
+    assert_eq!(rt;
+        check_request(&routes, Method::Post, "/api/v1/namespaces/a/configmaps/b?").err(),
+        Some(CheckFault::MethodNotAllowed)
+    );
+    assert_eq!(rt;
+        check_request(&routes, Method::Get, "/api/v1/configmaps?watch=1").err(),
+        Some(CheckFault::BadQuery)
+    );
+    Ok(())
+}
+
+#[test]
+fn decodes(rt: HostRuntime) -> Result<(), Fail> {
+    let text = decode(rt.alloc(), b"/a")?;
+    assert_eq!(rt; text.as_str(), "/a");
+    let replaced = decode(rt.alloc(), b"/\xffa")?;
+    assert_eq!(rt; replaced.as_str(), "/\u{FFFD}a");
+    Ok(())
+}
+
+#[test]
+fn reads_bodies(rt: HostRuntime) -> Result<(), Fail> {
+    let body = read_body(rt.alloc(), b" {\"a\": [1]}\n")?;
+    assert!(rt; body.get("a").is_some());
+    assert_eq!(rt; read_body(rt.alloc(), b"").err(), Some(BodyFault::NotJson));
+    assert_eq!(rt;
+        read_body(rt.alloc(), b"\"\xff\"").err(),
+        Some(BodyFault::NotJson)
+    );
+    let mut long = Vec::new(rt.alloc());
+    long.resize(LONGEST_BODY, b' ')?;
+    assert_eq!(rt;
+        read_body(rt.alloc(), &long).err(),
+        Some(BodyFault::NotJson)
+    );
+    long.push(b' ')?;
+    assert_eq!(rt;
+        read_body(rt.alloc(), &long).err(),
+        Some(BodyFault::TooLarge)
+    );
+    Ok(())
+}

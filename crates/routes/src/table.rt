@@ -1,0 +1,68 @@
+//! The table of routes.
+ghost use Rattle.std.specs.Prelude.{◌≡◌, true, OnOk};
+ghost use Rattle.routes.specs.Table.{table, route_text, with_entry, with_group, before, is_free};
+
+use crate::entries::{Entry, Layout};
+use crate::targets::{Target, assemble};
+use definitions::kinds::Group;
+use matchit::{InsertError, Router};
+use std::alloc::{AllocError, Global};
+
+/// The routes that are served, in a table that is made once.
+#[derive(Drop)]
+pub struct Routes {
+    router: Router<Entry>,
+    ghost whole: { router ≡ table },
+}
+
+/// Adds the route of an entry, with which no other conflicts.
+fn insert(router: &mut Router<Entry>, group: Group, layout: Layout) -> Result<(), AllocError>
+    requires { is_free (route_text group layout) router.old ≡ true }
+    ensures { OnOk result (router.new ≡ with_entry group layout router.old) }
+{
+    let entry = Entry { group, layout };
+    match router.insert(entry.path(), entry) {
+        Ok(()) => Ok(()),
+        Err(InsertError::OutOfMemory) => Err(AllocError),
+        Err(_) => unreachable!(),
+    }
+}
+
+/// Adds the routes of a group.
+fn insert_group(router: &mut Router<Entry>, group: Group) -> Result<(), AllocError>
+    requires { router.old ≡ before group }
+    ensures { OnOk result (router.new ≡ with_group group router.old) }
+{
+    insert(router, group, Layout::All)?;
+    insert(router, group, Layout::Namespace)?;
+    insert(router, group, Layout::Object)?;
+    insert(router, group, Layout::Status)
+}
+
+impl Routes {
+    ghost use Rattle.std.specs.Prelude.{◌≡◌, option_map};
+    ghost use Rattle.definitions.specs.Targets.{route};
+    ghost use Rattle.routes.specs.Seen.{route_seen};
+
+    /// The table. It fails only where memory runs out.
+    pub fn new(alloc: Global) -> Result<Routes, AllocError> {
+        let mut router = Router::new(alloc);
+        insert_group(&mut router, Group::Core)?;
+        insert_group(&mut router, Group::Apps)?;
+        Ok(Routes { router })
+    }
+
+    /// What a path names; nothing, where it has no route or its kind is not served. No part of the path is decoded,
+    /// and the namespace may be any text: see `Target::names_namespace`.
+    pub fn read<'p>(&self, path: &'p str) -> Option<Target<'p>>
+        ensures { option_map route_seen result ≡ route path.now }
+    {
+        let Ok(found) = self.router.at(path) else {
+            return None;
+        };
+        let resource = found.params.get("resource");
+        let namespace = found.params.get("namespace");
+        let name = found.params.get("name");
+        assemble(*found.value, resource, namespace, name)
+    }
+}

@@ -1,0 +1,89 @@
+//! What a path names.
+ghost use Rattle.std.specs.Prelude.{◌≡◌, option_map, option_and_then};
+ghost use Rattle.definitions.specs.Targets.{served_named, collection, route_of, object_form, status_form};
+ghost use Rattle.routes.specs.Seen.{now, route_seen, assembled};
+
+use crate::entries::{Entry, Layout};
+use crate::names::is_namespace;
+use definitions::kinds::{Group, Kind};
+
+/// What a path names.
+#[derive(Clone, Copy, Debug, PartialEq, Eq)]
+pub enum Target<'p> {
+    /// The objects of a kind, in one namespace or in all.
+    Collection(Kind, Option<&'p str>),
+    /// An object, by its kind, namespace and name.
+    Object(Kind, &'p str, &'p str),
+    /// The status of an object, by its kind, namespace and name.
+    Status(Kind, &'p str, &'p str),
+}
+
+impl Target<'_> {
+    ghost use Rattle.std.specs.Prelude.{◌≡◌};
+    ghost use Rattle.definitions.specs.Targets.{names_namespace};
+    ghost use Rattle.routes.specs.Seen.{route_seen};
+
+    /// Whether the namespace, where there is one, is a DNS label of at most 63 bytes.
+    pub fn names_namespace(&self) -> bool
+        ensures { result ≡ names_namespace (route_seen self.now) }
+    {
+        match *self {
+            Target::Collection(_, None) => true,
+            Target::Collection(_, Some(namespace)) => is_namespace(namespace),
+            Target::Object(_, namespace, _) => is_namespace(namespace),
+            Target::Status(_, namespace, _) => is_namespace(namespace),
+        }
+    }
+}
+
+/// The kind of a resource, where it is served so far.
+fn served_named(group: Group, resource: &str) -> Option<Kind>
+    ensures { result ≡ served_named group resource.now }
+{
+    match group.kind_named(resource)? {
+        Kind::ConfigMap => Some(Kind::ConfigMap),
+        Kind::Pod | Kind::ReplicaSet | Kind::Deployment => None,
+    }
+}
+
+fn collection<'p>(group: Group, resource: &str, namespace: Option<&'p str>) -> Option<Target<'p>>
+    ensures { option_map route_seen result ≡ option_map (λ k. collection k (option_map now namespace.entry)) (served_named group resource.now) }
+{
+    let kind = served_named(group, resource)?;
+    Some(Target::Collection(kind, namespace))
+}
+
+fn object<'p>(group: Group, resource: &str, namespace: &'p str, name: &'p str) -> Option<Target<'p>>
+    ensures { option_map route_seen result ≡ route_of (object_form group namespace.now resource.now name.now) }
+{
+    let kind = served_named(group, resource)?;
+    Some(Target::Object(kind, namespace, name))
+}
+
+fn status<'p>(group: Group, resource: &str, namespace: &'p str, name: &'p str) -> Option<Target<'p>>
+    ensures { option_map route_seen result ≡ route_of (status_form group namespace.now resource.now name.now) }
+{
+    let kind = served_named(group, resource)?;
+    if !kind.has_status() {
+        return None;
+    }
+    Some(Target::Status(kind, namespace, name))
+}
+
+/// What a path with these parameters names.
+pub(crate) fn assemble<'p>(
+    entry: Entry,
+    resource: Option<&'p str>,
+    namespace: Option<&'p str>,
+    name: Option<&'p str>,
+) -> Option<Target<'p>>
+    ensures { option_map route_seen result ≡ option_and_then route_of (assembled entry (option_map now resource.entry) (option_map now namespace.entry) (option_map now name.entry)) }
+{
+    let resource = resource?;
+    match entry.layout {
+        Layout::All => collection(entry.group, resource, None),
+        Layout::Namespace => collection(entry.group, resource, Some(namespace?)),
+        Layout::Object => object(entry.group, resource, namespace?, name?),
+        Layout::Status => status(entry.group, resource, namespace?, name?),
+    }
+}
