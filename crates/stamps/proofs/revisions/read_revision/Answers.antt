@@ -1,0 +1,13 @@
+use Rattle.std.proofs.Common.{◌≡◌, ◌<◌, length, true, arith, rules}
+use Rattle.std.proofs.lemmas.Bool.Decides.{nat_tests}
+use Rattle.std.specs.List.{list_all}
+use Rattle.definitions.specs.Moments.{is_digit}
+use Rattle.stamps.proofs.Digits.{too-large}
+use Rattle.stamps.proofs.revisions.read_revision.Goals as goal
+
+pub returns-in-Err : goal.returns-in-Err
+returns-in-Err c =
+    let t = c.args.text.now in
+    let digits : list_all is_digit t ≡ true = search rules in
+    let long : 0 < length t = grind (arith, nat_tests) in
+    too-large t digits long c.in-Err.ensures.value.0

@@ -1,0 +1,8 @@
+//! The small texts that every object carries: moments, revisions and uids.
+#![tactic(auto)]
+
+pub mod moments;
+pub mod revisions;
+#[cfg(test)]
+mod tests;
+pub mod uids;
