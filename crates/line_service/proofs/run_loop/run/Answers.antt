@@ -1,0 +1,34 @@
+use Rattle.std.proofs.Common.{◌≡◌, ◌<◌, length, IfSome, arith, rules}
+use Rattle.std.specs.Io.BufRead.{take_through, strip_last}
+use Rattle.line_service.proofs.Progress.{IsUnderWay-step, IsUnderWay-begun, IsUnderWay-cut, first_line_read}
+use Rattle.std.proofs.lemmas.Result.{err_from_is_err_and}
+use Rattle.line_service.proofs.run_loop.run.Goals as goal
+
+pub loop-preserved : goal.loop-preserved
+loop-preserved g c =
+    let reply = g.S.LineService.reply in
+    let next = g.S.LineService.next in
+    let went : c.serve.new.self ≡ next c.loop.service c.without_newline.result.now = search rules in
+    let came : IfSome (g.R.Read.remaining c.loop.reader) (λ rest. c.read_until.new.buf.items ≡ take_through 10 rest) = search rules in
+    let some : 0 < length c.read_until.new.buf.items = omega (arith, c.in-Ok.ensures.ok, c.read_until.new.buf.ok.0) in
+    let stripped : c.without_newline.result.now ≡ strip_last 10 c.read_until.new.buf.items = search rules in
+    let written : c.as_slice-in-loop.result.now ≡ reply c.loop.service c.without_newline.result.now = search rules in
+    IsUnderWay-step reply next _ _ (g.R.Read.remaining c.loop.reader) _ _ _ _ _ _ c.without_newline.result.now _ c.loop.invariant
+    (first_line_read _ _ _ _ came c.in-Ok.ensures.rest some stripped) c.in_ok-send.ensures.ok written went
+
+pub returns-in-Err-serve-clause-err : goal.returns-in-Err-serve-clause-err
+returns-in-Err-serve-clause-err g c =
+    IsUnderWay-begun g.S.LineService.reply g.S.LineService.next _ _ (g.R.Read.remaining c.loop.reader) _ _ c.loop.service c.loop.invariant
+
+pub returns-in_err-send-clause-err : goal.returns-in_err-send-clause-err
+returns-in_err-send-clause-err g c =
+    let reply = g.S.LineService.reply in
+    let next = g.S.LineService.next in
+    let came : IfSome (g.R.Read.remaining c.loop.reader) (λ rest. c.read_until.new.buf.items ≡ take_through 10 rest) = search rules in
+    let some : 0 < length c.read_until.new.buf.items = omega (arith, c.in-Ok.ensures.ok, c.read_until.new.buf.ok.0) in
+    let stripped : c.without_newline.result.now ≡ strip_last 10 c.read_until.new.buf.items = search rules in
+    let written : c.as_slice-in-loop.result.now ≡ reply c.loop.service c.without_newline.result.now = search rules in
+    let begun = IsUnderWay-cut reply next _ _ (g.R.Read.remaining c.loop.reader) _ _ _ _ c.loop.service c.without_newline.result.now _ c.loop.invariant
+    (first_line_read _ _ _ _ came c.in-Ok.ensures.rest some stripped) c.in_err-send.ensures.err written in
+    let p = err_from_is_err_and c.from_residual.result c.from_residual.ensures.1 in
+    rw p.1 begun

@@ -1,0 +1,23 @@
+-- What is written for what is read: the reply to each line in turn.
+use Rattle.std.specs.Prelude.{◌≡◌, ℕ, ◌==◌, List, [], ◌∷◌, ◌++◌, Option, if◌then◌else◌}
+use Rattle.std.specs.Io.KnownBytes.{Appends}
+use Rattle.std.specs.List.{onto_first}
+
+-- the lines of the bytes, without their newlines; what follows the last newline is a line if it is not empty
+abbrev pub lines_of : List ℕ → List (List ℕ)
+lines_of [] = []
+lines_of (x ∷ xs) = if x == 10 then [] ∷ lines_of xs else onto_first x (lines_of xs)
+
+-- all that is written for these lines, from a state on
+abbrev pub replies : {S : Type 0} → (S → List ℕ → List ℕ) → (S → List ℕ → S) → S → List (List ℕ) → List ℕ
+replies reply next s [] = []
+replies reply next s (line ∷ lines) = reply s line ++ replies reply next (next s line) lines
+
+-- the state after these lines
+abbrev pub after : {S : Type 0} → (S → List ℕ → S) → S → List (List ℕ) → S
+after next s [] = s
+after next s (line ∷ lines) = after next (next s line) lines
+
+-- a beginning of the text was appended
+abbrev pub AppendsBeginning : Option (List ℕ) → Option (List ℕ) → List ℕ → Type 0
+AppendsBeginning old new text = (written : List ℕ) × (left : List ℕ) × Appends old new written × (written ++ left ≡ text)

@@ -1,0 +1,14 @@
+//! A service that answers lines, and the loop that runs it over any reader and writer.
+//! What is written is the fold of the service's replies over the lines that are read, and nothing else.
+#![tactic(auto)]
+
+pub mod fault;
+pub mod run_loop;
+pub mod service;
+
+pub use fault::RunFault;
+pub use run_loop::run;
+pub use service::LineService;
+
+#[cfg(test)]
+mod tests;

@@ -1,0 +1,112 @@
+//! The loop that runs a service.
+ghost use Rattle.std.specs.Prelude.{◌≡◌, ◌≤◌, [], OnOk, OnErr, IfSome, vec_capacity};
+ghost use Rattle.std.specs.Io.KnownBytes.{Appends};
+ghost use Rattle.std.specs.Io.BufRead.{strip_last};
+ghost use Rattle.line_service.specs.Replies.{lines_of, replies, after, AppendsBeginning};
+
+use crate::fault::RunFault;
+use crate::service::LineService;
+use std::alloc::Global;
+use std::io::{BufRead, ErrorKind, Write};
+
+/// The bytes of memory that a line's buffer may keep for the next line.
+const KEPT_CAPACITY: usize = 1 << 20;
+
+/// The bytes without a newline at their end.
+fn without_newline(line: &[u8]) -> &[u8]
+    ensures { result.now ≡ strip_last 10 line.now }
+{
+    let len = line.len();
+    if len > 0 && line[len - 1] == b'\n' {
+        &line[..len - 1]
+    } else {
+        line
+    }
+}
+
+/// Empties the buffer for the next line, and gives the memory of a very long line back.
+fn make_ready(line: &mut Vec<u8>)
+    ensures empty { line.new.items ≡ [] }
+    ensures small { vec_capacity line.new ≤ KEPT_CAPACITY }
+{
+    line.clear();
+    if line.capacity() > KEPT_CAPACITY {
+        line.shrink_to_fit();
+    }
+}
+
+/// Writes all of the text; where the writer fails, a beginning of it was written.
+fn write_text<W: Write>(writer: &mut W, text: &[u8]) -> Result<(), RunFault>
+    ensures ok { OnOk result (Appends (W.contents writer.old) (W.contents writer.new) text.now) }
+    ensures err { OnErr result (AppendsBeginning (W.contents writer.old) (W.contents writer.new) text.now) }
+{
+    let mut rest = text;
+    for _ in 0..u64::MAX {
+        if rest.is_empty() {
+            return Ok(());
+        }
+        match writer.write(rest) {
+            Ok(0) => return Err(RunFault::Write),
+            Ok(n) => rest = rest.split_at(n).1,
+            Err(e) => {
+                if e.kind() != ErrorKind::Interrupted {
+                    return Err(RunFault::Write);
+                }
+            }
+        }
+    }
+    Err(RunFault::Write)
+}
+
+/// Writes a reply and flushes the writer. An empty reply writes nothing and flushes nothing.
+fn send<W: Write>(writer: &mut W, reply: &[u8]) -> Result<(), RunFault>
+    ensures ok { OnOk result (Appends (W.contents writer.old) (W.contents writer.new) reply.now) }
+    ensures err { OnErr result (AppendsBeginning (W.contents writer.old) (W.contents writer.new) reply.now) }
+{
+    if reply.is_empty() {
+        return Ok(());
+    }
+    write_text(writer, reply)?;
+    match writer.flush() {
+        Ok(()) => Ok(()),
+        Err(_) => Err(RunFault::Write),
+    }
+}
+
+/// Answers each line that is read, to the end, and writes the replies and nothing else. Each reply that is not
+/// empty is flushed before the next line is waited for. One line is held at a time, and its memory is used again
+/// for the next.
+///
+/// At an error a beginning of all the replies was written; the service has answered some of the lines, and no
+/// line after the one at which the error came.
+pub fn run<S: LineService, R: BufRead, W: Write>(
+    alloc: Global,
+    service: &mut S,
+    reader: &mut R,
+    writer: &mut W,
+) -> Result<(), RunFault>
+    ensures ok { OnOk result (IfSome (R.remaining reader.old) (λ input.
+        Appends (W.contents writer.old) (W.contents writer.new) (replies S.reply S.next service.old (lines_of input)))) }
+    ensures state { OnOk result (IfSome (R.remaining reader.old) (λ input.
+        service.new ≡ after S.next service.old (lines_of input))) }
+    ensures err { OnErr result (IfSome (R.remaining reader.old) (λ input.
+        AppendsBeginning (W.contents writer.old) (W.contents writer.new) (replies S.reply S.next service.old (lines_of input)))) }
+{
+    let mut line = Vec::new(alloc);
+    for _ in 0..u64::MAX {
+        make_ready(&mut line);
+        let count = match reader.read_until(b'\n', &mut line) {
+            Ok(n) => n,
+            Err(_) => return Err(RunFault::Read),
+        };
+        if count == 0 {
+            return Ok(());
+        }
+        let reply = match service.serve(alloc, without_newline(line.as_slice())) {
+            Ok(reply) => reply,
+            Err(_) => return Err(RunFault::Want),
+        };
+        send(writer, reply.as_slice())?;
+    }
+    Err(RunFault::Read)
+}

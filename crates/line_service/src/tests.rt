@@ -1,0 +1,163 @@
+ghost use Rattle.std.specs.Prelude.{◌==◌, [], ◌∷◌, ◌++◌, length, if◌then◌else◌};
+
+use crate::{LineService, RunFault, run};
+use std::alloc::{AllocError, Global};
+use std::cell::Cell;
+use std::io;
+use std::io::{BufReader, Read, Write};
+use std::test::Fail;
+
+/// Sends each line back, and answers an empty line with nothing.
+#[derive(Drop)]
+struct Echo;
+
+impl LineService for Echo {
+    ghost reply = { λ _ line. (if length line == 0 then [] else line ++ 10 ∷ []) };
+
+    ghost next = { λ s _. s };
+
+    fn serve(&mut self, alloc: Global, line: &[u8]) -> Result<Vec<u8>, AllocError> {
+        let mut text = Vec::new(alloc);
+        if !line.is_empty() {
+            text.extend_from_slice(line)?;
+            text.push(b'\n')?;
+        }
+        Ok(text)
+    }
+}
+
+/// What a reader and a writer see of one another. No clause says when a writer is flushed, so that a flush left out
+/// is still proved: the reader fails where a reply lies unflushed, and the tests count the calls.
+#[derive(Drop)]
+struct Wire {
+    unflushed: Cell<bool>,
+    reads: Cell<u64>,
+    flushes: Cell<u64>,
+}
+
+impl Wire {
+    fn new() -> Wire {
+        Wire {
+            unflushed: Cell::new(false),
+            reads: Cell::new(0),
+            flushes: Cell::new(0),
+        }
+    }
+}
+
+/// Gives a line at each read, and fails at the read of the line `bad`.
+#[derive(Drop)]
+struct Lines<'a> {
+    lines: &'a [&'a [u8]],
+    bad: u64,
+    wire: &'a Wire,
+}
+
+impl<'a> Read for Lines<'a> {
+    fn read(&mut self, buf: &mut [u8]) -> io::Result<usize> {
+        let read = self.wire.reads.get();
+        self.wire.reads.set(read.saturating_add(1));
+        if self.wire.unflushed.get() || read == self.bad {
+            return Err(io::Error::from(io::ErrorKind::BrokenPipe));
+        }
+        let text = match self.lines.get(read as usize) {
+            None => return Ok(0),
+            Some(line) => *line,
+        };
+        let len = text.len().min(buf.len());
+        buf[..len].copy_from_slice(&text[..len]);
+        Ok(len)
+    }
+}
+
+/// Takes a byte at each write, and fails when it holds `full` bytes.
+#[derive(Drop)]
+struct Narrow<'a> {
+    held: Vec<u8>,
+    full: usize,
+    wire: &'a Wire,
+}
+
+impl<'a> Write for Narrow<'a> {
+    fn write(&mut self, buf: &[u8]) -> io::Result<usize> {
+        if self.held.len() == self.full {
+            return Err(io::Error::from(io::ErrorKind::BrokenPipe));
+        }
+        match buf.first() {
+            None => Ok(0),
+            Some(byte) => {
+                self.held.push(*byte)?;
+                self.wire.unflushed.set(true);
+                Ok(1)
+            }
+        }
+    }
+
+    fn flush(&mut self) -> io::Result<()> {
+        self.wire.unflushed.set(false);
+        let flushes = self.wire.flushes.get();
+        self.wire.flushes.set(flushes.saturating_add(1));
+        Ok(())
+    }
+}
+
+const NEVER: u64 = u64::MAX;
+
+const ROOM: usize = 1000;
+
+/// The outcome of a run over these lines, and what was written.
+fn outcome_of(
+    alloc: Global,
+    lines: &[&[u8]],
+    bad: u64,
+    full: usize,
+    wire: &Wire,
+) -> Result<(Result<(), RunFault>, Vec<u8>), Fail> {
+    let mut reader = BufReader::new(alloc, Lines { lines, bad, wire })?;
+    let mut writer = Narrow {
+        held: Vec::new(alloc),
+        full,
+        wire,
+    };
+    let outcome = run(alloc, &mut Echo, &mut reader, &mut writer);
+    Ok((outcome, writer.held))
+}
+
+const THREE_LINES: [&[u8]; 4] = [b"ab\n", b"\n", b"c\n", b"de"];
+
+#[test]
+fn each_line_is_answered_and_the_last_needs_no_newline(rt: HostRuntime) -> Result<(), Fail> {
+    let wire = Wire::new();
+    let (outcome, held) = outcome_of(rt.alloc(), &THREE_LINES, NEVER, ROOM, &wire)?;
+    assert_eq!(rt; outcome, Ok(()));
+    assert_eq!(rt; held.as_slice(), b"ab\nc\nde\n".as_slice());
+    Ok(())
+}
+
+#[test]
+fn each_reply_is_flushed_before_the_next_read(rt: HostRuntime) -> Result<(), Fail> {
+    let wire = Wire::new();
+    let (outcome, _held) = outcome_of(rt.alloc(), &THREE_LINES, NEVER, ROOM, &wire)?;
+    assert_eq!(rt; outcome, Ok(()));
+    assert_eq!(rt; wire.flushes.get(), 3);
+    assert_eq!(rt; wire.reads.get(), 6);
+    Ok(())
+}
+
+#[test]
+fn a_beginning_is_written_where_the_writer_fails(rt: HostRuntime) -> Result<(), Fail> {
+    let wire = Wire::new();
+    let (outcome, held) = outcome_of(rt.alloc(), &THREE_LINES, NEVER, 4, &wire)?;
+    assert_eq!(rt; outcome, Err(RunFault::Write));
+    assert_eq!(rt; held.as_slice(), b"ab\nc".as_slice());
+    Ok(())
+}
+
+#[test]
+fn the_lines_before_a_failing_read_are_answered(rt: HostRuntime) -> Result<(), Fail> {
+    let wire = Wire::new();
+    let (outcome, held) = outcome_of(rt.alloc(), &THREE_LINES, 2, ROOM, &wire)?;
+    assert_eq!(rt; outcome, Err(RunFault::Read));
+    assert_eq!(rt; held.as_slice(), b"ab\n".as_slice());
+    Ok(())
+}
