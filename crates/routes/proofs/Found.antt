@@ -1,4 +1,4 @@
--- The table's rows, and the shapes that it finds.
+-- The table's rows, and the forms that it finds.
 use Rattle.std.proofs.Common.{◌≡◌, ◌≢◌, ℕ, ◌+◌, ◌<◌, List, [], ◌∷◌, ◌++◌, Option, Some, None, MatchOption, Bool, true, false, cond, codes, refl, sym, ap, ◌∙◌, arith, subst, ◌&&◌, not, ◌==◌, nat_lt, if◌then◌else◌, true≢false}
 use Rattle.std.proofs.lemmas.Bool.Decides.{nat_tests}
 use Rattle.std.specs.List.{list_all}
@@ -271,7 +271,7 @@ found-form ss = by (list_all is_filled ss) refl
 
 -- ---- what the parameters are
 
--- the parameters of a path of this shape
+-- the parameters of a path of this form
 abbrev pub params_of : Form → List (List ℕ × List ℕ)
 params_of (all_form g p) = (codes "resource", p) ∷ []
 params_of (namespace_form g n p) = (codes "namespace", n) ∷ (codes "resource", p) ∷ []
@@ -317,7 +317,7 @@ below-told-apps (w ∷ n ∷ p ∷ o ∷ l ∷ []) =
     (λ e. let b = and-both (same_text (codes "namespaces") w) (same_text (codes "status") l) e in (refl, (same (codes "namespaces") w b.0, (same (codes "status") l b.1, tt)), refl))
 below-told-apps (w ∷ n ∷ p ∷ o ∷ l ∷ m ∷ r) = tt
 
--- the whole path fits the route, and its parameters are those of its shape
+-- the whole path fits the route, and its parameters are those of its form
 abbrev pub Fitting : List (List ℕ) → Form → Type 0
 Fitting ss x =
     Fits (prefix (group_of x) ++ layout_parts (layout_of x)) ss (route_names (group_of x) (layout_of x))

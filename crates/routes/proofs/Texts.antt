@@ -107,7 +107,7 @@ row-short Apps Status = lit< tt
 
 -- ---- the whole path
 
--- the route that a path of this shape finds, and what its parameters take
+-- the route that a path of this form finds, and what its parameters take
 pub record Read (path : List ℕ) (e : RouteOf Entry) (x : Form) : Type 0 where
   pub is : e ≡ row (group_of x) (layout_of x)
   pub params : walk e.pattern e.text path e.names 0 0 ≡ params_of x
