@@ -3,7 +3,6 @@
 #![tactic(auto)]
 
 pub mod entries;
-pub mod names;
 pub mod table;
 pub mod targets;
 #[cfg(test)]

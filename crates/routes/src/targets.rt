@@ -4,8 +4,8 @@ ghost use Rattle.definitions.specs.Targets.{served_named, collection, route_of, 
 ghost use Rattle.routes.specs.Seen.{now, route_seen, assembled};
 
 use crate::entries::{Entry, Layout};
-use crate::names::is_namespace;
 use definitions::kinds::{Group, Kind};
+use names::is_namespace;
 
 /// What a path names.
 #[derive(Clone, Copy, Debug, PartialEq, Eq)]

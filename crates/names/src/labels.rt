@@ -1,4 +1,4 @@
-//! Names of namespaces.
+//! Labels of DNS names.
 ghost use Rattle.std.specs.Prelude.{◌≡◌, ◌||◌, ◌==◌};
 ghost use Rattle.std.specs.List.{list_all};
 ghost use Rattle.definitions.specs.Names.{is_letter_or_digit, is_label, is_namespace};
@@ -21,7 +21,7 @@ fn has_label_bytes(text: &str) -> bool
 }
 
 /// Whether the text is a DNS label of any length (RFC 1123, Host Names and Numbers).
-fn is_label(text: &str) -> bool
+pub fn is_label(text: &str) -> bool
     ensures { result ≡ is_label text.now }
 {
     let bytes = text.as_bytes();
