@@ -1,0 +1,14 @@
+-- The body of a refusal before its details are put into it.
+use Rattle.std.specs.Prelude.{codes}
+use Rattle.serde_json.specs.Data.{Data, number, unsigned, string, object, no_members, member}
+use Rattle.definitions.specs.Refusals.{Refusal, code, message, reason}
+
+-- the members that each refusal has
+abbrev pub bare_body : Refusal → Data
+bare_body f =
+    object
+    (member (codes "apiVersion") (string (codes "v1"))
+    (member (codes "code") (number (unsigned (code f)))
+    (member (codes "kind") (string (codes "Status"))
+    (member (codes "message") (string (message f))
+    (member (codes "metadata") (object no_members) (member (codes "reason") (string (reason f)) (member (codes "status") (string (codes "Failure")) no_members)))))))

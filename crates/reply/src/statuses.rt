@@ -1,0 +1,156 @@
+//! Statuses: their codes, reasons and texts.
+ghost use Rattle.std.specs.Prelude.{◌≡◌, IfOk, string_bytes, option_map, codes};
+ghost use Rattle.serde_json.specs.Data.{string, no_members, member};
+ghost use Rattle.serde_json.specs.View.{view};
+ghost use Rattle.serde_json.specs.Written.{compact_text};
+ghost use Rattle.definitions.specs.Refusals.{code, reason, about, details, status_body, success_body};
+ghost use Rattle.reply.specs.Bare.{bare_body};
+ghost use Rattle.meta.specs.Faults.{refusal_of};
+ghost use Rattle.meta.specs.Keys.{name_of};
+
+use crate::messages::message;
+use meta::values::{text_value, with_member};
+use meta::{Fault, Key};
+use serde_json::{Value, json};
+use std::alloc::{AllocError, Global};
+
+/// The HTTP status code of a fault.
+pub fn code(fault: &Fault) -> u16
+    ensures { result ≡ code (refusal_of fault.now) }
+{
+    match fault {
+        Fault::BadRequest(_) => 400,
+        Fault::NotFound(_) | Fault::NoSuchPath => 404,
+        Fault::MethodNotAllowed => 405,
+        Fault::AlreadyExists(_) | Fault::Conflict(_, _) => 409,
+        Fault::Expired { .. } => 410,
+        Fault::LengthRequired => 411,
+        Fault::TooLarge => 413,
+        Fault::UnsupportedMediaType => 415,
+        Fault::Invalid(_, _) => 422,
+        Fault::NoMemory => 503,
+        Fault::TooNew { .. } => 504,
+        Fault::StorageFull => 507,
+    }
+}
+
+/// The reason, a word for programs.
+fn reason(fault: &Fault) -> &'static str
+    ensures { result.now ≡ reason (refusal_of fault.now) }
+{
+    match fault {
+        Fault::BadRequest(_) => "BadRequest",
+        Fault::NotFound(_) | Fault::NoSuchPath => "NotFound",
+        Fault::MethodNotAllowed => "MethodNotAllowed",
+        Fault::AlreadyExists(_) => "AlreadyExists",
+        Fault::Conflict(_, _) => "Conflict",
+        Fault::Expired { .. } => "Expired",
+        Fault::LengthRequired => "LengthRequired",
+        Fault::TooLarge => "RequestEntityTooLarge",
+        Fault::UnsupportedMediaType => "UnsupportedMediaType",
+        Fault::Invalid(_, _) => "Invalid",
+        Fault::NoMemory => "ServiceUnavailable",
+        Fault::TooNew { .. } => "Timeout",
+        Fault::StorageFull => "StorageFull",
+    }
+}
+
+/// The key that the details of a fault name, if it has details.
+fn about(fault: &Fault) -> Option<&Key>
+    ensures { option_map (λ key. name_of key.now) result ≡ about (refusal_of fault.now) }
+{
+    match fault {
+        Fault::NotFound(key) => Some(key),
+        Fault::AlreadyExists(key) => Some(key),
+        Fault::Conflict(key, _) => Some(key),
+        _ => None,
+    }
+}
+
+/// The details that name an object.
+fn details(alloc: Global, key: &Key) -> Result<Value, AllocError>
+    ensures { IfOk result (λ value. view value ≡ details (name_of key.now) no_members) }
+{
+    let named = json!(in alloc; {"kind": key.kind.plural(), "name": key.name.as_str()})?;
+    let group = key.kind.group_name();
+    if group.is_empty() {
+        return Ok(named);
+    }
+    with_member(alloc, named, "group", text_value(alloc, group)?)
+}
+
+/// The details that name an object and its uid.
+fn details_with_uid(alloc: Global, key: &Key, uid: &str) -> Result<Value, AllocError>
+    ensures { IfOk result (λ value. view value
+        ≡ details (name_of key.now) (member (codes "uid") (string uid.now) no_members)) }
+{
+    let details = details(alloc, key)?;
+    with_member(alloc, details, "uid", text_value(alloc, uid)?)
+}
+
+/// The body of a refusal, without details.
+fn bare_body(alloc: Global, fault: &Fault) -> Result<Value, AllocError>
+    ensures { IfOk result (λ value. view value ≡ bare_body (refusal_of fault.now)) }
+{
+    let message = message(alloc, fault)?;
+    let reason = reason(fault);
+    json!(in alloc; {
+        "apiVersion": "v1",
+        "code": code(fault),
+        "kind": "Status",
+        "message": message.as_str(),
+        "metadata": {},
+        "reason": reason,
+        "status": "Failure",
+    })
+}
+
+/// The body of a refusal.
+fn body(alloc: Global, fault: &Fault) -> Result<Value, AllocError>
+    ensures { IfOk result (λ value. view value ≡ status_body (refusal_of fault.now)) }
+{
+    let status = bare_body(alloc, fault)?;
+    match about(fault) {
+        Some(key) => with_member(alloc, status, "details", details(alloc, key)?),
+        None => Ok(status),
+    }
+}
+
+/// The body of a refusal as compact JSON, a Status. The error is want of memory.
+pub fn text(alloc: Global, fault: &Fault) -> Result<String, AllocError>
+    ensures { IfOk result (λ text. string_bytes text
+        ≡ compact_text (status_body (refusal_of fault.now))) }
+{
+    let body = body(alloc, fault)?;
+    body.to_string(alloc)
+}
+
+/// The body of a success that answers no object.
+fn success_body(alloc: Global, removed: Option<(&Key, &str)>) -> Result<Value, AllocError>
+    ensures { IfOk result (λ value. view value
+        ≡ success_body (option_map (λ object. (name_of object.0.now, object.1.now)) removed.entry)) }
+{
+    let status = json!(in alloc; {
+        "apiVersion": "v1",
+        "kind": "Status",
+        "metadata": {},
+        "status": "Success",
+    })?;
+    match removed {
+        Some((key, uid)) => {
+            let details = details_with_uid(alloc, key, uid)?;
+            with_member(alloc, status, "details", details)
+        }
+        None => Ok(status),
+    }
+}
+
+/// The body of a success that answers no object, as compact JSON: of a removal, with the key and the uid of what was
+/// removed, or of a compaction, with none. The error is want of memory.
+pub fn success_text(alloc: Global, removed: Option<(&Key, &str)>) -> Result<String, AllocError>
+    ensures { IfOk result (λ text. string_bytes text
+        ≡ compact_text (success_body (option_map (λ object. (name_of object.0.now, object.1.now)) removed.entry))) }
+{
+    let body = success_body(alloc, removed)?;
+    body.to_string(alloc)
+}
