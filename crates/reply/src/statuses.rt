@@ -9,7 +9,7 @@ ghost use Rattle.meta.specs.Faults.{refusal_of};
 ghost use Rattle.meta.specs.Keys.{name_of};
 
 use crate::messages::message;
-use meta::values::{text_value, with_member};
+use meta::values::with_member;
 use meta::{Fault, Key};
 use serde_json::{Value, json};
 use std::alloc::{AllocError, Global};
@@ -76,7 +76,7 @@ fn details(alloc: Global, key: &Key) -> Result<Value, AllocError>
     if group.is_empty() {
         return Ok(named);
     }
-    with_member(alloc, named, "group", text_value(alloc, group)?)
+    with_member(alloc, named, "group", Value::try_from_str(alloc, group)?)
 }
 
 /// The details that name an object and its uid.
@@ -85,7 +85,7 @@ fn details_with_uid(alloc: Global, key: &Key, uid: &str) -> Result<Value, AllocE
         ≡ details (name_of key.now) (member (codes "uid") (string uid.now) no_members)) }
 {
     let details = details(alloc, key)?;
-    with_member(alloc, details, "uid", text_value(alloc, uid)?)
+    with_member(alloc, details, "uid", Value::try_from_str(alloc, uid)?)
 }
 
 /// The body of a refusal, without details.
