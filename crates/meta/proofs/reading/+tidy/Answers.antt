@@ -52,5 +52,5 @@ tidy_items-loop-item-preserved t c =
     let taken : l.item-iterator.rest.items ≡ c.in-Some.item ∷ c.next.new.self.rest.items = search rules in (
       done ++ c.in-Some.item ∷ [],
       l.invariant.1 ∙ ap (λ es. done ++ es) taken ∙ sym (append_assoc done (c.in-Some.item ∷ []) c.next.new.self.rest.items),
-      ap (map view) c.in_ok-push.ensures.items ∙ map_last view l.kept.items c.in_ok-tidy.field-0 ∙ rw (l.invariant.2, c.in_ok-tidy.ensures, map_last view done c.in-Some.item, map_last (tidied s) (map view done) (view c.in-Some.item)),
+      ap (map view) {y = l.kept.items ++ c.in_ok-tidy.field-0 ∷ []} c.in_ok-push.ensures.items ∙ map_last view l.kept.items c.in_ok-tidy.field-0 ∙ rw (l.invariant.2, c.in_ok-tidy.ensures, map_last view done c.in-Some.item, map_last (tidied s) (map view done) (view c.in-Some.item)),
     )

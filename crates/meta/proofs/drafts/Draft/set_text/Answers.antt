@@ -7,5 +7,5 @@ use Rattle.meta.proofs.drafts.Draft.set_text.Goals as goal
 pub invariant_of-self : goal.invariant_of-self
 invariant_of-self c = (
   c.self.invariant.0,
-  after_put-no_float c.put.result c.args.name.now (view c.in_ok-value.value) c.self.inside.metadata.entries c.put.new.map.entries c.put.ensures.ok c.put.ensures.err (ap has_float c.in_ok-value.ensures) c.self.invariant.1,
+  after_put-no_float c.put.result _ (view c.in_ok-value.value) c.self.inside.metadata.entries c.put.new.map.entries c.put.ensures.ok c.put.ensures.err (ap has_float c.in_ok-value.ensures) c.self.invariant.1,
 )
