@@ -56,9 +56,21 @@ fn list_text(
     let digits = revision.to_string(alloc)?;
     let revision = quoted(alloc, digits.as_str())?;
     let mut text = String::new(alloc);
-    push_all(&mut text, &["{\"apiVersion\":", version.as_str(), ",\"items\":["])?;
+    push_all(
+        &mut text,
+        &["{\"apiVersion\":", version.as_str(), ",\"items\":["],
+    )?;
     push_items(alloc, objects, &mut text)?;
-    push_all(&mut text, &[",\"kind\":", name.as_str(), ",\"metadata\":{\"resourceVersion\":", revision.as_str(), "}}"])?;
+    push_all(
+        &mut text,
+        &[
+            ",\"kind\":",
+            name.as_str(),
+            ",\"metadata\":{\"resourceVersion\":",
+            revision.as_str(),
+            "}}",
+        ],
+    )?;
     Ok(text)
 }
 

@@ -1,5 +1,4 @@
-use Rattle.std.proofs.Common.{◌≡◌, List, ℕ, map, refl, sym, ap, ◌∙◌}
-use Rattle.serde_json.specs.Data.{Data}
+use Rattle.std.proofs.Common.{map, refl, sym, ap, ◌∙◌}
 use Rattle.definitions.specs.History.{viewed, members, present}
 use Rattle.selector.specs.Views.{view_of}
 use Rattle.verbs.specs.Lists.{list_text_of}

@@ -1,0 +1,10 @@
+use Rattle.verbs.proofs.accepting.accept.Goals as goal
+
+pub returns-in-Get : goal.returns-in-Get
+returns-in-Get c = rw c.in-Get.is (c.get.ensures c.args.moment)
+
+pub returns-in-List : goal.returns-in-List
+returns-in-List c = rw c.in-List.is (c.list.ensures c.args.moment)
+
+pub returns-in-Update : goal.returns-in-Update
+returns-in-Update c = rw c.in-Update.is (c.update.ensures c.args.moment)

@@ -1,0 +1,37 @@
+//! What is answered.
+ghost use Rattle.std.specs.Prelude.{◌≡◌, List, ℕ};
+ghost use Rattle.definitions.specs.History.{members, present};
+ghost use Rattle.definitions.specs.Verbs.{accept_at};
+ghost use Rattle.verbs.specs.Requests.{Serves, request_of};
+
+use crate::create::create;
+use crate::read::{get, list};
+use crate::requests::Request;
+use crate::update::update;
+use meta::{Fault, Write};
+use reply::Reply;
+use stamps::moments::Moment;
+use std::alloc::Global;
+use store::Store;
+
+/// The answer to a request over a store at a moment, with what it writes, or the refusal. It changes nothing itself:
+/// the write is the caller's to apply. `Fault::NoMemory` says that memory was wanted and refused.
+pub fn accept(
+    alloc: Global,
+    store: &Store,
+    request: Request,
+    moment: Moment,
+) -> Result<(Reply, Option<Write>), Fault>
+    ensures { Serves (accept_at (request_of request) (members store.now (present store.now)) (present store.now) moment) result }
+{
+    match request {
+        Request::Get(key) => get(alloc, store, &key),
+        Request::List(view) => list(alloc, store, &view),
+        Request::Create(kind, namespace, body) => {
+            create(alloc, store, kind, namespace.as_str(), body, moment)
+        }
+        Request::Update(key, body) => update(alloc, store, key, body),
+        Request::UpdateStatus(_, _) => Err(Fault::NoSuchPath),
+        Request::Patch(_, _) | Request::Delete(_, _) => Err(Fault::MethodNotAllowed),
+    }
+}
