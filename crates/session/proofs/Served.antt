@@ -1,0 +1,32 @@
+-- What a served request says of its outcome.
+use Rattle.std.proofs.Common.{◌≡◌, ℕ, List, [], ◌∷◌, ◌++◌, Bool, false, Option, Result, Ok, Err, IfSome, decimal, option_map, string_bytes, ap, ap₂, sym, subst}
+use Rattle.serde_json.specs.Written.{compact_text}
+use Rattle.definitions.proofs.Limits.{room}
+use Rattle.definitions.specs.History.{History, members, present}
+use Rattle.definitions.specs.Lines.{Session, outcome_of, reply_text}
+use Rattle.definitions.specs.Refusals.{Refusal}
+use Rattle.definitions.specs.Verbs as verbs
+use Rattle.definitions.specs.Verbs.{Answer, Outcome, Request, answered, refused, history_after, overflows, with_write, accept}
+use Rattle.meta.specs.Writes.{write_of}
+use Rattle.meta.specs.declared.writes.Write.{Write}
+use Rattle.reply.specs.declared.reply.Reply.{Reply}
+use Rattle.verbs.specs.Requests.{Answers, Serves}
+
+pub served-write : (o : Outcome) (r : Reply) (w : Option Write) → Serves o (Ok (r, w)) → option_map write_of w ≡ verbs.write_of o
+served-write (answered a) r w is = is.write
+served-write (refused f) r w is = absurd is
+
+pub served-history : (h : History) (o : Outcome) (r : Reply) (w : Option Write) → Serves o (Ok (r, w)) → with_write h (option_map write_of w) ≡ history_after h o
+served-history h o r w is = ap (with_write h) (served-write o r w is)
+
+pub served-text : (o : Outcome) (r : Reply) (w : Option Write) → Serves o (Ok (r, w)) → decimal r.code ++ (32 ∷ (string_bytes r.text ++ 10 ∷ [])) ≡ reply_text o
+served-text (answered a) r w is = ap₂ (λ code text. decimal code ++ (32 ∷ (text ++ 10 ∷ []))) (sym is.code) is.text
+served-text (refused f) r w is = absurd is
+
+-- what is served has room
+pub served-room : (s : Session) (asked : Result Request Refusal) (r : Reply) (w : Option Write) → Serves (outcome_of s asked) (Ok (r, w))
+    → IfSome (option_map write_of w) (λ e. overflows (members s.history (present s.history)) (present s.history) e ≡ false)
+served-room s (Err f) r w is = absurd is
+served-room s (Ok q) r w is =
+    subst (λ e. IfSome e (λ e. overflows (members s.history (present s.history)) (present s.history) e ≡ false))
+    (sym (served-write (accept q s.history s.moment) r w is)) (room q s.history s.moment)

@@ -1,0 +1,18 @@
+use Rattle.std.proofs.Common.{Ok, Err, inr, ap, sym, subst, ◌∙◌}
+use Rattle.requests.specs.Seen.{check_refusal}
+use Rattle.routes.specs.Seen.{route_seen}
+use Rattle.session.specs.Asked.{Asks}
+use Rattle.session.proofs.Asked.{checked-asks}
+use Rattle.session.proofs.asking.read_request.Goals as goal
+
+pub returns-in-Ok : goal.returns-in-Ok
+returns-in-Ok c =
+    subst (λ asked. Asks asked c.ask.result)
+    (sym (checked-asks c.args.method c.args.target.now c.args.body.now c.as_str.result.now (Ok (route_seen c.in-Ok.named)) (c.as_str.ensures.value ∙ c.in_ok-text.ensures.text) c.in-Ok.ensures))
+    c.ask.ensures
+
+pub returns : goal.returns
+returns c =
+    inr
+    (checked-asks c.args.method c.args.target.now c.args.body.now c.as_str.result.now (Err (check_refusal c.in-Err.fault)) (c.as_str.ensures.value ∙ c.in_ok-text.ensures.text) c.in-Err.ensures
+    ∙ ap Err (sym c.check_fault.ensures))

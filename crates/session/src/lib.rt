@@ -1,0 +1,9 @@
+//! A session: request lines answered one after another over a store that begins empty.
+#![tactic(auto)]
+
+pub mod asking;
+mod lines;
+pub mod sessions;
+
+pub use asking::read_request;
+pub use sessions::Session;
