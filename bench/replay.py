@@ -7,7 +7,7 @@ that a loop takes which only reads and writes the same bytes, line by line, and 
 costs by itself. Each reply's code is checked, so that a run that refuses its requests is not taken for a fast one.
 
 Usage: replay.py [--program PATH] [--count N] [--runs N] [--seconds N]
-  --program PATH   an executable that is built; without it `rt run kcp -- replay` proves and builds one first
+  --program PATH   an executable that is built; without it `rt run -- replay` in crates/kcp proves and builds one first
   --count N        lines of each part, 10000 if left out; a store holds 65536 objects at most
   --runs N         runs of each input, of which the best counts, 3 if left out
   --seconds N      the longest that one run may take, 120 if left out
@@ -21,8 +21,8 @@ import sys
 import tempfile
 import time
 
-TOP = pathlib.Path(__file__).resolve().parent.parent
-BUILT = TOP / "crates" / "kcp" / "out" / "kcp"
+PROGRAM = pathlib.Path(__file__).resolve().parent.parent / "crates" / "kcp"
+BUILT = PROGRAM / "out" / "kcp"
 BUILD_SECONDS = 3600
 COLLECTION = "/api/v1/namespaces/default/configmaps"
 
@@ -55,9 +55,9 @@ def built(path):
     """The program to measure, proved and built where none is given."""
     if path:
         return path
-    print("building: rt run kcp -- replay", file=sys.stderr)
+    print("building, in crates/kcp: rt run -- replay", file=sys.stderr)
     subprocess.run(
-        ["rt", "run", "kcp", "--", "replay"], cwd=TOP, stdin=subprocess.DEVNULL, stdout=sys.stderr, check=True, timeout=BUILD_SECONDS
+        ["rt", "run", "--", "replay"], cwd=PROGRAM, stdin=subprocess.DEVNULL, stdout=sys.stderr, check=True, timeout=BUILD_SECONDS
     )
     return str(BUILT)
 
