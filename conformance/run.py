@@ -14,6 +14,7 @@ import tempfile
 
 HERE = pathlib.Path(__file__).resolve().parent
 CASES = HERE / "cases"
+PROGRAM = HERE.parent / "crates" / "kcp"
 SECONDS = 60
 
 
@@ -52,13 +53,19 @@ def by_try(names):
         for name in names:
             (pathlib.Path(folder) / name).write_bytes((CASES / f"{name}.replay").read_bytes())
             (pathlib.Path(folder) / f"{name}.stdout").write_bytes((CASES / f"{name}.expect").read_bytes())
-        command = ["rt", "try", "kcp", "--seconds", str(SECONDS), "--cases", folder, "--", "replay"]
-        run = subprocess.run(command, cwd=HERE.parent, capture_output=True, text=True, errors="replace")
-        if run.returncode == 0:
-            return []
-        print(run.stdout[-20000:] + run.stderr[-4000:])
-        failed = [name for name in names if any(name in line and "ok" not in line.split() for line in run.stdout.splitlines())]
-        return failed or names
+        command = ["rt", "try", "--seconds", str(SECONDS), "--cases", folder, "--", "replay"]
+        run = subprocess.run(command, cwd=PROGRAM, capture_output=True, text=True, errors="replace")
+        said = run.stdout + run.stderr
+        passed = {line.split()[0][len("case="):] for line in said.splitlines() if has_passed(line.split())}
+        failed = [name for name in names if name not in passed]
+        if failed or run.returncode != 0:
+            print(said[-20000:])
+        return failed if failed or run.returncode == 0 else names
+
+
+def has_passed(words):
+    """Whether the words of a line of `rt try --cases` say that a case ended well, with the output that is wanted."""
+    return words[:1] != [] and words[0].startswith("case=") and {"run=ended", "status=0", "output=expected"} <= set(words)
 
 
 def main():

@@ -3,10 +3,10 @@
 /// Why a run ended before the end of its input.
 #[derive(Debug, Clone, Copy, PartialEq, Eq)]
 pub enum RunFault {
-    /// A line could not be read: the reader failed, or there was no memory for the line.
+    /// A line could not be read: the reader failed.
     Read,
     /// A reply could not be written or flushed.
     Write,
-    /// There was no memory to answer a line.
+    /// There was no memory to read a line or to answer it.
     Want,
 }

@@ -1,12 +1,14 @@
 //! The loop that runs a service.
-ghost use Rattle.std.specs.Prelude.{◌≡◌, ◌≤◌, [], OnOk, OnErr, IfSome, vec_capacity};
+ghost use Rattle.std.specs.Prelude.{◌≡◌, ◌≢◌, ◌≤◌, [], OnOk, OnErr, IfSome, vec_capacity};
 ghost use Rattle.std.specs.Io.KnownBytes.{Appends};
 ghost use Rattle.std.specs.Io.BufRead.{strip_last};
+ghost use Rattle.std.specs.IoError.{error_kind};
 ghost use Rattle.line_service.specs.Replies.{lines_of, replies, after, AppendsBeginning};
 
 use crate::fault::RunFault;
 use crate::service::LineService;
 use std::alloc::Global;
+use std::io;
 use std::io::{BufRead, ErrorKind, Write};
 
 /// The bytes of memory that a line's buffer may keep for the next line.
@@ -21,6 +23,18 @@ fn without_newline(line: &[u8]) -> &[u8]
         &line[..len - 1]
     } else {
         line
+    }
+}
+
+/// Why a line was not read: there was no memory for it, or the reader failed.
+fn unread(error: &io::Error) -> RunFault
+    ensures want { error_kind error.now ≡ ErrorKind.OutOfMemory → result ≡ RunFault.Want }
+    ensures read { error_kind error.now ≢ ErrorKind.OutOfMemory → result ≡ RunFault.Read }
+{
+    if error.kind() == ErrorKind::OutOfMemory {
+        RunFault::Want
+    } else {
+        RunFault::Read
     }
 }
 
@@ -97,7 +111,7 @@ pub fn run<S: LineService, R: BufRead, W: Write>(
         make_ready(&mut line);
         let count = match reader.read_until(b'\n', &mut line) {
             Ok(n) => n,
-            Err(_) => return Err(RunFault::Read),
+            Err(error) => return Err(unread(&error)),
         };
         if count == 0 {
             return Ok(());

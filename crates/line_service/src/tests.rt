@@ -45,11 +45,12 @@ impl Wire {
     }
 }
 
-/// Gives a line at each read, and fails at the read of the line `bad`.
+/// Gives a line at each read, and fails at the read of the line `bad`, with an error of this kind.
 #[derive(Drop)]
 struct Lines<'a> {
     lines: &'a [&'a [u8]],
     bad: u64,
+    kind: io::ErrorKind,
     wire: &'a Wire,
 }
 
@@ -58,7 +59,7 @@ impl<'a> Read for Lines<'a> {
         let read = self.wire.reads.get();
         self.wire.reads.set(read.saturating_add(1));
         if self.wire.unflushed.get() || read == self.bad {
-            return Err(io::Error::from(io::ErrorKind::BrokenPipe));
+            return Err(io::Error::from(self.kind));
         }
         let text = match self.lines.get(read as usize) {
             None => return Ok(0),
@@ -103,6 +104,8 @@ impl<'a> Write for Narrow<'a> {
 
 const NEVER: u64 = u64::MAX;
 
+const BROKEN: io::ErrorKind = io::ErrorKind::BrokenPipe;
+
 const ROOM: usize = 1000;
 
 /// The outcome of a run over these lines, and what was written.
@@ -110,10 +113,17 @@ fn outcome_of(
     alloc: Global,
     lines: &[&[u8]],
     bad: u64,
+    kind: io::ErrorKind,
     full: usize,
     wire: &Wire,
 ) -> Result<(Result<(), RunFault>, Vec<u8>), Fail> {
-    let mut reader = BufReader::new(alloc, Lines { lines, bad, wire })?;
+    let source = Lines {
+        lines,
+        bad,
+        kind,
+        wire,
+    };
+    let mut reader = BufReader::new(alloc, source)?;
     let mut writer = Narrow {
         held: Vec::new(alloc),
         full,
@@ -128,7 +138,7 @@ const THREE_LINES: [&[u8]; 4] = [b"ab\n", b"\n", b"c\n", b"de"];
 #[test]
 fn each_line_is_answered_and_the_last_needs_no_newline(rt: HostRuntime) -> Result<(), Fail> {
     let wire = Wire::new();
-    let (outcome, held) = outcome_of(rt.alloc(), &THREE_LINES, NEVER, ROOM, &wire)?;
+    let (outcome, held) = outcome_of(rt.alloc(), &THREE_LINES, NEVER, BROKEN, ROOM, &wire)?;
     assert_eq!(rt; outcome, Ok(()));
     assert_eq!(rt; held.as_slice(), b"ab\nc\nde\n".as_slice());
     Ok(())
@@ -137,7 +147,7 @@ fn each_line_is_answered_and_the_last_needs_no_newline(rt: HostRuntime) -> Resul
 #[test]
 fn each_reply_is_flushed_before_the_next_read(rt: HostRuntime) -> Result<(), Fail> {
     let wire = Wire::new();
-    let (outcome, _held) = outcome_of(rt.alloc(), &THREE_LINES, NEVER, ROOM, &wire)?;
+    let (outcome, _held) = outcome_of(rt.alloc(), &THREE_LINES, NEVER, BROKEN, ROOM, &wire)?;
     assert_eq!(rt; outcome, Ok(()));
     assert_eq!(rt; wire.flushes.get(), 3);
     assert_eq!(rt; wire.reads.get(), 6);
@@ -147,7 +157,7 @@ fn each_reply_is_flushed_before_the_next_read(rt: HostRuntime) -> Result<(), Fai
 #[test]
 fn a_beginning_is_written_where_the_writer_fails(rt: HostRuntime) -> Result<(), Fail> {
     let wire = Wire::new();
-    let (outcome, held) = outcome_of(rt.alloc(), &THREE_LINES, NEVER, 4, &wire)?;
+    let (outcome, held) = outcome_of(rt.alloc(), &THREE_LINES, NEVER, BROKEN, 4, &wire)?;
     assert_eq!(rt; outcome, Err(RunFault::Write));
     assert_eq!(rt; held.as_slice(), b"ab\nc".as_slice());
     Ok(())
@@ -156,7 +166,22 @@ fn a_beginning_is_written_where_the_writer_fails(rt: HostRuntime) -> Result<(), 
 #[test]
 fn the_lines_before_a_failing_read_are_answered(rt: HostRuntime) -> Result<(), Fail> {
     let wire = Wire::new();
-    let (outcome, held) = outcome_of(rt.alloc(), &THREE_LINES, 2, ROOM, &wire)?;
+    let (outcome, held) = outcome_of(rt.alloc(), &THREE_LINES, 2, BROKEN, ROOM, &wire)?;
+    assert_eq!(rt; outcome, Err(RunFault::Read));
+    assert_eq!(rt; held.as_slice(), b"ab\n".as_slice());
+    Ok(())
+}
+
+#[test]
+fn want_of_memory_at_a_read_is_told_from_a_failing_reader(rt: HostRuntime) -> Result<(), Fail> {
+    let wants = Wire::new();
+    let kind = io::ErrorKind::OutOfMemory;
+    let (outcome, held) = outcome_of(rt.alloc(), &THREE_LINES, 2, kind, ROOM, &wants)?;
+    assert_eq!(rt; outcome, Err(RunFault::Want));
+    assert_eq!(rt; held.as_slice(), b"ab\n".as_slice());
+    let fails = Wire::new();
+    let kind = io::ErrorKind::UnexpectedEof;
+    let (outcome, held) = outcome_of(rt.alloc(), &THREE_LINES, 2, kind, ROOM, &fails)?;
     assert_eq!(rt; outcome, Err(RunFault::Read));
     assert_eq!(rt; held.as_slice(), b"ab\n".as_slice());
     Ok(())

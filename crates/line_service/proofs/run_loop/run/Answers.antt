@@ -16,6 +16,10 @@ loop-preserved g c =
     IsUnderWay-step reply next _ _ (g.R.Read.remaining c.loop.reader) _ _ _ _ _ _ c.without_newline.result.now _ c.loop.invariant
     (first_line_read _ _ _ _ came c.in-Ok.ensures.rest some stripped) c.in_ok-send.ensures.ok written went
 
+pub returns-in-Err-clause-err : goal.returns-in-Err-clause-err
+returns-in-Err-clause-err g c =
+    IsUnderWay-begun g.S.LineService.reply g.S.LineService.next _ _ (g.R.Read.remaining c.loop.reader) _ _ c.loop.service c.loop.invariant
+
 pub returns-in-Err-serve-clause-err : goal.returns-in-Err-serve-clause-err
 returns-in-Err-serve-clause-err g c =
     IsUnderWay-begun g.S.LineService.reply g.S.LineService.next _ _ (g.R.Read.remaining c.loop.reader) _ _ c.loop.service c.loop.invariant
