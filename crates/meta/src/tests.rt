@@ -16,6 +16,7 @@ fn outcome(alloc: Global, kind: Kind, text: &str) -> Result<String, Fail> {
     match Object::from_value(alloc, kind, value) {
         Ok(object) => Ok(object.text(alloc)?),
         Err(Fault::BadRequest(part)) => Ok(String::from_str(alloc, part.text())?),
+        Err(Fault::NoMemory) => Ok(String::from_str(alloc, "no memory")?),
         Err(_) => Ok(String::from_str(alloc, "another fault")?),
     }
 }
