@@ -1,0 +1,3 @@
+pub mod BoardRuns
+pub mod Expected
+pub mod TaskOrder

@@ -1,0 +1,3 @@
+pub mod SeenMaps
+pub mod SeenSets
+pub mod WorkKeyOrder
