@@ -1,3 +1,4 @@
 pub mod BoardRuns
 pub mod Expected
+pub mod Falling
 pub mod TaskOrder
