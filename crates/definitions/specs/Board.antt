@@ -122,15 +122,13 @@ pub record Alarm : Type 0 where
 abbrev pub alarm_cmp : Alarm → Alarm → Ordering
 alarm_cmp = then_cmp (on (λ (a : Alarm). a.at) nat_cmp) (on (λ (a : Alarm). a.task) task_cmp)
 
-abbrev pub Alarms : Type 0
-Alarms = set.FinSet alarm_cmp
-
-abbrev pub alarms : Delays → Alarms
-alarms m = set.from_list (list_map (λ (e : Task × ℕ). record { at = e.1; task = e.0 }) (map.entries m))
+-- the alarms of the keys that are delayed, in that order
+abbrev pub alarms : Delays → List Alarm
+alarms m = map.keys (map.from_entries {X = Unit {0}} {R = alarm_cmp} (list_map {B = Alarm × Unit {0}} (λ (e : Task × ℕ). (record { at = e.1; task = e.0 }, tt)) (map.entries m)))
 
 -- the keys whose moment has come, in that order
 abbrev pub due : ℕ → Delays → List Task
-due now m = list_map (λ (a : Alarm). a.task) (filter (λ (a : Alarm). nat_le a.at now) (set.items (alarms m)))
+due now m = list_map (λ (a : Alarm). a.task) (filter (λ (a : Alarm). nat_le a.at now) (alarms m))
 
 abbrev pub has_come : ℕ → Option ℕ → Bool
 has_come now None = false
