@@ -217,3 +217,7 @@ alarms_are m ks h is =
           ∙ sym (get-from_entries alarm_total _ q)))
     ∙ ap (map (λ (e : Alarm × Unit {0}). e.0)) (as_entries alarm_total ks h)
     ∙ firsts ks
+
+-- without delays there are no alarms
+pub no_alarms : alarm_set map_of.empty ≡ set.empty
+no_alarms = ap (λ es. set.from_list {R = alarm_cmp} (map alarm_of es)) (no_entries (map_of.entries (map_of.empty {X = ℕ} {R = task_cmp})) (sym (len-entries (map_of.empty {R = task_cmp})) ∙ len-empty task_cmp ℕ))

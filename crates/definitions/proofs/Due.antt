@@ -1,9 +1,10 @@
 -- Which keys are due, one alarm at a time.
-use Rattle.std.proofs.Common.{◌≡◌, refl, sym, ap, subst, ◌∙◌, ℕ, ◌<◌, ◌≤◌, ◌∷◌, [], ◌&&◌, ◌||◌, Bool, true, false, not, cond, List, map, Option, Some, None, nat_le, Ordering, Less, Equal, Greater, arith}
+use Rattle.std.proofs.Common.{◌≡◌, refl, sym, ap, subst, ◌∙◌, ℕ, suc, length, ◌+◌, ◌<◌, ◌≤◌, ◌∷◌, [], ◌&&◌, ◌||◌, Bool, true, false, not, cond, List, map, Option, Some, None, nat_le, Ordering, Less, Equal, Greater, arith}
 use mathlib.Core.Bool.{true≢false}
 use Rattle.std.proofs.lemmas.Bool.Decides.{nat_tests}
+use Rattle.std.proofs.lemmas.List.{length-map}
 use Rattle.std.specs.Cmp.{tied_itself}
-use Rattle.std.specs.List.{filter, list_any, AllByRecursion}
+use Rattle.std.specs.List.{filter, list_any, prefix_len, AllByRecursion}
 use Rattle.std.specs.List.Sorted.{IsStrictlySortedBy}
 use Rattle.std.specs.Ordering.{nat_cmp, eq_by_cmp, is_eq, ordering_then}
 use Rattle.std.specs.FinMap as map_of
@@ -152,3 +153,16 @@ none_due_yet now m a ks h e = none_due_later now m (a ∷ ks) h (e, all_later no
 pub all_still_delayed : (now : ℕ) (m : Delays) (a : Alarm) (ks : List Alarm) → AreAlarms m (a ∷ ks) → nat_le a.at now ≡ false → still_delayed now m ≡ m
 unfolding AllLater IsStrictlySortedBy
 all_still_delayed now m a ks h e = all_still_later now m (a ∷ ks) h (e, all_later now a ks e h.in_order.0)
+
+count_in_order : (now : ℕ) (ks : List Alarm) → IsStrictlySortedBy alarm_cmp ks → prefix_len (comes now) ks ≡ length (filter (comes now) ks)
+unfolding IsStrictlySortedBy
+count_in_order now [] h = refl
+count_in_order now (k ∷ ks) h = by (count_in_order now ks h.1) (nat_le k.at now) refl
+  where
+    by : prefix_len (comes now) ks ≡ length (filter (comes now) ks) → (b : Bool) → nat_le k.at now ≡ b → cond b (1 + prefix_len (comes now) ks) 0 ≡ length (cond b (k ∷ filter (comes now) ks) (filter (comes now) ks))
+    by rest true e = omega (arith, rest)
+    by rest false e = ap length (sym (none_comes now ks (all_later now k ks e h.0)))
+
+-- as many keys are due as alarms stand before the first that is later
+pub count_first : (now : ℕ) (m : Delays) (ks : List Alarm) → AreAlarms m ks → prefix_len (comes now) ks ≡ length (due now m)
+count_first now m ks h = count_in_order now ks h.in_order ∙ sym (length-map (filter (comes now) ks) (λ (a : Alarm). a.task)) ∙ ap length (sym (due_is now m ks h))

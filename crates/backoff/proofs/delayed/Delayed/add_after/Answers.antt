@@ -1,17 +1,26 @@
-use Rattle.std.proofs.Common.{ap, ◌∙◌}
+use Rattle.std.proofs.Common.{◌≡◌, ap, sym, ◌∙◌, None, Some, arith}
 use Rattle.std.specs.FinMap as map_of
-use Rattle.definitions.specs.Board.{delayed, earlier}
+use Rattle.definitions.specs.Board.{delayed}
 use Rattle.work_keys.specs.Tasks.{task_of}
-use Rattle.work_keys.specs.Seen.{by_task}
-use Rattle.work_keys.proofs.SeenTasks.{insert-by_task}
-use Rattle.backoff.proofs.Counts.{get_count}
+use Rattle.backoff.proofs.Steps.{found, delayed_before}
 use Rattle.backoff.proofs.delayed.Delayed.add_after.Goals as goal
 
-pub returns-clause-ok : goal.returns-clause-ok
-returns-clause-ok c =
-    let es = c.self.inside.moments.entries in
-    let k = c.args.key in
-    ap (by_task (λ f. f)) c.in_ok-insert.ensures.entries
-    ∙ insert-by_task (λ f. f) es k c.earlier_of.result
-    ∙ ap (map_of.insert (by_task (λ f. f) es) (task_of k)) (c.earlier_of.ensures ∙ ap (λ o. earlier o c.args.at) (c.copied-before.ensures ∙ c.get.ensures.value ∙ get_count es k))
-    ∙ ap (delayed (task_of k) c.args.at) c.self.view_is
+pub begin-requires : goal.begin-requires
+begin-requires c =
+    ap (λ m. map_of.get m (task_of c.args.key)) (sym c.self.view_is)
+    ∙ found c.self.inside.moments.entries c.args.key
+    ∙ sym (sym c.in-None.is ∙ c.copied.ensures ∙ c.get.ensures.value)
+
+pub hasten-requires-clause-delayed : goal.hasten-requires-clause-delayed
+hasten-requires-clause-delayed c =
+    ap (λ m. map_of.get m (task_of c.args.key)) (sym c.self.view_is)
+    ∙ found c.self.inside.moments.entries c.args.key
+    ∙ sym (sym c.in-Some.is ∙ c.copied.ensures ∙ c.get.ensures.value)
+
+pub returns-in-Some-2-clause-ok : goal.returns-in-Some-2-clause-ok
+returns-in-Some-2-clause-ok c =
+    delayed_before c.args.self.now (task_of c.args.key) c.in-Some.before c.args.at
+    (ap (λ m. map_of.get m (task_of c.args.key)) (sym c.self.view_is)
+      ∙ found c.self.inside.moments.entries c.args.key
+      ∙ sym (sym c.in-Some.is ∙ c.copied.ensures ∙ c.get.ensures.value))
+    (omega (arith, c.if-at-before.false))
