@@ -88,7 +88,7 @@ hastened es es' ks ks' ks'' k copy before at h some lt same e f gone keeps o = r
   in_order = in_order_seen ks'' o;
   are = remove-alarms ks' ks'' (record { at = before; key = k }) gone keeps
       ∙ ap (λ s. set.remove s (record { at = before; task = task_of k }))
-        (ap alarms_of f ∙ insert-alarms ks (record { at = at; key = copy }) ∙ (λ i. set.insert (h.are i) (record { at = at; task = same i })))
+      (ap alarms_of f ∙ insert-alarms ks (record { at = at; key = copy }) ∙ (λ i. set.insert (h.are i) (record { at = at; task = same i })))
       ∙ sym (alarms_hastened (delays_of es) (task_of k) at before some lt)
       ∙ ap alarm_set (sym (inserted es es' k at e));
 }

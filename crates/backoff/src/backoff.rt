@@ -4,10 +4,10 @@ ghost use Rattle.std.specs.FinMap as map;
 ghost use Rattle.definitions.specs.Board.{failures, failed, delay_after};
 ghost use Rattle.work_keys.specs.Tasks.{task_of};
 
-use work_keys::WorkKey;
 use std::alloc::{AllocError, Global};
 use std::collections::BTreeMap;
 use std::marker::Model;
+use work_keys::WorkKey;
 
 /// How often each key failed in a row.
 #[derive(Drop)]

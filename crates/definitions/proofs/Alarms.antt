@@ -125,11 +125,11 @@ module _ (m : Delays) (k : Task) where
   alarms_hastened at before some h =
       same_set alarm_total alarm_tells _ _
       (λ a. contains-alarms (map_of.insert m k at) a
-          ∙ ap (λ x. is_moment x a.at) (get-insert task_total m k at a.task)
-          ∙ by a (same a.task k) refl
-          ∙ (λ i. not (sym (at_alarm a k before) i) && (sym (at_alarm a k at) i || set.contains (alarm_set m) a))
-          ∙ ap (λ b. not (eq_by_cmp alarm_cmp a (alarm_of (k, before))) && b) (sym (contains-insert alarm_total (alarm_set m) (alarm_of (k, at)) a))
-          ∙ sym (contains-remove alarm_total (set.insert (alarm_set m) (alarm_of (k, at))) (alarm_of (k, before)) a))
+      ∙ ap (λ x. is_moment x a.at) (get-insert task_total m k at a.task)
+      ∙ by a (same a.task k) refl
+      ∙ (λ i. not (sym (at_alarm a k before) i) && (sym (at_alarm a k at) i || set.contains (alarm_set m) a))
+      ∙ ap (λ b. not (eq_by_cmp alarm_cmp a (alarm_of (k, before))) && b) (sym (contains-insert alarm_total (alarm_set m) (alarm_of (k, at)) a))
+      ∙ sym (contains-remove alarm_total (set.insert (alarm_set m) (alarm_of (k, at))) (alarm_of (k, before)) a))
     where
       apart : (x y : Bool) → (x ≡ true → y ≡ true → ⊥) → x ≡ (not (y && true) && ((x && true) || y))
       apart true true no_both = absurd (no_both refl refl)
@@ -154,10 +154,10 @@ module _ (m : Delays) (k : Task) where
   alarms_removed before some =
       same_set alarm_total alarm_tells _ _
       (λ a. contains-alarms (map_of.remove m k) a
-          ∙ ap (λ x. is_moment x a.at) (get-remove task_total m k a.task)
-          ∙ by a (same a.task k) refl
-          ∙ ap (λ b. not b && set.contains (alarm_set m) a) (sym (at_alarm a k before))
-          ∙ sym (contains-remove alarm_total (alarm_set m) (alarm_of (k, before)) a))
+      ∙ ap (λ x. is_moment x a.at) (get-remove task_total m k a.task)
+      ∙ by a (same a.task k) refl
+      ∙ ap (λ b. not b && set.contains (alarm_set m) a) (sym (at_alarm a k before))
+      ∙ sym (contains-remove alarm_total (alarm_set m) (alarm_of (k, before)) a))
     where
       gone : (y : Bool) → false ≡ (not (y && true) && y)
       gone true = refl
@@ -209,12 +209,12 @@ pub alarms_are : (m : Delays) (ks : List Alarm) → IsStrictlySortedBy alarm_cmp
 alarms_are m ks h is =
     ap map_of.keys
     (same_map alarm_total alarm_tells (map_of.from_entries (map {B = Alarm × Unit {0}} (λ (e : Task × ℕ). (alarm_of e, tt)) (map_of.entries m))) (map_of.from_entries (marked ks))
-      (λ q. get-from_entries alarm_total _ q
-          ∙ ap (find alarm_cmp q) (marked_entries (map_of.entries m))
-          ∙ find_mark q (map alarm_of (map_of.entries m))
-          ∙ ap mark (sym (contains-from_list alarm_total (map alarm_of (map_of.entries m)) q) ∙ ap (λ s. set.contains s q) (sym is) ∙ contains-from_list alarm_total ks q)
-          ∙ sym (find_mark q ks)
-          ∙ sym (get-from_entries alarm_total _ q)))
+    (λ q. get-from_entries alarm_total _ q
+    ∙ ap (find alarm_cmp q) (marked_entries (map_of.entries m))
+    ∙ find_mark q (map alarm_of (map_of.entries m))
+    ∙ ap mark (sym (contains-from_list alarm_total (map alarm_of (map_of.entries m)) q) ∙ ap (λ s. set.contains s q) (sym is) ∙ contains-from_list alarm_total ks q)
+    ∙ sym (find_mark q ks)
+    ∙ sym (get-from_entries alarm_total _ q)))
     ∙ ap (map (λ (e : Alarm × Unit {0}). e.0)) (as_entries alarm_total ks h)
     ∙ firsts ks
 

@@ -135,7 +135,7 @@ module _ (now : ℕ) (m : Delays) (ks : List Alarm) (h : AreAlarms m ks) (l : Al
       by q (Some b) is =
           ap (λ c. cond (not c) (Some b) None)
           (among now (alarm_of (q, b)) ks l
-            (sym (contains-from_list alarm_total ks (alarm_of (q, b))) ∙ ap (λ s. set.contains s (alarm_of (q, b))) h.are ∙ contains-alarms m (alarm_of (q, b)) ∙ ap (λ o. is_moment o b) is ∙ same_at_itself b))
+          (sym (contains-from_list alarm_total ks (alarm_of (q, b))) ∙ ap (λ s. set.contains s (alarm_of (q, b))) h.are ∙ contains-alarms m (alarm_of (q, b)) ∙ ap (λ o. is_moment o b) is ∙ same_at_itself b))
 
 -- where the first alarm is later, or there is none, no key is due
 pub none_due : (now : ℕ) (m : Delays) → AreAlarms m [] → due now m ≡ []

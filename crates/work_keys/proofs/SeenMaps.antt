@@ -86,3 +86,32 @@ module _ {K N X Y : Type 0} (R : N → N → Ordering) (o : IsTotalOrder R) (apa
       by q true e = ap (λ t. under t new) (tells q (say k) e) ∙ under_key k new ∙ ap (option_map h) gone
       by q false e =
           under_test q new ∙ ap (option_map h) (keeps (λ x. same q (say x)) (is_test q) (is_apart q e)) ∙ sym (under_test q old) ∙ sym (get-from_entries o (seen_entries say h old) q)
+
+  -- the same for any query, by what it looks for
+  under_query : (query : K → Ordering) (t : N) → ((a : K) → query a ≡ R t (say a)) → (es : List (K × X)) → under t es ≡ option_map h (lookup (is_at query) es)
+  under_query query t fits [] = refl
+  under_query query t fits (e ∷ es) = (λ i. cond (is_eq (sym (fits e.0) i)) (Some (h e.1)) (under_query query t fits es i)) ∙ by (is_at query e.0)
+    where
+      by : (b : Bool) → cond b (Some (h e.1)) (option_map h (lookup (is_at query) es)) ≡ option_map h (cond b (Some e.1) (lookup (is_at query) es))
+      by true = refl
+      by false = refl
+
+  pub get-by : (query : K → Ordering) (t : N) → ((a : K) → query a ≡ R t (say a)) → (es : List (K × X)) → map_of.get (seen es) t ≡ option_map h (lookup (is_at query) es)
+  get-by query t fits es = get-from_entries o (seen_entries say h es) t ∙ under_query query t fits es
+
+  -- a map with w at what the query looks for, and the others as they were
+  pub update-by : (query : K → Ordering) (t : N) → ((a : K) → query a ≡ R t (say a)) → (old new : List (K × X)) (w : Option X) → lookup (is_at query) new ≡ w → KeepsOthers (eq_by_cmp cmp) (is_at query) old new
+      → (q : N) → map_of.get (seen new) q ≡ cond (same q t) (option_map h w) (map_of.get (seen old) q)
+  unfolding KeepsOthers
+  update-by query t fits old new w is keeps q = get-from_entries o (seen_entries say h new) q ∙ by (same q t) refl
+    where
+      is_test : IsKeyTest (eq_by_cmp cmp) (λ x. same q (say x))
+      is_test = λ x y e. ap (λ t. same t (say y)) (tells q (say x) e) ∙ ap is_eq (sym (alike x y))
+
+      is_apart : same q t ≡ false → AreApart (is_at query) (λ x. same q (say x))
+      is_apart e = λ y f. ap (same q) (sym (tells t (say y) (ap is_eq (sym (fits y)) ∙ f))) ∙ e
+
+      by : (b : Bool) → same q t ≡ b → under q new ≡ cond b (option_map h w) (map_of.get (seen old) q)
+      by true e = ap (λ t. under t new) (tells q t e) ∙ under_query query t fits new ∙ ap (option_map h) is
+      by false e =
+          under_test q new ∙ ap (option_map h) (keeps (λ x. same q (say x)) is_test (is_apart e)) ∙ sym (under_test q old) ∙ sym (get-from_entries o (seen_entries say h old) q)

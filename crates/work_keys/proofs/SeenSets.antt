@@ -1,6 +1,7 @@
 -- What a test, an insert and a removal do to a set, by what its keys say.
 use Rattle.std.proofs.Common.{◌≡◌, refl, sym, ap, ◌∙◌, List, [], ◌∷◌, Bool, true, false, not, ◌&&◌, ◌||◌, map, Ordering, Less, Equal, Greater}
-use Rattle.std.specs.Cmp.{Equal-is, IsTotalOrder}
+use mathlib.Core.Bool.{true≢false}
+use Rattle.std.specs.Cmp.{Equal-is, IsTotalOrder, tied_itself}
 use Rattle.std.specs.List.{list_any}
 use Rattle.std.specs.Ordering.{eq_by_cmp, is_eq, match_ordering}
 use Rattle.std.specs.BTreeMap.{is_at}
@@ -8,7 +9,7 @@ use Rattle.std.specs.BTreeSet.{insert_key}
 use Rattle.std.specs.Set.{KeepsOthers}
 use Rattle.std.specs.Map.{IsKeyTest, AreApart}
 use Rattle.std.specs.FinSet as set
-use Rattle.std.specs.FinSet.{IsAntisymmetric, contains-from_list, contains-insert, contains-remove, same_set}
+use Rattle.std.specs.FinSet.{IsAntisymmetric, contains-from_list, contains-insert, contains-remove, contains-empty, empty_of_len, same_set}
 use Rattle.work_keys.specs.Seen.{seen_set}
 
 module _ {K N : Type 0} (R : N → N → Ordering) (o : IsTotalOrder R) (apart : IsAntisymmetric R) (say : K → N) (cmp : K → K → Ordering) (alike : (a b : K) → cmp a b ≡ R (say a) (say b)) where
@@ -77,3 +78,29 @@ module _ {K N : Type 0} (R : N → N → Ordering) (o : IsTotalOrder R) (apart :
       by : (q : N) (b : Bool) → same q (say k) ≡ b → list_any (λ x. same q (say x)) new ≡ (not b && set.contains (seen old) q)
       by q true e = ap (λ t. list_any (λ x. same t (say x)) new) (tells q (say k) e) ∙ at_seen k new ∙ gone
       by q false e = keeps (λ x. same q (say x)) (is_test q) (is_apart q e) ∙ sym (contains-said old q)
+
+  -- the same for any query, by what it looks for
+  at_query : (query : K → Ordering) (t : N) → ((a : K) → query a ≡ R t (say a)) → (ks : List K) → list_any (λ x. same t (say x)) ks ≡ list_any (is_at query) ks
+  at_query query t fits [] = refl
+  at_query query t fits (x ∷ ks) = λ i. is_eq (sym (fits x) i) || at_query query t fits ks i
+
+  pub remove-by : (query : K → Ordering) (t : N) → ((a : K) → query a ≡ R t (say a)) → (old new : List K) → list_any (is_at query) new ≡ false → KeepsOthers (eq_by_cmp cmp) (is_at query) old new → seen new ≡ set.remove (seen old) t
+  unfolding KeepsOthers
+  remove-by query t fits old new gone keeps = same_set o apart _ _ (λ q. contains-said new q ∙ by q (same q t) refl ∙ sym (contains-remove o (seen old) t q))
+    where
+      is_test : (q : N) → IsKeyTest (eq_by_cmp cmp) (λ x. same q (say x))
+      is_test q = λ x y e. ap (λ t. same t (say y)) (tells q (say x) e) ∙ ap is_eq (sym (alike x y))
+
+      is_apart : (q : N) → same q t ≡ false → AreApart (is_at query) (λ x. same q (say x))
+      is_apart q e = λ y f. ap (same q) (sym (tells t (say y) (ap is_eq (sym (fits y)) ∙ f))) ∙ e
+
+      by : (q : N) (b : Bool) → same q t ≡ b → list_any (λ x. same q (say x)) new ≡ (not b && set.contains (seen old) q)
+      by q true e = ap (λ t. list_any (λ x. same t (say x)) new) (tells q t e) ∙ at_query query t fits new ∙ gone
+      by q false e = keeps (λ x. same q (say x)) (is_test q) (is_apart q e) ∙ sym (contains-said old q)
+
+  -- a set has no members only where there are no keys
+  pub has_none : (ks : List K) → set.len (seen ks) ≡ 0 → ks ≡ []
+  has_none [] h = refl
+  has_none (k ∷ ks) h =
+      absurd (true≢false (sym (contains-insert o (seen ks) (say k) (say k) ∙ ap (λ b. b || set.contains (seen ks) (say k)) (ap is_eq (tied_itself o (say k))))
+      ∙ ap (λ s. set.contains s (say k)) (empty_of_len (seen (k ∷ ks)) h) ∙ contains-empty R (say k)))

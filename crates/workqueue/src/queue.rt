@@ -4,10 +4,10 @@ ghost use Rattle.std.specs.VecDeque.{deque_len, deque_capacity};
 ghost use Rattle.definitions.specs.Board.{idle, added, got, handed, done, shut};
 ghost use Rattle.work_keys.specs.Tasks.{task_of};
 
-use work_keys::WorkKey;
 use std::alloc::{AllocError, Global};
 use std::collections::{BTreeSet, VecDeque};
 use std::marker::Model;
+use work_keys::WorkKey;
 
 /// The keys that wait, first come first; those that want a look; those in workers' hands.
 /// The list has room for each key in a worker's hands, so that `done` can put it back.

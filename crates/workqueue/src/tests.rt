@@ -3,8 +3,8 @@ use crate::Queue;
 use definitions::controllers::Controller;
 use definitions::kinds::Kind;
 use meta::keys::Key;
-use work_keys::WorkKey;
 use std::alloc::{AllocError, Global};
+use work_keys::WorkKey;
 
 fn web(alloc: Global) -> Result<WorkKey, AllocError> {
     Ok(WorkKey {

@@ -21,6 +21,6 @@ pub returns-in-Some-2-clause-ok : goal.returns-in-Some-2-clause-ok
 returns-in-Some-2-clause-ok c =
     delayed_before c.args.self.now (task_of c.args.key) c.in-Some.before c.args.at
     (ap (λ m. map_of.get m (task_of c.args.key)) (sym c.self.view_is)
-      ∙ found c.self.inside.moments.entries c.args.key
-      ∙ sym (sym c.in-Some.is ∙ c.copied.ensures ∙ c.get.ensures.value))
+    ∙ found c.self.inside.moments.entries c.args.key
+    ∙ sym (sym c.in-Some.is ∙ c.copied.ensures ∙ c.get.ensures.value))
     (omega (arith, c.if-at-before.false))

@@ -12,12 +12,12 @@ invariant_of-self-in-Err c =
     let ks = c.self.inside.alarms.keys in
     kept es c.remove.new.self.entries ks c.insert-2.new.self.keys c.self.invariant
     (taken_back es c.insert.new.self.entries c.remove.new.self.entries c.args.key c.in_ok-try_copy.field-0 c.in-Err.refused.value.key c.args.at
-      (ap (λ m. map_of.get m (task_of c.args.key)) c.self.view_is ∙ c.requires)
-      c.in_ok-try_copy.ensures
-      (ap (λ a. task_of a.key) c.in-Err.ensures.value_returned)
-      c.in_ok-insert.ensures.entries
-      c.remove.ensures.updates.1
-      c.remove.ensures.updates.3)
+    (ap (λ m. map_of.get m (task_of c.args.key)) c.self.view_is ∙ c.requires)
+    c.in_ok-try_copy.ensures
+    (ap (λ a. task_of a.key) c.in-Err.ensures.value_returned)
+    c.in_ok-insert.ensures.entries
+    c.remove.ensures.updates.1
+    c.remove.ensures.updates.3)
     c.in-Err.ensures.err
 
 pub returns-in-Err-clause-err : goal.returns-in-Err-clause-err

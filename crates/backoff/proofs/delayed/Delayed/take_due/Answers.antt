@@ -34,7 +34,7 @@ returns-then-first-now-clause-all c =
     sym
     (ap (still_delayed c.args.now) (sym c.self.view_is)
     ∙ all_still_delayed c.args.now (delays_of c.self.inside.moments.entries) (alarm_of c.in-Some.first.now) (map alarm_of head.0) (subst (λ ks. AreAlarms (delays_of c.self.inside.moments.entries) (map alarm_of ks)) head.1 c.self.invariant)
-      (grind (arith, nat_tests, c.if-first-now.true))
+    (grind (arith, nat_tests, c.if-first-now.true))
     ∙ c.self.view_is)
 
 pub invariant_of-self-2 : goal.invariant_of-self-2
