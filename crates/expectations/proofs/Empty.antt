@@ -1,5 +1,5 @@
 -- When nothing is left.
-use Rattle.std.proofs.Common.{◌≡◌, ◌==◌, ◌&&◌, refl, true, false, Bool, ap, sym, ◌∙◌, nat_eq, zero, suc, length, string_bytes, String, Global, ℕ, List, [], ◌∷◌, arith}
+use Rattle.std.proofs.Common.{◌≡◌, ◌==◌, ◌&&◌, refl, ap, sym, ◌∙◌, nat_eq, zero, suc, length, string_bytes, String, Global, ℕ, List, [], ◌∷◌, arith}
 use Rattle.std.proofs.lemmas.Bool.Decides.{nat_tests}
 use Rattle.std.specs.FinSet as set
 use Rattle.std.specs.FinSet.{len-empty}

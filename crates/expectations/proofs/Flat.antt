@@ -1,12 +1,12 @@
 -- A table of maps as one table.
-use Rattle.std.proofs.Common.{◌≡◌, refl, sym, ap, subst, ◌∙◌, ℕ, List, [], ◌∷◌, ◌++◌, ◌&&◌, Bool, true, false, not, cond, Option, None, Some, T, Ordering, Less, Equal, Greater}
+use Rattle.std.proofs.Common.{◌≡◌, refl, sym, ap, ◌∙◌, ℕ, List, [], ◌∷◌, ◌++◌, ◌&&◌, Bool, true, false, not, cond, Option, None, Some, T, Ordering, Less, Equal, Greater}
 use Rattle.std.specs.Cmp.{Equal-is, eq_by_cmp_equiv}
 use Rattle.std.specs.Ordering.{eq_by_cmp, is_eq, is_lt, ordering_then}
 use Rattle.std.specs.FinMap as map_of
 use Rattle.std.specs.FinMap.{find, is_sorted, entries_sorted, get-entries, get-from_entries, get-insert, get-retain_keys, same_map}
 use Rattle.std.specs.FinMap.Entries.{below_all}
 use Rattle.definitions.specs.Names.{Name, name_cmp, is_named}
-use Rattle.definitions.specs.Expectations.{Owner, owner_cmp, Expectation, Table, change, forgotten}
+use Rattle.definitions.specs.Expectations.{Owner, owner_cmp, Expectation, change, forgotten}
 use Rattle.definitions.proofs.TaskOrder.{name_total, name_tells}
 use Rattle.definitions.proofs.Expected.{owner_total, keys_tied}
 use Rattle.definitions.proofs.Falling.{owner_tells}

@@ -1,5 +1,5 @@
 -- Sets and maps of texts, by their bytes.
-use Rattle.std.proofs.Common.{◌≡◌, refl, ℕ, List, Bool, false, cond, Option, None, option_map, string_bytes, String, Global, [], nat_cmp, Ordering}
+use Rattle.std.proofs.Common.{◌≡◌, refl, ℕ, List, false, cond, Option, option_map, string_bytes, String, Global, [], Ordering}
 use Rattle.std.specs.Cmp.{IsTotalOrder}
 use Rattle.std.specs.Cmp.Lexicographic.{nat_list_cmp_total}
 use Rattle.std.specs.List.{list_any}

@@ -1,11 +1,11 @@
 -- What a look-up, a change and a removal in the maps do to the table.
-use Rattle.std.proofs.Common.{◌≡◌, refl, sym, ap, ◌∙◌, ℕ, List, [], Bool, true, false, cond, Option, None, Some, option_map, string_bytes, String, Global, Ordering, Result, Ok, Err, OnOk, OnErr, map, ◌++◌, ◌∷◌}
+use Rattle.std.proofs.Common.{◌≡◌, refl, sym, ap, ◌∙◌, ℕ, List, [], true, cond, Option, None, Some, option_map, string_bytes, String, Global, Ordering, Result, Ok, Err, OnOk, OnErr, map, ◌++◌, ◌∷◌}
 use mathlib.Core.List.{map-append}
 use Rattle.std.specs.Option.{IsSome}
 use Rattle.std.specs.BTreeSet.{insert_key}
 use Rattle.std.specs.FinSet as set
 use Rattle.std.specs.Ordering.{eq_by_cmp}
-use Rattle.std.specs.BTreeMap.{BTreeMap, is_at, insert_entry}
+use Rattle.std.specs.BTreeMap.{BTreeMap, is_at}
 use Rattle.std.specs.Map.{lookup, KeepsOthers}
 use Rattle.std.specs.FinMap as map_of
 use Rattle.std.specs.FinMap.{get-insert, same_map}
@@ -22,8 +22,8 @@ use Rattle.meta.proofs.KeyOrder.{key_cmp-name_cmp}
 use Rattle.work_keys.specs.Seen.{seen_map, seen_set}
 use Rattle.work_keys.proofs.SeenMaps as maps
 use Rattle.expectations.specs.declared.expectation.Expectation.{Expectation}
-use Rattle.expectations.specs.Seen.{uid_cmp, Owners, Nested, expectation_of, owners_of, nested_of, flat, changed_from, changed_at}
-use Rattle.expectations.proofs.SeenTexts.{uid_total, uid_tells, text_cmp, at_text, get-text, insert-text, insert-texts, update-text}
+use Rattle.expectations.specs.Seen.{uid_cmp, Owners, expectation_of, owners_of, nested_of, flat, changed_from, changed_at}
+use Rattle.expectations.proofs.SeenTexts.{uid_total, uid_tells, text_cmp, at_text, get-text, insert-texts, update-text}
 use Rattle.expectations.proofs.Flat.{within, get-flat, flat_change, flat_absent, flat_forgotten, flat_put, put_back}
 
 abbrev pub Texts : Type 0

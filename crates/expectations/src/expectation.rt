@@ -1,4 +1,9 @@
 //! What one ReplicaSet waits for.
+ghost use Rattle.std.specs.Prelude.{◌≡◌, ◌-◌, ◌==◌, ◌&&◌, Some};
+ghost use Rattle.std.specs.FinSet as set;
+ghost use Rattle.definitions.specs.Expectations.{is_met};
+ghost use Rattle.expectations.specs.Seen.{expectation_of};
+
 use std::collections::BTreeSet;
 
 /// How many pods are still to be seen created, the uids of those that are still to be seen deleted, and since when.
@@ -8,12 +13,6 @@ pub struct Expectation {
     pub deletions: BTreeSet<String>,
     pub since: u64,
 }
-
-ghost use Rattle.std.specs.Prelude.{◌≡◌};
-ghost use Rattle.definitions.specs.Expectations.{is_met};
-ghost use Rattle.expectations.specs.Seen.{expectation_of};
-ghost use Rattle.std.specs.Prelude.{Some, ◌-◌, ◌==◌, ◌&&◌};
-ghost use Rattle.std.specs.FinSet as set;
 
 impl Expectation {
     /// One creation less, if one is left.

@@ -1,5 +1,5 @@
 -- Sets of keys of work, seen as sets of tasks, and maps from them.
-use Rattle.std.proofs.Common.{◌≡◌, List, Bool, true, false, Option, None, option_map}
+use Rattle.std.proofs.Common.{◌≡◌, List, true, false, None, option_map}
 use Rattle.std.specs.List.{list_any}
 use Rattle.std.specs.Ordering.{eq_by_cmp, is_eq}
 use Rattle.std.specs.BTreeMap.{is_at, insert_entry}

@@ -1,6 +1,5 @@
 use Rattle.std.specs.FinSet as set
 use Rattle.std.proofs.Common.{ap, ◌∙◌}
-use Rattle.std.specs.BTreeMap.{BTreeMap}
 use Rattle.expectations.specs.Seen.{owners_of}
 use Rattle.expectations.proofs.Steps.{is_there, changed_text, unchanged_text}
 use Rattle.expectations.proofs.owners.see_deleted.Goals as goal
