@@ -1,4 +1,9 @@
+pub mod Alarms
+pub mod BoardRuns
 pub mod Cases
+pub mod Due
+pub mod Expected
+pub mod Falling
 pub mod JsonMembers
 pub mod Limits
 pub mod NoFloatsRead
@@ -7,5 +12,6 @@ pub mod Paths
 pub mod PutLaws
 pub mod ReadAgain
 pub mod Runs
+pub mod TaskOrder
 pub mod Uids
 pub mod VerbLaws

@@ -1,5 +1,9 @@
+pub mod Board
+pub mod BoardLaws
 pub mod Codes
 pub mod Examples
+pub mod ExpectationLaws
+pub mod Expectations
 pub mod History
 pub mod HistoryCodes
 pub mod Kinds

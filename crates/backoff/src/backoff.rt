@@ -1,0 +1,76 @@
+//! Delays that grow with each failure.
+ghost use Rattle.std.specs.Prelude.{◌≡◌, ◌+◌, min, IfOk, OnOk, OnErr};
+ghost use Rattle.std.specs.FinMap as map;
+ghost use Rattle.definitions.specs.Board.{failures, failed, delay_after};
+ghost use Rattle.work_keys.specs.Tasks.{task_of};
+
+use std::alloc::{AllocError, Global};
+use std::collections::BTreeMap;
+use std::marker::Model;
+use work_keys::WorkKey;
+
+/// How often each key failed in a row.
+#[derive(Drop)]
+pub struct Backoff {
+    failures: BTreeMap<WorkKey, u32>,
+}
+
+impl Model for Backoff {
+    ghost use Rattle.definitions.specs.Board.{Failures, counts_code};
+
+    ghost Value = { Failures };
+
+    ghost coded = { counts_code };
+
+    ghost use Rattle.work_keys.specs.Seen.{by_task};
+
+    ghost view = { λ b. by_task (λ f. f) b.failures.entries };
+}
+
+impl Backoff {
+    /// No key has failed.
+    pub fn new(alloc: Global) -> Backoff
+        ensures { result ≡ map.empty }
+    {
+        Backoff {
+            failures: BTreeMap::new(alloc),
+        }
+    }
+
+    /// How long a key that failed waits, in milliseconds: twice as long after each failure, and at most 1,000 seconds.
+    pub fn delay(&mut self, key: &WorkKey) -> Result<u64, AllocError>
+        ensures ok { OnOk result (self.new ≡ failed (task_of key.now) self.old) }
+        ensures delay { IfOk result (λ d. d ≡ delay_after (failures (task_of key.now) self.old)) }
+        ensures err { OnErr result (self.new ≡ self.old) }
+    {
+        let before = self.failures.get(key).copied().unwrap_or(0);
+        let kept = key.try_copy()?;
+        self.failures.insert(kept, one_more(before))?;
+        Ok(delay_of(before))
+    }
+
+    /// A key that succeeded has no failures.
+    pub fn forget(&mut self, key: &WorkKey)
+        ensures { self.new ≡ map.remove self.old (task_of key.now) }
+    {
+        self.failures.remove(key);
+    }
+}
+
+/// One more failure, of which 32 are counted.
+fn one_more(failures: u32) -> u32
+    ensures { result ≡ min (failures + 1) 32 }
+{
+    if failures < 32 { failures + 1 } else { 32 }
+}
+
+/// The delay after some failures. The 18th doubling passes the ceiling.
+fn delay_of(failures: u32) -> u64
+    ensures { result ≡ delay_after failures }
+{
+    if failures < 18 {
+        5 * 2u64.pow(failures)
+    } else {
+        1_000_000
+    }
+}

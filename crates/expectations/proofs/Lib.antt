@@ -1,0 +1,4 @@
+pub mod Empty
+pub mod Flat
+pub mod SeenTexts
+pub mod Steps

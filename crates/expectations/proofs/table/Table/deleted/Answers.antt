@@ -1,0 +1,20 @@
+use Rattle.std.specs.FinSet as set
+use Rattle.std.proofs.Common.{ap, ◌∙◌}
+use Rattle.definitions.specs.Expectations.{deleted}
+use Rattle.expectations.proofs.Steps.{is_there, owner, table_of, changed_key, unchanged_key}
+use Rattle.expectations.proofs.table.Table.deleted.Goals as goal
+use Rattle.expectations.proofs.table.Table.deleted.Goals.{in-Some, in_default}
+
+pub returns : goal.returns
+returns c =
+    elim c.match-get_mut.branch [
+      | in-Some w ↦
+          let there = (c.get_mut.follows.holds w.see_deleted.new.owners).3 (is_there _ _ w.in-Some.ensures.value) in
+          ap (λ t. table_of t.by_key.entries) w.self-inside-is
+          ∙ changed_key (λ e. record e { deletions = set.remove e.deletions c.args.pod.now }) c.args.key.now c.args.uid.now c.self.inside.by_key.entries (c.get_mut.follows.lender w.see_deleted.new.owners).entries w.in-Some.owners.now w.see_deleted.new.owners w.in-Some.ensures.value there.1 there.3 w.see_deleted.ensures
+      | in_default w ↦
+          ap (λ t. table_of t.by_key.entries) w.self-inside-is
+          ∙ ap (λ m. table_of m.entries) c.get_mut.follows.holds-at-none
+          ∙ unchanged_key (λ e. record e { deletions = set.remove e.deletions c.args.pod.now }) c.args.key.now c.args.uid.now c.self.inside.by_key.entries w.in_default.ensures.value
+    ]
+    ∙ ap (deleted (owner c.args.key.now c.args.uid.now) c.args.pod.now) c.self.view_is

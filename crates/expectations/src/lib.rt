@@ -1,0 +1,10 @@
+//! What controllers have asked for and not yet seen.
+#![tactic(auto)]
+
+mod expectation;
+mod owners;
+mod table;
+#[cfg(test)]
+mod tests;
+
+pub use crate::table::Table;

@@ -1,0 +1,51 @@
+//! The ReplicaSets that have had one key, by uid.
+ghost use Rattle.std.specs.Prelude.{◌≡◌, ◌-◌, OnOk, OnErr, string_bytes};
+ghost use Rattle.std.specs.FinMap as map;
+ghost use Rattle.std.specs.FinSet as set;
+ghost use Rattle.definitions.specs.Expectations.{is_met};
+ghost use Rattle.expectations.specs.Seen.{owners_of, expectation_of, changed_at};
+
+use crate::expectation::Expectation;
+use std::alloc::AllocError;
+use std::collections::BTreeMap;
+
+/// Sets what a ReplicaSet waits for.
+pub fn expect(
+    owners: &mut BTreeMap<String, Expectation>,
+    uid: String,
+    expectation: Expectation,
+) -> Result<(), AllocError>
+    ensures ok { OnOk result (owners_of owners.new ≡ map.insert (owners_of owners.old) (string_bytes uid) (expectation_of expectation)) }
+    ensures err { OnErr result (owners_of owners.new ≡ owners_of owners.old) }
+{
+    owners.insert(uid, expectation)?;
+    Ok(())
+}
+
+/// One creation less for a ReplicaSet, if one is left.
+pub fn see_created(owners: &mut BTreeMap<String, Expectation>, uid: &str)
+    ensures { owners_of owners.new ≡ changed_at (λ e. record e { creations = e.creations - 1 }) uid.now (owners_of owners.old) }
+{
+    if let Some(expectation) = owners.get_mut(uid) {
+        expectation.see_created();
+    }
+}
+
+/// One deletion less for a ReplicaSet, if it is among them.
+pub fn see_deleted(owners: &mut BTreeMap<String, Expectation>, uid: &str, pod: &str)
+    ensures { owners_of owners.new ≡ changed_at (λ e. record e { deletions = set.remove e.deletions pod.now }) uid.now (owners_of owners.old) }
+{
+    if let Some(expectation) = owners.get_mut(uid) {
+        expectation.see_deleted(pod);
+    }
+}
+
+/// Whether a ReplicaSet waits for nothing.
+pub fn is_satisfied(owners: &BTreeMap<String, Expectation>, uid: &str, now: u64) -> bool
+    ensures { result ≡ is_met now (map.get (owners_of owners.now) uid.now) }
+{
+    match owners.get(uid) {
+        Some(expectation) => expectation.is_met(now),
+        None => true,
+    }
+}

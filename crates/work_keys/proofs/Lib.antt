@@ -1,0 +1,4 @@
+pub mod SeenMaps
+pub mod SeenSets
+pub mod SeenTasks
+pub mod WorkKeyOrder

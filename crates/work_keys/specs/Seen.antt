@@ -1,0 +1,26 @@
+-- Sets and maps of keys, seen by what the keys say.
+use Rattle.std.specs.Prelude.{List, map}
+use Rattle.std.specs.declared.cmp.Ordering.{Ordering}
+use Rattle.std.specs.FinMap as map_of
+use Rattle.std.specs.FinSet as set
+use Rattle.definitions.specs.Board.{Tasks, task_cmp}
+use Rattle.work_keys.specs.declared.work_key.WorkKey.{WorkKey}
+use Rattle.work_keys.specs.Tasks.{task_of}
+
+-- the entries, each key and value seen
+abbrev pub seen_entries : {K N X Y : Type 0} → (K → N) → (X → Y) → List (K × X) → List (N × Y)
+seen_entries say h es = map (λ e. (say e.0, h e.1)) es
+
+abbrev pub seen_map : {K N X Y : Type 0} (R : N → N → Ordering) → (K → N) → (X → Y) → List (K × X) → map_of.FinMap R Y
+seen_map R say h es = map_of.from_entries (seen_entries say h es)
+
+abbrev pub seen_set : {K N : Type 0} (R : N → N → Ordering) → (K → N) → List K → set.FinSet R
+seen_set R say ks = set.from_list (map say ks)
+
+-- the tasks of keys of work
+abbrev pub tasks_of : List WorkKey → Tasks
+tasks_of ks = seen_set task_cmp task_of ks
+
+-- what stands at keys of work, by task
+abbrev pub by_task : {X Y : Type 0} → (X → Y) → List (WorkKey × X) → map_of.FinMap task_cmp Y
+by_task h es = seen_map task_cmp task_of h es

@@ -1,0 +1,26 @@
+//! Keys of work.
+ghost use Rattle.std.specs.Prelude.{◌≡◌, IfOk};
+ghost use Rattle.work_keys.specs.Tasks.{task_of};
+
+use definitions::controllers::Controller;
+use meta::keys::Key;
+use std::alloc::AllocError;
+
+/// A key of work: the controller that is to look, and the object that it is to look at. They go by controller, then key.
+#[derive(Debug, PartialEq, Eq, PartialOrd, Ord, Drop)]
+pub struct WorkKey {
+    pub controller: Controller,
+    pub key: Key,
+}
+
+impl WorkKey {
+    /// A copy of the key. The error is want of memory.
+    pub fn try_copy(&self) -> Result<WorkKey, AllocError>
+        ensures { IfOk result (λ k. task_of k ≡ task_of self.now) }
+    {
+        Ok(WorkKey {
+            controller: self.controller,
+            key: self.key.try_copy()?,
+        })
+    }
+}
