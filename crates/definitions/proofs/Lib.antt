@@ -4,8 +4,10 @@ pub mod Limits
 pub mod NoFloatsRead
 pub mod Past
 pub mod Paths
+pub mod Played
 pub mod PutLaws
 pub mod ReadAgain
 pub mod Runs
+pub mod Streamed
 pub mod Uids
 pub mod VerbLaws

@@ -1,5 +1,7 @@
+pub mod Changes
 pub mod Codes
 pub mod Examples
+pub mod Frames
 pub mod History
 pub mod HistoryCodes
 pub mod Kinds
@@ -13,7 +15,10 @@ pub mod Reading
 pub mod Refusals
 pub mod Revisions
 pub mod Schemas
+pub mod Streams
 pub mod Targets
 pub mod Uids
 pub mod Values
 pub mod Verbs
+pub mod WatchExamples
+pub mod WatchLaws

@@ -3,8 +3,11 @@
 #![tactic(auto)]
 
 pub mod examples;
+pub mod frames;
 pub mod kinds;
 pub mod laws;
 pub mod methods;
 pub mod refusals;
 pub mod schemas;
+pub mod watch_examples;
+pub mod watch_laws;
