@@ -7,7 +7,6 @@ use Rattle.framing.specs.Texts.{ReadsAs, ReadsAll}
 use Rattle.framing.specs.Decoders.{fed, opened, left, all_fed}
 use Rattle.definitions.specs.declared.frames.FrameFault.{FrameFault}
 use Rattle.definitions.specs.declared.frames.FrameFault.TheVariants.{TooLong}
-use Rattle.std.proofs.lemmas.Bool.{ne_eqb}
 use Rattle.framing.proofs.Cutting.{lines-append, rest-append, lines-line, rest-line, lines-partial, rest-partial, Splits-lines, before, before_rest, lines_before, rest_before}
 
 -- a line first

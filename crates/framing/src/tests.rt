@@ -1,8 +1,8 @@
 //! Runs on bytes from outside.
 use crate::decoder::Decoder;
-use crate::texts::{bookmark_text, frame_text};
+use crate::texts::{bookmark_text, error_text, frame_text};
 use definitions::frames::{ChangeKind, FrameFault, FrameKind};
-use meta::{Key, Kind, Object};
+use meta::{Fault, Key, Kind, Object};
 use revisions::Event;
 use serde_json::Value;
 use std::alloc::Global;
@@ -147,5 +147,23 @@ fn written_bookmarks(rt: HostRuntime) -> Result<(), Fail> {
     assert_eq!(rt; plain.len(), 103);
     let closing = bookmark_text(rt.alloc(), Kind::ConfigMap, true, 1)?;
     assert_eq!(rt; closing.len(), 154);
+    Ok(())
+}
+
+/// An error, byte for byte, and read back.
+#[test]
+fn written_error(rt: HostRuntime) -> Result<(), Fail> {
+    let fault = Fault::TooNew {
+        asked: 9,
+        present: 5,
+    };
+    let line = error_text(rt.alloc(), &fault)?;
+    assert_eq!(rt;
+        line.as_str(),
+        "{\"object\":{\"apiVersion\":\"v1\",\"code\":504,\"kind\":\"Status\",\"message\":\"Timeout: Too large resource version: 9, current: 5\",\"metadata\":{},\"reason\":\"Timeout\",\"status\":\"Failure\"},\"type\":\"ERROR\"}\n"
+    );
+    let found = Decoder::new(rt.alloc()).feed(rt.alloc(), line.as_bytes())?;
+    let kind = found.frames.last().map(|f| f.kind);
+    assert_eq!(rt; kind, Some(FrameKind::Error));
     Ok(())
 }

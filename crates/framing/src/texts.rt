@@ -3,12 +3,14 @@ ghost use Rattle.std.specs.Prelude.{◌≡◌, IfOk, false, string_bytes};
 ghost use Rattle.serde_json.specs.View.{view};
 ghost use Rattle.serde_json.specs.Data.{object};
 ghost use Rattle.serde_json.specs.Written.{has_float};
-ghost use Rattle.definitions.specs.Frames.{kind_text, frame_text, bookmark_metadata, bookmark_data, bookmark_event};
+ghost use Rattle.definitions.specs.Frames.{kind_text, frame_text, bookmark_metadata, bookmark_data, bookmark_event, error_event};
+ghost use Rattle.meta.specs.Faults.{refusal_of};
 ghost use Rattle.framing.specs.Events.{event_seen};
 ghost use Rattle.framing.specs.Texts.{framed_text, IsWithin, ReadsAs};
 
 use definitions::frames::FrameKind;
 use definitions::kinds::Kind;
+use meta::Fault;
 use revisions::Event;
 use serde_json::{Value, json};
 use std::alloc::{AllocError, Global};
@@ -87,5 +89,16 @@ pub fn bookmark_text(
 {
     let object = bookmark(alloc, kind, closing, revision)?;
     let line = line_of(alloc, FrameKind::Bookmark, &object)?;
+    Ok(line)
+}
+
+/// The line of an error, whose object is the fault's Status. The error is want of memory.
+pub fn error_text(alloc: Global, fault: &Fault) -> Result<String, AllocError>
+    ensures text { IfOk result (λ t. string_bytes t ≡ frame_text (error_event (refusal_of fault.now))) }
+    ensures reads_back { IfOk result (λ t. IsWithin (error_event (refusal_of fault.now))
+        → ReadsAs (string_bytes t) (error_event (refusal_of fault.now))) }
+{
+    let status = reply::body(alloc, fault)?;
+    let line = line_of(alloc, FrameKind::Error, &status)?;
     Ok(line)
 }
