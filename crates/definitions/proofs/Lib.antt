@@ -9,9 +9,11 @@ pub mod Limits
 pub mod NoFloatsRead
 pub mod Past
 pub mod Paths
+pub mod Played
 pub mod PutLaws
 pub mod ReadAgain
 pub mod Runs
+pub mod Streamed
 pub mod TaskOrder
 pub mod Uids
 pub mod VerbLaws

@@ -1,9 +1,11 @@
 pub mod Board
 pub mod BoardLaws
+pub mod Changes
 pub mod Codes
 pub mod Examples
 pub mod ExpectationLaws
 pub mod Expectations
+pub mod Frames
 pub mod History
 pub mod HistoryCodes
 pub mod Kinds
@@ -17,7 +19,10 @@ pub mod Reading
 pub mod Refusals
 pub mod Revisions
 pub mod Schemas
+pub mod Streams
 pub mod Targets
 pub mod Uids
 pub mod Values
 pub mod Verbs
+pub mod WatchExamples
+pub mod WatchLaws

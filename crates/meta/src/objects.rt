@@ -1,8 +1,10 @@
 //! Objects.
-ghost use Rattle.std.specs.Prelude.{◌≡◌, ◌++◌, Ok, OnOk, IfOk, IfErr, IfSome, is_some, map, codes, option_map, option_and_then, string_bytes, true, false};
+ghost use Rattle.std.specs.Prelude.{◌≡◌, ◌≤◌, ◌++◌, Some, Ok, OnOk, IfOk, IfErr, IfSome, is_some, map, codes, option_map, option_and_then, string_bytes, true, false};
 ghost use Rattle.serde_json.specs.Find.{as_array, as_object};
+ghost use Rattle.serde_json.specs.Data.{depth};
+ghost use Rattle.serde_json.specs.Read.{read, max_depth};
 ghost use Rattle.serde_json.specs.View.{view, items_view, members_view};
-ghost use Rattle.serde_json.specs.Written.{has_float, compact_text};
+ghost use Rattle.serde_json.specs.Written.{has_float, compact_text, IsInOrder};
 ghost use Rattle.definitions.specs.Metadata.{name, namespace, uid, version, is_being_deleted, label, owners, metadata, metadata_text};
 ghost use Rattle.definitions.specs.Reading.{reading};
 ghost use Rattle.definitions.specs.Verbs.{as_item};
@@ -64,9 +66,13 @@ impl Object {
         })
     }
 
-    /// The object's text, with no space. The error is want of memory.
+    /// The object's text, with no space, which is read back as the object. The error is want of memory.
     pub fn text(&self, alloc: Global) -> Result<String, AllocError>
-        ensures { IfOk result (λ s. string_bytes s ≡ compact_text self.now.value) }
+        ensures text { IfOk result (λ s. string_bytes s ≡ compact_text self.now.value) }
+        ensures order { IfOk result (λ s. IsInOrder (string_bytes s) self.now.value) }
+        ensures reads_back { IfOk result (λ s. depth self.now.value ≤ max_depth
+            → read (string_bytes s) ≡ Some self.now.value) }
+        ensures no_float { has_float self.now.value ≡ false }
     {
         self.value.to_string(alloc)
     }

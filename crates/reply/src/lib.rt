@@ -8,7 +8,7 @@ mod statuses;
 
 pub use messages::message;
 pub use reply::Reply;
-pub use statuses::{code, success_text, text};
+pub use statuses::{body, code, success_text, text};
 
 #[cfg(test)]
 mod tests;

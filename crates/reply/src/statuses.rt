@@ -105,8 +105,8 @@ fn bare_body(alloc: Global, fault: &Fault) -> Result<Value, AllocError>
     })
 }
 
-/// The body of a refusal.
-fn body(alloc: Global, fault: &Fault) -> Result<Value, AllocError>
+/// The body of a refusal, a Status. The error is want of memory.
+pub fn body(alloc: Global, fault: &Fault) -> Result<Value, AllocError>
     ensures { IfOk result (λ value. view value ≡ status_body (refusal_of fault.now)) }
 {
     let status = bare_body(alloc, fault)?;

@@ -1,2 +1,3 @@
 pub mod SeenMaps
 pub mod Histories
+pub mod Walks

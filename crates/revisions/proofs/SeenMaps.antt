@@ -1,15 +1,16 @@
 -- What an insert and a removal do to the members that a map is seen as.
-use Rattle.std.proofs.Common.{◌≡◌, List, Ordering}
+use Rattle.std.proofs.Common.{◌≡◌, List, Ordering, option_map}
 use denote.Ref.{Bor}
-use Rattle.std.specs.Map.{remove_entry}
+use Rattle.std.specs.Map.{remove_entry, lookup}
 use Rattle.std.specs.BTreeMap.{insert_entry, is_at}
 use Rattle.meta.specs.contracts.keys.KeyOrd.TheImpl as key_ord
 use Rattle.meta.specs.Keys.{name_of}
 use Rattle.definitions.specs.Names.{name_cmp}
+use Rattle.definitions.specs.History.{found}
 use Rattle.meta.specs.declared.keys.Key.{Key}
 use Rattle.meta.specs.declared.objects.Object.{Object}
 use Rattle.meta.proofs.KeyOrder.{key_cmp-name_cmp}
-use Rattle.meta.proofs.MapViews.{map-insert_entry, map-remove_entry_by}
+use Rattle.meta.proofs.MapViews.{map-insert_entry, map-remove_entry_by, option_map-lookup}
 use Rattle.revisions.specs.Seen.{seen}
 
 abbrev pub ref_cmp : Bor Key → Bor Key → Ordering
@@ -20,3 +21,6 @@ seen-insert_entry es k o = map-insert_entry (λ (k : Bor Key). name_of k.now) (�
 
 pub seen-remove_entry : (es : List (Bor Key × Bor Object)) (k : Key) → seen (remove_entry (is_at (λ (y : Bor Key). (key_ord.ghosts).cmp k y.now)) es) ≡ remove_entry (is_at (name_cmp (name_of k))) (seen es)
 seen-remove_entry es k = map-remove_entry_by (λ (k : Bor Key). name_of k.now) (λ (o : Bor Object). o.now.value) (λ (y : Bor Key). (key_ord.ghosts).cmp k y.now) (name_cmp (name_of k)) (λ y. key_cmp-name_cmp k y.now) es
+
+pub seen-lookup : (es : List (Bor Key × Bor Object)) (k : Key) → option_map (λ (o : Bor Object). o.now.value) (lookup (is_at (λ (y : Bor Key). (key_ord.ghosts).cmp k y.now)) es) ≡ found (name_of k) (seen es)
+seen-lookup es k = option_map-lookup (λ (k : Bor Key). name_of k.now) (λ (o : Bor Object). o.now.value) (λ (y : Bor Key). (key_ord.ghosts).cmp k y.now) (name_cmp (name_of k)) (λ y. key_cmp-name_cmp k y.now) es

@@ -1,4 +1,6 @@
 //! A journal.
+use crate::changes::changes_between;
+use crate::events::Event;
 use crate::past::{put_in, state_at};
 use meta::objects::Object;
 use meta::writes::Write;
@@ -31,6 +33,8 @@ impl Journal {
     ghost use Rattle.selector.specs.Views.{view_of};
     ghost use Rattle.definitions.specs.History as history;
     ghost use Rattle.definitions.specs.History.{writes, list, put_at};
+    ghost use Rattle.definitions.specs.Changes.{changes};
+    ghost use Rattle.revisions.specs.Events.{change_seen};
 
     /// A journal of no writes.
     pub fn new(alloc: Global) -> Journal
@@ -89,5 +93,20 @@ impl Journal {
             }
         }
         Ok(found)
+    }
+
+    /// The changes of a view by the writes with a revision above `from` and up to `to`, in order. The writes are gone
+    /// through once. The error is want of memory.
+    pub fn changes(
+        &self,
+        alloc: Global,
+        view: &View,
+        from: u64,
+        to: u64,
+    ) -> Result<Vec<Event>, AllocError>
+        ensures { IfOk result (λ found. map change_seen found.items
+            ≡ changes self.now (view_of view.now) from to) }
+    {
+        changes_between(alloc, self.writes.as_slice(), view, from, to)
     }
 }

@@ -1,7 +1,10 @@
 //! The plain list of writes, and what was there at each revision.
 #![tactic(auto)]
 
+mod changes;
+pub mod events;
 pub mod journal;
 mod past;
 
+pub use events::Event;
 pub use journal::Journal;

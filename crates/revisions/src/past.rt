@@ -27,7 +27,10 @@ pub fn state_at<'a>(
 }
 
 /// Takes one write into the state.
-fn apply<'a>(state: &mut BTreeMap<&'a Key, &'a Object>, write: &'a Write) -> Result<(), AllocError>
+pub fn apply<'a>(
+    state: &mut BTreeMap<&'a Key, &'a Object>,
+    write: &'a Write,
+) -> Result<(), AllocError>
     ensures { OnOk result (seen state.new.entries ≡ after (seen state.old.entries) (write_of write.now)) }
 {
     match &write.put {
@@ -42,7 +45,7 @@ fn apply<'a>(state: &mut BTreeMap<&'a Key, &'a Object>, write: &'a Write) -> Res
 }
 
 /// The writes up to a revision: the n-th has revision n + 1.
-fn up_to(writes: &[Write], revision: u64) -> &[Write]
+pub fn up_to(writes: &[Write], revision: u64) -> &[Write]
     ensures { result.now ≡ take (revision - 1) writes.now }
 {
     let count = revision.saturating_sub(1) as usize;

@@ -1,8 +1,7 @@
 -- What one more write does to places and to what they lead to.
-use Rattle.std.proofs.Common.{◌≡◌, ℕ, zero, suc, option_map, ◌≤◌, ◌+◌, List, [], ◌∷◌, ◌++◌, length, map, Bool, true, false, cond, Option, Some, None, option_and_then, unwrap_or, is_some, IsSome, Ordering, Less, Equal, Greater, arith, refl, sym, ap, ◌∙◌, subst}
+use Rattle.std.proofs.Common.{◌≡◌, ℕ, zero, suc, option_map, ◌≤◌, List, [], ◌∷◌, ◌++◌, length, Bool, true, false, cond, Option, Some, None, option_and_then, unwrap_or, is_some, IsSome, Ordering, Less, Equal, Greater, refl, sym, ap, ◌∙◌, subst}
 use Rattle.std.proofs.lemmas.List.{length-map}
 use Rattle.std.specs.Prelude.{slice_get}
-use Rattle.std.specs.List.{AllByRecursion}
 use Rattle.std.specs.Map.{lookup, remove_entry}
 use Rattle.std.specs.Ordering.{match_ordering}
 use Rattle.std.specs.BTreeMap.{insert_entry, is_at}

@@ -10,7 +10,7 @@ use meta::faults::Fault;
 use meta::keys::Key;
 use meta::objects::Object;
 use meta::writes::Write;
-use revisions::Journal;
+use revisions::{Event, Journal};
 use selector::View;
 use std::alloc::{AllocError, Global};
 use std::collections::BTreeMap;
@@ -41,7 +41,7 @@ impl Model for Store {
 }
 
 impl Store {
-    ghost use Rattle.std.specs.Prelude.{◌≡◌, ◌≤◌, ◌++◌, ◌∷◌, [], ◌⊎◌, true, false, IfOk, OnOk, OnErr, IfErr, length, map, option_map};
+    ghost use Rattle.std.specs.Prelude.{◌≡◌, ◌≤◌, ◌<◌, ◌++◌, ◌∷◌, [], ◌⊎◌, true, false, IfOk, OnOk, OnErr, IfErr, length, map, option_map};
     ghost use Rattle.meta.specs.Keys.{name_of};
     ghost use Rattle.meta.specs.Writes.{write_of};
     ghost use Rattle.meta.specs.declared.faults.Fault.TheVariants as fault;
@@ -49,6 +49,8 @@ impl Store {
     ghost use Rattle.definitions.specs.History as history;
     ghost use Rattle.definitions.specs.History.{present, members, found, viewed};
     ghost use Rattle.definitions.specs.Verbs.{overflows, greatest_revision};
+    ghost use Rattle.definitions.specs.Changes.{changes};
+    ghost use Rattle.revisions.specs.Events.{change_seen};
 
     /// The empty store, at revision 1.
     pub fn new(alloc: Global) -> Store
@@ -125,6 +127,26 @@ impl Store {
             push_viewed(&mut found, view, key, self.journal.put_at(*place))?;
         }
         Ok(found)
+    }
+
+    /// The changes of a view by the writes with a revision above `from`, in order. `from` is refused just where it is
+    /// above the present revision; the other error is want of memory.
+    pub fn changes(&self, alloc: Global, view: &View, from: u64) -> Result<Vec<Event>, Fault>
+        ensures ok { IfOk result (λ found. map change_seen found.items
+            ≡ changes self.now (view_of view.now) from (present self.now)) }
+        ensures reached { OnOk result (from ≤ present self.now) }
+        ensures refused { IfErr result (λ e. ((e ≡ fault.NoMemory) × (from ≤ present self.now))
+            ⊎ ((e ≡ fault.TooNew from (present self.now)) × (present self.now < from))) }
+    {
+        let present = self.revision();
+        if from > present {
+            return Err(Fault::TooNew {
+                asked: from,
+                present,
+            });
+        }
+        let changes = self.journal.changes(alloc, view, from, present)?;
+        Ok(changes)
     }
 }
 

@@ -1,5 +1,3 @@
-use Rattle.std.proofs.Common.{length}
-use Rattle.definitions.specs.History.{writes}
 use Rattle.meta.specs.Writes.{write_of}
 use Rattle.store.proofs.PlaceSteps.{placed-put, some-put}
 use Rattle.store.proofs.places.put.Goals as goal

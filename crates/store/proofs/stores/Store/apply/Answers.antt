@@ -1,5 +1,4 @@
-use Rattle.std.proofs.Common.{◌≡◌, ◌≤◌, false, length, sym, ap, ◌∙◌}
-use Rattle.definitions.specs.History as history
+use Rattle.std.proofs.Common.{sym, ap, ◌∙◌}
 use Rattle.definitions.specs.History.{History, present, members}
 use Rattle.definitions.specs.Verbs.{overflows}
 use Rattle.meta.specs.Writes.{write_of}

@@ -1,9 +1,7 @@
-use Rattle.std.proofs.Common.{Some, None, sym, ap, ◌∙◌, option_and_then}
-use Rattle.std.specs.Map.{lookup}
-use Rattle.std.specs.BTreeMap.{is_at}
-use Rattle.definitions.specs.History.{History, present, members, found, put_at}
+use Rattle.std.proofs.Common.{Some, None, sym, ap, ◌∙◌}
+use Rattle.definitions.specs.History.{History, present, members, found}
 use Rattle.meta.specs.Keys.{name_of}
-use Rattle.store.proofs.PlaceSteps.{key_cmp, found-place}
+use Rattle.store.proofs.PlaceSteps.{found-place}
 use Rattle.store.proofs.stores.Store.get.Goals as goal
 
 pub returns-in-Some : goal.returns-in-Some

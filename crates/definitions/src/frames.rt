@@ -1,0 +1,89 @@
+//! What a watch sends: the kinds of changes and of frames, and what can be wrong with bytes that should be frames.
+
+/// What a write did to an object, as a view shows it.
+#[derive(Clone, Copy, Debug, PartialEq, Eq)]
+pub enum ChangeKind {
+    /// The object came into the view.
+    Added,
+    /// The object stayed in the view.
+    Modified,
+    /// The object left the view, or was removed.
+    Deleted,
+}
+
+/// The type of a frame (Kubernetes API Concepts, Efficient detection of changes).
+#[derive(Clone, Copy, Debug, PartialEq, Eq)]
+pub enum FrameKind {
+    /// An object came into the view.
+    Added,
+    /// An object in the view was written.
+    Modified,
+    /// An object left the view, or was removed.
+    Deleted,
+    /// How far the watch has come.
+    Bookmark,
+    /// Why the watch ends.
+    Error,
+}
+
+/// Why bytes are no frames. Nothing after it is read.
+#[derive(Clone, Copy, Debug, PartialEq, Eq)]
+pub enum FrameFault {
+    /// A line is not a frame.
+    NotAFrame,
+    /// A line is longer than a frame may be.
+    TooLong,
+}
+
+impl ChangeKind {
+    ghost use Rattle.std.specs.Prelude.{◌≡◌};
+    ghost use Rattle.definitions.specs.Frames.{frame_kind};
+
+    /// The type of the change's frame.
+    pub fn frame_kind(self) -> FrameKind
+        ensures { result ≡ frame_kind self }
+    {
+        match self {
+            ChangeKind::Added => FrameKind::Added,
+            ChangeKind::Modified => FrameKind::Modified,
+            ChangeKind::Deleted => FrameKind::Deleted,
+        }
+    }
+}
+
+impl FrameKind {
+    ghost use Rattle.std.specs.Prelude.{◌≡◌};
+    ghost use Rattle.definitions.specs.Frames.{kind_text, kind_named};
+
+    /// What a frame of the kind says in its member `type`.
+    pub fn text(self) -> &'static str
+        ensures { result.now ≡ kind_text self }
+    {
+        match self {
+            FrameKind::Added => "ADDED",
+            FrameKind::Modified => "MODIFIED",
+            FrameKind::Deleted => "DELETED",
+            FrameKind::Bookmark => "BOOKMARK",
+            FrameKind::Error => "ERROR",
+        }
+    }
+
+    /// The kind that a member `type` names.
+    pub fn named(text: &str) -> Option<FrameKind>
+        ensures { result ≡ kind_named text.now }
+    {
+        if text == "ADDED" {
+            Some(FrameKind::Added)
+        } else if text == "MODIFIED" {
+            Some(FrameKind::Modified)
+        } else if text == "DELETED" {
+            Some(FrameKind::Deleted)
+        } else if text == "BOOKMARK" {
+            Some(FrameKind::Bookmark)
+        } else if text == "ERROR" {
+            Some(FrameKind::Error)
+        } else {
+            None
+        }
+    }
+}

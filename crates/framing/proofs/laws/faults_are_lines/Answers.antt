@@ -1,0 +1,6 @@
+use Rattle.definitions.specs.Frames.{lines, rest}
+use Rattle.framing.proofs.Reading.{fault_of_lines}
+use Rattle.framing.proofs.laws.faults_are_lines.Goals as goal
+
+pub returns : goal.returns
+returns c = λ bytes. fault_of_lines (lines bytes) (rest bytes)

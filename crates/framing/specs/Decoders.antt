@@ -1,0 +1,50 @@
+-- A decoder as what it holds, and what a piece gives.
+use Rattle.std.specs.Prelude.{ℕ, List, [], ◌∷◌, ◌++◌, map, Option, Some, None, refl}
+use Rattle.std.specs.Coded.{Coded, code_by, coded×, coded_option}
+use Rattle.serde_json.specs.View.{view}
+use Rattle.definitions.specs.Codes.{coded_text}
+use Rattle.definitions.specs.Frames.{Event, Read, reading, failed, onto}
+use Rattle.definitions.specs.declared.frames.FrameFault.{FrameFault}
+use Rattle.definitions.specs.contracts.frames.FrameFault as fault
+use Rattle.framing.specs.declared.frames.Frame.{Frame}
+
+-- the bytes held of a line that is not whole, or the fault that is final
+pub record Held : Type 0 where
+  pub held : List ℕ
+  pub fault : Option FrameFault
+
+-- by which a model may hold it
+abbrev pub coded_held : Coded Held
+coded_held = code_by (List ℕ × Option FrameFault) (coded× coded_text (coded_option fault.the_row.coded)) (λ h. (h.held, h.fault)) (λ p. record { held = p.0; fault = p.1 }) (λ _. refl)
+
+-- the event that a frame shows
+abbrev pub event_of : Frame → Event
+event_of f = record { kind = f.kind; object = view f.object }
+
+abbrev pub events_of : List Frame → List Event
+events_of fs = map event_of fs
+
+-- nothing came yet
+abbrev pub opened : Held
+opened = record { held = []; fault = None }
+
+-- a piece after what is held
+abbrev pub fed_after : Option FrameFault → List ℕ → Read
+fed_after None bytes = reading bytes
+fed_after (Some f) bytes = failed f
+
+abbrev pub fed : Held → List ℕ → Read
+fed h piece = fed_after h.fault (h.held ++ piece)
+
+-- what a decoder is after that
+abbrev pub left : Read → Held
+left r = record { held = r.held; fault = r.fault }
+
+-- pieces one after another: all their events, and what is held in the end
+abbrev pub all_fed : Held → List (List ℕ) → Read
+all_fed h [] = record { events = []; held = h.held; fault = h.fault }
+all_fed h (p ∷ ps) = onto (fed h p).events (all_fed (left (fed h p)) ps)
+
+-- events, and then the bytes held, or a fault
+abbrev pub given : List Event → List ℕ → Option FrameFault → Read
+given es bytes fault = record { events = es; held = bytes; fault = fault }

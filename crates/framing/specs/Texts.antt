@@ -1,0 +1,24 @@
+-- A frame by the texts of its parts, and what it means that it is read back.
+use Rattle.std.specs.Prelude.{◌≡◌, ◌≤◌, ℕ, List, [], ◌∷◌, ◌++◌, length, codes, IsSome}
+use Rattle.serde_json.specs.Data.{depth}
+use Rattle.serde_json.specs.Find.{as_object}
+use Rattle.serde_json.specs.Read.{max_depth}
+use Rattle.definitions.specs.Frames.{Event, frame_data, frame_text, longest_frame, reading, onto}
+
+-- the line of a frame, from the texts of its kind and its object
+abbrev pub framed_text : List ℕ → List ℕ → List ℕ
+framed_text kind text = codes "{\"object\":" ++ (text ++ (codes ",\"type\":\"" ++ (kind ++ codes "\"}\n")))
+
+-- an event that a line can hold
+pub record IsWithin (e : Event) : Type 0 where
+  pub is_object : IsSome (as_object e.object)
+  pub nests : depth (frame_data e) ≤ max_depth
+  pub fits : length (frame_text e) ≤ longest_frame
+
+-- the text is read as these events, whatever follows it
+abbrev pub ReadsAll : List ℕ → List Event → Type 0
+ReadsAll text es = (more : List ℕ) → reading (text ++ more) ≡ onto es (reading more)
+
+-- the text is read as this event, whatever follows it
+abbrev pub ReadsAs : List ℕ → Event → Type 0
+ReadsAs text e = ReadsAll text (e ∷ [])

@@ -1,0 +1,95 @@
+//! A decoder of frames that come in pieces.
+ghost use Rattle.std.specs.Prelude.{◌≡◌, ◌≤◌, ◌-◌, IsSome, IsOk, IfOk, OnOk, OnErr, drop, vec_len};
+ghost use Rattle.framing.specs.Decoders.{opened, fed, left, events_of};
+
+use crate::frames::Frame;
+use crate::lines::read_lines;
+use crate::wants::Want;
+use definitions::frames::FrameFault;
+use std::alloc::Global;
+use std::marker::Model;
+
+/// What has come of a stream of frames: the bytes of a line that is not whole yet, or the fault that ended the stream.
+#[derive(Drop)]
+pub struct Decoder {
+    held: Vec<u8>,
+    fault: Option<FrameFault>,
+}
+
+impl Model for Decoder {
+    ghost use Rattle.framing.specs.Lines.{IsPartial};
+    ghost use Rattle.framing.specs.Decoders.{Held, coded_held};
+
+    ghost Value = { Held };
+
+    ghost coded = { coded_held };
+
+    ghost view = { λ d. record { held = d.held.items; fault = d.fault } };
+
+    ghost invariant = { λ d. IsPartial d.held.items };
+}
+
+/// The whole frames that came, in order, and the fault that is final, if there is one.
+#[derive(Drop)]
+pub struct Decoded {
+    pub frames: Vec<Frame>,
+    pub fault: Option<FrameFault>,
+}
+
+impl Decoder {
+    /// A decoder to which nothing came yet.
+    pub fn new(alloc: Global) -> Decoder
+        ensures { result ≡ opened }
+    {
+        Decoder {
+            held: Vec::new(alloc),
+            fault: None,
+        }
+    }
+
+    /// Takes the next piece, and gives the frames that are whole now. After a fault nothing more is read, and each call
+    /// gives that fault. The error is want of memory, and changes nothing: the same piece can be fed again.
+    pub fn feed(&mut self, alloc: Global, piece: &[u8]) -> Result<Decoded, Want>
+        ensures frames { IfOk result (λ d. events_of d.frames.items ≡ (fed self.old piece.now).events) }
+        ensures fault { IfOk result (λ d. d.fault ≡ (fed self.old piece.now).fault) }
+        ensures after { OnOk result (self.new ≡ left (fed self.old piece.now)) }
+        ensures err { OnErr result (self.new ≡ self.old) }
+        ensures ended { IsSome self.old.fault → IsOk result }
+    {
+        if let Some(fault) = self.fault {
+            self.held.clear();
+            return Ok(Decoded {
+                frames: Vec::new(alloc),
+                fault: Some(fault),
+            });
+        }
+        let known = self.held.len();
+        self.held.extend_from_slice(piece)?;
+        match read_lines(alloc, self.held.as_slice(), known) {
+            Ok(lines) => {
+                keep_last(&mut self.held, lines.kept);
+                self.fault = lines.fault;
+                Ok(Decoded {
+                    frames: lines.frames,
+                    fault: lines.fault,
+                })
+            }
+            Err(want) => {
+                self.held.truncate(known);
+                Err(want)
+            }
+        }
+    }
+}
+
+/// Drops all but the last `kept` bytes.
+fn keep_last(bytes: &mut Vec<u8>, kept: usize)
+    requires { kept ≤ vec_len bytes.old }
+    ensures { bytes.new.items ≡ drop (vec_len bytes.old - kept) bytes.old.items }
+{
+    let len = bytes.len();
+    if kept < len {
+        bytes.as_mut_slice().copy_within(len - kept..len, 0);
+        bytes.truncate(kept);
+    }
+}

@@ -1,0 +1,18 @@
+//! The frames of a watch: written as lines, and read from bytes in any pieces.
+#![tactic(auto)]
+
+pub mod decoder;
+pub mod frames;
+pub mod laws;
+mod lines;
+mod scan;
+#[cfg(test)]
+mod tests;
+pub mod texts;
+pub mod wants;
+
+pub use decoder::{Decoded, Decoder};
+pub use definitions::frames::{FrameFault, FrameKind};
+pub use frames::Frame;
+pub use texts::{bookmark_text, error_text, frame_text};
+pub use wants::Want;

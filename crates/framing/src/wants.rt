@@ -1,0 +1,18 @@
+//! Want of memory.
+use std::alloc::{AllocError, AllocFailed};
+
+/// Memory was wanted and refused.
+#[derive(Clone, Copy, Debug, PartialEq, Eq)]
+pub struct Want;
+
+impl From<AllocError> for Want {
+    fn from(_error: AllocError) -> Want {
+        Want
+    }
+}
+
+impl<T: Drop> From<AllocFailed<T>> for Want {
+    fn from(_error: AllocFailed<T>) -> Want {
+        Want
+    }
+}

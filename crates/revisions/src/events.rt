@@ -1,0 +1,16 @@
+//! Events.
+
+use definitions::frames::ChangeKind;
+use meta::keys::Key;
+use meta::objects::Object;
+
+/// What a write did to an object that a view asks for.
+#[derive(Drop)]
+pub struct Event {
+    pub kind: ChangeKind,
+    /// The revision of the write.
+    pub revision: u64,
+    pub key: Key,
+    /// The object after the write; of an object that is gone, the last one, at the revision of the write.
+    pub object: Object,
+}
