@@ -11,7 +11,6 @@ use session::Session;
 use std::alloc::Global;
 use std::io::{BufRead, BufReader, BufWriter, Write};
 use std::process::ExitCode;
-use std::rt::Runtime;
 use std::{env, io};
 
 /// Answers the request lines that are read, from the empty store at the start of 2026 on, and writes the reply lines
@@ -35,13 +34,24 @@ pub fn replay<R: BufRead, W: Write>(
 }
 
 /// Whether the program is called as `kcp replay`.
-fn is_replay(rt: &impl Runtime) -> io::Result<bool> {
+fn is_replay(rt: &HostRuntime) -> io::Result<bool> {
     let mut words = env::args(rt)?;
     let _program = words.next();
     match (words.next(), words.next()) {
         (Some(word), None) => Ok(word.as_str() == "replay"),
         _ => Ok(false),
     }
+}
+
+/// Answers the request lines of standard input on standard output.
+fn replay_standard_input(rt: &HostRuntime) -> Result<(), RunFault> {
+    let (Ok(mut reader), Ok(mut writer)) = (
+        BufReader::new(rt.alloc(), rt.reader()),
+        BufWriter::new(rt.alloc(), io::writer(rt)),
+    ) else {
+        return Err(RunFault::Want);
+    };
+    replay(rt.alloc(), &mut reader, &mut writer)
 }
 
 /// What a fault is called on standard error.
@@ -54,13 +64,15 @@ fn fault_name(fault: RunFault) -> &'static str {
 }
 
 fn main(rt: HostRuntime) -> io::Result<ExitCode> {
-    if !is_replay(&rt)? {
-        eprintln!(rt; "kcp: bad arguments")?;
-        return Ok(ExitCode::from(2));
-    }
-    let mut reader = BufReader::new(rt.alloc(), rt.reader())?;
-    let mut writer = BufWriter::new(rt.alloc(), io::writer(&rt))?;
-    match replay(rt.alloc(), &mut reader, &mut writer) {
+    let outcome = match is_replay(&rt) {
+        Ok(true) => replay_standard_input(&rt),
+        Ok(false) => {
+            eprintln!(rt; "kcp: bad arguments")?;
+            return Ok(ExitCode::from(2));
+        }
+        Err(_) => Err(RunFault::Want),
+    };
+    match outcome {
         Ok(()) => Ok(ExitCode::SUCCESS),
         Err(fault) => {
             eprintln!(rt; "kcp: {}", fault_name(fault))?;

@@ -7,3 +7,6 @@ pub mod sessions;
 
 pub use asking::read_request;
 pub use sessions::Session;
+
+#[cfg(test)]
+mod tests;

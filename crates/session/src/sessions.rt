@@ -15,9 +15,6 @@ use std::alloc::{AllocError, Global};
 use std::marker::Model;
 use store::Store;
 
-/// The moment at which a session begins.
-const START: &[u8] = b"2026-01-01T00:00:00Z";
-
 /// A store and the moment that it is, over which lines are answered. It is seen as what has happened, and the moment.
 #[derive(Drop)]
 pub struct Session {
@@ -50,12 +47,9 @@ impl Session {
     pub fn new(alloc: Global) -> Result<Session, AllocError>
         ensures { IfOk result (λ s. s ≡ start) }
     {
-        let Some(moment) = Moment::parse(START) else {
-            unreachable!();
-        };
         Ok(Session {
             store: Store::new(alloc),
-            moment,
+            moment: Moment::start(),
             routes: Routes::new(alloc)?,
         })
     }

@@ -1,0 +1,116 @@
+use crate::Session;
+use crate::asking::read_request;
+use definitions::methods::Method;
+use line_service::LineService;
+use meta::Fault;
+use routes::table::Routes;
+use std::alloc::Global;
+use std::test::Fail;
+use verbs::Request;
+
+const CREATE: &[u8] =
+    b"POST /api/v1/namespaces/default/configmaps {\"metadata\":{\"name\":\"a\"},\"data\":{\"k\":\"v\"}}";
+
+const CREATED: &str =
+    "201 {\"apiVersion\":\"v1\",\"data\":{\"k\":\"v\"},\"kind\":\"ConfigMap\",\"metadata\":{\"creationTimestamp\":\"2026-01-01T00:00:00Z\",\"name\":\"a\",\"namespace\":\"default\",\"resourceVersion\":\"2\",\"uid\":\"00000000-0000-8000-8000-000000000002\"}}\n";
+
+const GET: &[u8] = b"GET /api/v1/namespaces/default/configmaps/a";
+
+const FOUND: &str =
+    "200 {\"apiVersion\":\"v1\",\"data\":{\"k\":\"v\"},\"kind\":\"ConfigMap\",\"metadata\":{\"creationTimestamp\":\"2026-01-01T00:00:00Z\",\"name\":\"a\",\"namespace\":\"default\",\"resourceVersion\":\"2\",\"uid\":\"00000000-0000-8000-8000-000000000002\"}}\n";
+
+const LIST: &[u8] = b"GET /api/v1/configmaps";
+
+const EMPTY: &str =
+    "200 {\"apiVersion\":\"v1\",\"items\":[],\"kind\":\"ConfigMapList\",\"metadata\":{\"resourceVersion\":\"1\"}}\n";
+
+const UPDATE: &[u8] =
+    b"PUT /api/v1/namespaces/default/configmaps/a {\"metadata\":{\"name\":\"a\",\"resourceVersion\":\"2\"},\"data\":{\"k\":\"w\"}}";
+
+const UPDATED: &str =
+    "200 {\"apiVersion\":\"v1\",\"data\":{\"k\":\"w\"},\"kind\":\"ConfigMap\",\"metadata\":{\"creationTimestamp\":\"2026-01-01T00:00:00Z\",\"name\":\"a\",\"namespace\":\"default\",\"resourceVersion\":\"3\",\"uid\":\"00000000-0000-8000-8000-000000000002\"}}\n";
+
+const CONFLICT: &str =
+    "409 {\"apiVersion\":\"v1\",\"code\":409,\"details\":{\"kind\":\"configmaps\",\"name\":\"a\"},\"kind\":\"Status\",\"message\":\"Operation cannot be fulfilled on configmaps \\\"a\\\": the object has been modified; please apply your changes to the latest version and try again\",\"metadata\":{},\"reason\":\"Conflict\",\"status\":\"Failure\"}\n";
+
+const TOO_LARGE: &str =
+    "413 {\"apiVersion\":\"v1\",\"code\":413,\"kind\":\"Status\",\"message\":\"request entity too large\",\"metadata\":{},\"reason\":\"RequestEntityTooLarge\",\"status\":\"Failure\"}\n";
+
+/// Whether a line is answered by this text.
+fn answers(alloc: Global, session: &mut Session, line: &[u8], wanted: &str) -> Result<bool, Fail> {
+    let reply = session.serve(alloc, line)?;
+    Ok(reply.as_slice() == wanted.as_bytes())
+}
+
+#[test]
+fn creates_are_answered_with_what_the_server_sets(rt: HostRuntime) -> Result<(), Fail> {
+    let alloc = rt.alloc();
+    let mut session = Session::new(alloc)?;
+    assert!(rt; answers(alloc, &mut session, CREATE, CREATED)?);
+    assert!(rt; answers(alloc, &mut session, GET, FOUND)?);
+    Ok(())
+}
+
+#[test]
+fn an_empty_store_lists_nothing(rt: HostRuntime) -> Result<(), Fail> {
+    let alloc = rt.alloc();
+    let mut session = Session::new(alloc)?;
+    assert!(rt; answers(alloc, &mut session, LIST, EMPTY)?);
+    assert!(rt; answers(alloc, &mut session, b"", "")?);
+    assert!(rt; answers(alloc, &mut session, b"AT 2026-02-28T23:59:59Z", "")?);
+    assert!(rt; answers(alloc, &mut session, LIST, EMPTY)?);
+    Ok(())
+}
+
+#[test]
+fn the_second_update_of_one_version_conflicts(rt: HostRuntime) -> Result<(), Fail> {
+    let alloc = rt.alloc();
+    let mut session = Session::new(alloc)?;
+    assert!(rt; answers(alloc, &mut session, CREATE, CREATED)?);
+    assert!(rt; answers(alloc, &mut session, UPDATE, UPDATED)?);
+    assert!(rt; answers(alloc, &mut session, UPDATE, CONFLICT)?);
+    Ok(())
+}
+
+#[test]
+fn a_body_of_more_than_a_mebibyte_is_too_large(rt: HostRuntime) -> Result<(), Fail> {
+    let alloc = rt.alloc();
+    let mut session = Session::new(alloc)?;
+    let mut line = Vec::new(alloc);
+    line.extend_from_slice(b"POST /api/v1/namespaces/default/configmaps ")?;
+    line.resize(43 + 1_048_577, b' ')?;
+    assert!(rt; answers(alloc, &mut session, line.as_slice(), TOO_LARGE)?);
+    assert!(rt; answers(alloc, &mut session, LIST, EMPTY)?);
+    Ok(())
+}
+
+#[test]
+fn requests_are_read(rt: HostRuntime) -> Result<(), Fail> {
+    let alloc = rt.alloc();
+    let routes = Routes::new(alloc)?;
+    let list = read_request(
+        alloc,
+        &routes,
+        Method::Get,
+        b"/api/v1/namespaces/team/configmaps",
+        b"",
+    );
+    assert!(rt; matches!(list, Ok(Request::List(view)) if view.namespace.is_some()));
+    let put = read_request(
+        alloc,
+        &routes,
+        Method::Put,
+        b"/api/v1/namespaces/team/configmaps/b",
+        b"{}",
+    );
+    assert!(rt; matches!(put, Ok(Request::Update(key, _)) if key.name.as_str() == "b"));
+    let delete = read_request(
+        alloc,
+        &routes,
+        Method::Delete,
+        b"/api/v1/namespaces/team/configmaps/b",
+        b"",
+    );
+    assert!(rt; matches!(delete, Err(Fault::MethodNotAllowed)));
+    Ok(())
+}
