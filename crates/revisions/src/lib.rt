@@ -8,3 +8,6 @@ mod past;
 
 pub use events::Event;
 pub use journal::Journal;
+
+#[cfg(test)]
+mod tests;

@@ -4,3 +4,6 @@
 pub mod views;
 
 pub use views::View;
+
+#[cfg(test)]
+mod tests;

@@ -5,3 +5,6 @@ mod places;
 pub mod stores;
 
 pub use stores::Store;
+
+#[cfg(test)]
+mod tests;

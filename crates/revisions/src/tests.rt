@@ -1,0 +1,116 @@
+use crate::Journal;
+use definitions::kinds::Kind;
+use meta::{Key, Object, Write};
+use selector::View;
+use serde_json::Value;
+use std::alloc::Global;
+use std::test::Fail;
+
+fn key(alloc: Global, kind: Kind, namespace: &str, name: &str) -> Result<Key, Fail> {
+    Ok(Key {
+        kind,
+        namespace: String::from_str(alloc, namespace)?,
+        name: String::from_str(alloc, name)?,
+    })
+}
+
+/// A write that puts an object with this label.
+fn put(alloc: Global, key: Key, label: &str) -> Result<Write, Fail> {
+    let text = format!(in alloc; r#"{{"metadata":{{"labels":{{"is":"{label}"}}}}}}"#)?;
+    let value = Value::from_str(alloc, text.as_str())?;
+    let object = Object::from_value(alloc, key.kind, value)?;
+    Ok(Write {
+        key,
+        put: Some(object),
+    })
+}
+
+fn label(object: Option<&Object>) -> Option<&str> {
+    object?.label("is")
+}
+
+/// The labels of what is listed, in its order, each with a space behind it.
+fn listed(
+    alloc: Global,
+    journal: &Journal,
+    kind: Kind,
+    namespace: Option<&str>,
+    revision: u64,
+) -> Result<String, Fail> {
+    let namespace = match namespace {
+        Some(namespace) => Some(String::from_str(alloc, namespace)?),
+        None => None,
+    };
+    let found = journal.list_at(alloc, &View { kind, namespace }, revision)?;
+    let mut labels = String::new(alloc);
+    for object in found.iter() {
+        labels.push_str(label(Some(*object)).unwrap_or("none"))?;
+        labels.push(' ')?;
+    }
+    Ok(labels)
+}
+
+/// Puts b and a, puts b again, removes a, puts c in a namespace that comes first, and puts a Pod.
+fn six_writes(alloc: Global) -> Result<Journal, Fail> {
+    let mut journal = Journal::new(alloc);
+    journal.push(put(alloc, key(alloc, Kind::ConfigMap, "default", "b")?, "b1")?)?;
+    journal.push(put(alloc, key(alloc, Kind::ConfigMap, "default", "a")?, "a1")?)?;
+    journal.push(put(alloc, key(alloc, Kind::ConfigMap, "default", "b")?, "b2")?)?;
+    journal.push(Write {
+        key: key(alloc, Kind::ConfigMap, "default", "a")?,
+        put: None,
+    })?;
+    journal.push(put(alloc, key(alloc, Kind::ConfigMap, "apps", "c")?, "c1")?)?;
+    journal.push(put(alloc, key(alloc, Kind::Pod, "default", "b")?, "p1")?)?;
+    Ok(journal)
+}
+
+#[test]
+fn lists_what_was_there_at_each_revision(rt: HostRuntime) -> Result<(), Fail> {
+    let alloc = rt.alloc();
+    let journal = six_writes(alloc)?;
+    let cases = [
+        (Kind::ConfigMap, None, 0, ""),
+        (Kind::ConfigMap, None, 1, ""),
+        (Kind::ConfigMap, None, 2, "b1 "),
+        (Kind::ConfigMap, None, 3, "a1 b1 "),
+        (Kind::ConfigMap, None, 4, "a1 b2 "),
+        (Kind::ConfigMap, None, 5, "b2 "),
+        (Kind::ConfigMap, None, 6, "c1 b2 "),
+        (Kind::ConfigMap, None, 7, "c1 b2 "),
+        (Kind::ConfigMap, None, u64::MAX, "c1 b2 "),
+        (Kind::ConfigMap, Some("default"), 6, "b2 "),
+        (Kind::ConfigMap, Some("apps"), 6, "c1 "),
+        (Kind::ConfigMap, Some("apps"), 5, ""),
+        (Kind::Pod, None, 6, ""),
+        (Kind::Pod, None, 7, "p1 "),
+    ];
+    for (kind, namespace, revision, labels) in cases {
+        assert_eq!(rt;
+            listed(alloc, &journal, kind, namespace, revision)?.as_str(),
+            labels,
+            "at {revision}"
+        );
+    }
+    Ok(())
+}
+
+#[test]
+fn undoes_the_newest_write(rt: HostRuntime) -> Result<(), Fail> {
+    let alloc = rt.alloc();
+    let mut journal = six_writes(alloc)?;
+    assert_eq!(rt; journal.len(), 6);
+    assert_eq!(rt; label(journal.put_at(0)), Some("b1"));
+    assert_eq!(rt; label(journal.put_at(2)), Some("b2"));
+    assert_eq!(rt; label(journal.put_at(3)), None);
+    assert_eq!(rt; label(journal.put_at(5)), Some("p1"));
+    assert_eq!(rt; label(journal.put_at(6)), None);
+    journal.undo();
+    assert_eq!(rt; journal.len(), 5);
+    assert_eq!(rt; label(journal.put_at(4)), Some("c1"));
+    assert_eq!(rt; label(journal.put_at(5)), None);
+    let mut empty = Journal::new(alloc);
+    empty.undo();
+    assert_eq!(rt; empty.len(), 0);
+    Ok(())
+}
