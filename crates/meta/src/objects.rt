@@ -117,6 +117,7 @@ impl Object {
         metadata_member(&self.value, name)
     }
 
+    /// The object's kind.
     pub fn kind(&self) -> Kind
         ensures { result ≡ self.now.kind }
     {
@@ -130,6 +131,7 @@ impl Object {
         metadata_text(&self.value, "name")
     }
 
+    /// The namespace that the object is in.
     pub fn namespace(&self) -> Option<&str>
         ensures { option_map (λ s. s.now) result ≡ namespace self.now.value }
     {
