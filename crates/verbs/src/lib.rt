@@ -10,3 +10,6 @@ mod update;
 
 pub use crate::accepting::accept;
 pub use crate::requests::Request;
+
+#[cfg(test)]
+mod tests;
