@@ -118,8 +118,7 @@ at_most_next n h = at_most 9007199254740991 n h
 -- a write that does not overflow leaves what is within the limits within them
 pub within-write : (h : History) (w : Write) → overflows (members h (present h)) (present h) w ≡ false → Within h → Within (h ++ write w ∷ [])
 within-write h w room within =
-    let parts = either_false (nat_le 65536 (length (members h (present h))) && is_some w.put && not (is_some (found w.key (members h (present h))))) (is_past_greatest (present h + 1)) room in
-    (
+    let parts = either_false (nat_le 65536 (length (members h (present h))) && is_some w.put && not (is_some (found w.key (members h (present h))))) (is_past_greatest (present h + 1)) room in (
       subst (λ ms. length ms ≤ 65536) (sym (members-write h w)) (few_after w.key w.put (members h (present h)) (IsAscending-after_all [] (up_to (present h) h) tt) within.0 parts.0),
       subst (λ r. r ≤ 9007199254740991) (sym (present-write h w)) (at_most_next (present h + 1) parts.1),
     )
