@@ -1,6 +1,7 @@
 //! The objects that are there, and the present revision.
 #![tactic(auto)]
 
+pub mod limits;
 mod places;
 pub mod stores;
 

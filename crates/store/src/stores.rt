@@ -5,6 +5,7 @@ ghost use Rattle.definitions.specs.History.{seen};
 ghost use Rattle.meta.specs.Keys.{name_of};
 ghost use Rattle.selector.specs.Views.{view_of};
 
+use crate::limits::{GREATEST_REVISION, MOST_OBJECTS};
 use crate::places::{put, take_out};
 use meta::faults::Fault;
 use meta::keys::Key;
@@ -149,12 +150,6 @@ impl Store {
         Ok(changes)
     }
 }
-
-/// The most objects that there may be.
-const MOST_OBJECTS: usize = 65536;
-
-/// The greatest revision: the greatest whole number that every JSON reader holds exactly.
-const GREATEST_REVISION: u64 = 9007199254740991;
 
 /// Adds an object, if there is one and the view asks for it.
 fn push_viewed<'a>(

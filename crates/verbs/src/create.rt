@@ -7,7 +7,7 @@ ghost use Rattle.meta.specs.Keys.{name_of};
 ghost use Rattle.serde_json.specs.View.{view};
 ghost use Rattle.verbs.specs.Requests.{Serves};
 
-use crate::limits::{LAST_REVISION, MOST_OBJECTS, is_too_large};
+use crate::limits::is_too_large;
 use definitions::kinds::Kind;
 use definitions::refusals::{Field, Part};
 use meta::{Fault, Key, Object, Write};
@@ -18,6 +18,7 @@ use stamps::moments::Moment;
 use stamps::uids::uid_text;
 use std::alloc::{AllocError, Global};
 use store::Store;
+use store::limits::{GREATEST_REVISION, MOST_OBJECTS};
 
 /// The 48 bits of a uid that say in which cluster it was given.
 const CLUSTER: u64 = 0;
@@ -107,7 +108,7 @@ fn create_as(
     if store.get(&key).is_some() {
         return Err(Fault::AlreadyExists(key));
     }
-    if store.len() >= MOST_OBJECTS || store.revision() >= LAST_REVISION {
+    if store.len() >= MOST_OBJECTS || store.revision() >= GREATEST_REVISION {
         return Err(Fault::StorageFull);
     }
     let write = Write {

@@ -6,7 +6,7 @@ ghost use Rattle.definitions.specs.Verbs.{accept_at, update_object, names_path, 
 ghost use Rattle.meta.specs.Keys.{name_of};
 ghost use Rattle.verbs.specs.Requests.{Serves};
 
-use crate::limits::{LAST_REVISION, is_too_large};
+use crate::limits::is_too_large;
 use definitions::refusals::{Field, Mismatch, Part};
 use meta::{Fault, Key, Object, Write};
 use names::is_subdomain;
@@ -14,6 +14,7 @@ use reply::Reply;
 use serde_json::Value;
 use std::alloc::{AllocError, Global};
 use store::Store;
+use store::limits::GREATEST_REVISION;
 
 /// An object as a body says it, in the place of the one under a key.
 pub fn update(
@@ -111,7 +112,7 @@ fn replace_with(
     if is_too_large(text.as_str()) {
         return Err(Fault::TooLarge);
     }
-    if before >= LAST_REVISION {
+    if before >= GREATEST_REVISION {
         return Err(Fault::StorageFull);
     }
     let write = Write {
