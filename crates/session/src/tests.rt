@@ -114,3 +114,31 @@ fn requests_are_read(rt: HostRuntime) -> Result<(), Fail> {
     assert!(rt; matches!(delete, Err(Fault::MethodNotAllowed)));
     Ok(())
 }
+
+const NO_NAME: &str =
+    "422 {\"apiVersion\":\"v1\",\"code\":422,\"kind\":\"Status\",\"message\":\"configmaps \\\"\\\" is invalid: metadata.name\",\"metadata\":{},\"reason\":\"Invalid\",\"status\":\"Failure\"}\n";
+
+const NO_BODY: &str =
+    "400 {\"apiVersion\":\"v1\",\"code\":400,\"kind\":\"Status\",\"message\":\"bad request: body\",\"metadata\":{},\"reason\":\"BadRequest\",\"status\":\"Failure\"}\n";
+
+#[test]
+fn a_create_without_a_name_is_not_valid(rt: HostRuntime) -> Result<(), Fail> {
+    let alloc = rt.alloc();
+    let mut session = Session::new(alloc)?;
+    let line =
+        b"POST /api/v1/namespaces/default/configmaps {\"metadata\":{\"generateName\":\"web-\"}}";
+    assert!(rt; answers(alloc, &mut session, line, NO_NAME)?);
+    assert!(rt; answers(alloc, &mut session, LIST, EMPTY)?);
+    Ok(())
+}
+
+#[test]
+fn a_fraction_is_no_body(rt: HostRuntime) -> Result<(), Fail> {
+    let alloc = rt.alloc();
+    let mut session = Session::new(alloc)?;
+    let line =
+        b"POST /api/v1/namespaces/default/configmaps {\"metadata\":{\"name\":\"a\"},\"data\":{\"k\":1.5}}";
+    assert!(rt; answers(alloc, &mut session, line, NO_BODY)?);
+    assert!(rt; answers(alloc, &mut session, LIST, EMPTY)?);
+    Ok(())
+}
