@@ -21,9 +21,22 @@ fn creations_are_waited_for(rt: HostRuntime) -> Result<(), AllocError> {
     table.created(&key, "uid-1");
     assert!(rt; !table.satisfied(&key, "uid-1", 300_000));
     assert!(rt; table.satisfied(&key, "uid-1", 300_001));
-    table.create_failed(&key, "uid-1");
-    assert!(rt; table.satisfied(&key, "uid-1", 1));
     table.created(&key, "uid-1");
+    for moment in [0, 1, 300_000, 300_001, u64::MAX] {
+        assert!(rt; table.satisfied(&key, "uid-1", moment));
+    }
+    table.created(&key, "uid-1");
+    assert!(rt; table.satisfied(&key, "uid-1", 1));
+    Ok(())
+}
+
+#[test]
+fn refused_creates_are_taken_back(rt: HostRuntime) -> Result<(), AllocError> {
+    let mut table = Table::new(rt.alloc());
+    let key = web(rt.alloc())?;
+    table.expect_creations(&key, "uid-1", 1, 0)?;
+    assert!(rt; !table.satisfied(&key, "uid-1", 1));
+    table.create_failed(&key, "uid-1");
     assert!(rt; table.satisfied(&key, "uid-1", 1));
     Ok(())
 }

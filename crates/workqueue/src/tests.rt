@@ -1,4 +1,4 @@
-//! What no clause says: a row from outside, and that calls succeed where there is memory.
+//! What no clause says: rows from outside, and that calls succeed where there is memory.
 use crate::Queue;
 use definitions::controllers::Controller;
 use definitions::kinds::Kind;
@@ -17,22 +17,41 @@ fn web(alloc: Global) -> Result<WorkKey, AllocError> {
     })
 }
 
+/// Hands a key out, which must be the one that was added.
+fn is_web_handed_out(alloc: Global, queue: &mut Queue) -> Result<bool, AllocError> {
+    let wanted = web(alloc)?;
+    Ok(match queue.get()? {
+        Some(key) => key == wanted,
+        None => false,
+    })
+}
+
 #[test]
 fn a_key_waits_for_its_done(rt: HostRuntime) -> Result<(), AllocError> {
     let mut queue = Queue::new(rt.alloc());
     queue.add(web(rt.alloc())?)?;
     assert_eq!(rt; queue.len(), 1);
-    assert!(rt; queue.get()?.is_some());
+    assert!(rt; is_web_handed_out(rt.alloc(), &mut queue)?);
     assert_eq!(rt; queue.len(), 0);
     queue.add(web(rt.alloc())?)?;
     queue.add(web(rt.alloc())?)?;
     assert_eq!(rt; queue.len(), 0);
     queue.done(&web(rt.alloc())?);
     assert_eq!(rt; queue.len(), 1);
+    assert!(rt; is_web_handed_out(rt.alloc(), &mut queue)?);
+    assert_eq!(rt; queue.len(), 0);
+    Ok(())
+}
+
+#[test]
+fn what_waits_at_the_end_is_handed_out(rt: HostRuntime) -> Result<(), AllocError> {
+    let mut queue = Queue::new(rt.alloc());
+    queue.add(web(rt.alloc())?)?;
     queue.shut_down();
-    assert!(rt; queue.get()?.is_some());
+    assert!(rt; is_web_handed_out(rt.alloc(), &mut queue)?);
     queue.done(&web(rt.alloc())?);
     queue.add(web(rt.alloc())?)?;
     assert_eq!(rt; queue.len(), 0);
+    assert!(rt; queue.get()?.is_none());
     Ok(())
 }

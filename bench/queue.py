@@ -1,0 +1,94 @@
+#!/usr/bin/env python3
+"""Measures the work queue: adds, gets and dones of keys, in operations a second.
+
+One million keys, if nothing else is asked for, are added, handed out and taken back, over 100,000 keys: all are added in
+turn, then handed out and taken back one after another, and so on from the first. This is done through the queue that
+controllers use, and, to compare with, through a set and a deque that keep none of its rules. Each run is a process of
+its own, and each figure the best of several, less the time of a run that makes the keys and adds none. What a run
+writes is checked.
+
+Usage: queue.py [--program PATH] [--thousands N] [--runs N] [--seconds N]
+  --program PATH   an executable that is built; without it `rt run -- queue 1` in crates/queue_bench proves and builds one first
+  --thousands N    how many thousand keys are added, 1000 if left out
+  --runs N         runs of each kind, of which the best counts, 5 if left out
+  --seconds N      the longest that one run may take, 120 if left out
+It uses no network, and writes no files but those of the build.
+"""
+import argparse
+import os
+import pathlib
+import subprocess
+import sys
+import time
+
+PROGRAM = pathlib.Path(__file__).resolve().parent.parent / "crates" / "queue_bench"
+BUILT = PROGRAM / "out" / "queue_bench"
+BUILD_SECONDS = 3600
+
+# An add, a get and a done.
+OPERATIONS = 3
+
+WAYS = [("queue", "the queue"), ("plain", "a plain set and deque")]
+
+
+def built(path):
+    """The program to measure, proved and built where none is given."""
+    if path:
+        return path
+    print("building, in crates/queue_bench: rt run -- queue 1", file=sys.stderr)
+    subprocess.run(
+        ["rt", "run", "--", "queue", "1"], cwd=PROGRAM, stdin=subprocess.DEVNULL, stdout=sys.stderr, check=True, timeout=BUILD_SECONDS
+    )
+    return str(BUILT)
+
+
+def run(program, way, thousands, limit):
+    """The seconds that one run took. Ends the benchmark where it wrote something else than it is to."""
+    began = time.perf_counter()
+    try:
+        done = subprocess.run(
+            [program, way, str(thousands)], stdin=subprocess.DEVNULL, capture_output=True, text=True, timeout=limit
+        )
+    except subprocess.TimeoutExpired:
+        sys.exit(f"{program} {way} {thousands} took more than {limit} seconds")
+    seconds = time.perf_counter() - began
+    if done.returncode != 0:
+        sys.exit(f"{program} {way} {thousands} ended with status {done.returncode}: {done.stderr.strip()}")
+    if done.stdout != f"{thousands * 1000} keys handed out\n":
+        sys.exit(f"{program} {way} {thousands} wrote: {done.stdout.strip()}")
+    return seconds
+
+
+def measure(program, asked):
+    """For each way the seconds of the keys that are added, handed out and taken back, the best of several runs."""
+    best = {(way, thousands): float("inf") for way, _ in WAYS for thousands in (0, asked.thousands)}
+    for _ in range(asked.runs):
+        for way, thousands in best:
+            best[way, thousands] = min(best[way, thousands], run(program, way, thousands, asked.seconds))
+    return {way: best[way, asked.thousands] - best[way, 0] for way, _ in WAYS}
+
+
+def rate(count, seconds):
+    return f"{count / seconds:,.0f}" if seconds > 0 else "-"
+
+
+def main():
+    parser = argparse.ArgumentParser(description=__doc__.splitlines()[0])
+    parser.add_argument("--program")
+    parser.add_argument("--thousands", type=int, default=1000)
+    parser.add_argument("--runs", type=int, default=5)
+    parser.add_argument("--seconds", type=float, default=120)
+    asked = parser.parse_args()
+    if not 1 <= asked.thousands < 2**32 or asked.runs < 1:
+        parser.error("--thousands is from 1 to 4294967295, and --runs at least 1")
+    seconds = measure(built(asked.program), asked)
+    count = asked.thousands * 1000
+    print(f"{count} adds, gets and dones over 100000 keys, best of {asked.runs} runs, {os.cpu_count()} processors")
+    print("| Through | Operations a second | Seconds |")
+    print("|---|---|---|")
+    for way, name in WAYS:
+        print(f"| {name} | {rate(OPERATIONS * count, seconds[way])} | {seconds[way]:.3f} |")
+
+
+if __name__ == "__main__":
+    main()

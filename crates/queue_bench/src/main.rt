@@ -1,0 +1,69 @@
+//! Measures the work queue: `queue_bench queue` adds, hands out and takes back keys through the queue that controllers
+//! use, `queue_bench plain` does the same with a set and a deque that keep none of its rules.
+//!
+//! A second word is how many thousand keys are added, 1,000 where it is left out.
+#![tactic(auto)]
+
+mod line;
+mod plain;
+mod rounds;
+
+use crate::plain::Plain;
+use std::alloc::AllocError;
+use std::process::ExitCode;
+use std::{env, io};
+use workqueue::Queue;
+
+/// How many thousand keys are added where the arguments do not say it.
+const THOUSANDS: u32 = 1000;
+
+/// What is measured.
+#[derive(Clone, Copy)]
+enum Way {
+    Queue,
+    Plain,
+}
+
+/// What the arguments ask for: what is measured, and how many thousand keys are added.
+fn asked(rt: &HostRuntime) -> io::Result<Option<(Way, u32)>> {
+    let mut words = env::args(rt)?;
+    let _program = words.next();
+    let (Some(way), thousands, None) = (words.next(), words.next(), words.next()) else {
+        return Ok(None);
+    };
+    let way = match way.as_str() {
+        "queue" => Way::Queue,
+        "plain" => Way::Plain,
+        _ => return Ok(None),
+    };
+    let thousands = match thousands {
+        Some(word) => word.as_str().parse::<u32>().ok(),
+        None => Some(THOUSANDS),
+    };
+    Ok(thousands.map(|count| (way, count)))
+}
+
+/// How many keys were handed out.
+fn handed_out(rt: &HostRuntime, way: Way, thousands: u32) -> Result<u64, AllocError> {
+    match way {
+        Way::Queue => rounds::run(rt.alloc(), &mut Queue::new(rt.alloc()), thousands),
+        Way::Plain => rounds::run(rt.alloc(), &mut Plain::new(rt.alloc()), thousands),
+    }
+}
+
+fn main(rt: HostRuntime) -> io::Result<ExitCode> {
+    let Some((way, thousands)) = asked(&rt)? else {
+        eprintln!(rt; "queue_bench: bad arguments")?;
+        return Ok(ExitCode::from(2));
+    };
+    match handed_out(&rt, way, thousands) {
+        Ok(count) => {
+            println!(rt; "{count} keys handed out")?;
+            Ok(ExitCode::SUCCESS)
+        }
+        Err(_) => {
+            eprintln!(rt; "queue_bench: no memory")?;
+            Ok(ExitCode::from(1))
+        }
+    }
+}
