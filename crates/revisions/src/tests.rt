@@ -114,3 +114,78 @@ fn undoes_the_newest_write(rt: HostRuntime) -> Result<(), Fail> {
     assert_eq!(rt; empty.len(), 0);
     Ok(())
 }
+
+/// The changes of a view, each as its type, its revision, its key, and the label and the version that its object has.
+fn changed(
+    alloc: Global,
+    journal: &Journal,
+    kind: Kind,
+    namespace: Option<&str>,
+    from: u64,
+    to: u64,
+) -> Result<String, Fail> {
+    let namespace = match namespace {
+        Some(namespace) => Some(String::from_str(alloc, namespace)?),
+        None => None,
+    };
+    let found = journal.changes(alloc, &View { kind, namespace }, from, to)?;
+    let mut lines = String::new(alloc);
+    for event in found.iter() {
+        let line = format!(in alloc;
+            "{} {} {}/{} {} {}\n",
+            event.kind.frame_kind().text(),
+            event.revision,
+            event.key.namespace.as_str(),
+            event.key.name.as_str(),
+            label(Some(&event.object)).unwrap_or("none"),
+            event.object.resource_version().unwrap_or("none"),
+        )?;
+        lines.push_str(line.as_str())?;
+    }
+    Ok(lines)
+}
+
+#[test]
+fn changes_of_a_view_between_revisions(rt: HostRuntime) -> Result<(), Fail> {
+    let alloc = rt.alloc();
+    let journal = six_writes(alloc)?;
+    let maps = Kind::ConfigMap;
+    let cases = [
+        (
+            maps,
+            None,
+            1,
+            4,
+            "ADDED 2 default/b b1 none\nADDED 3 default/a a1 none\nMODIFIED 4 default/b b2 none\n",
+        ),
+        (
+            maps,
+            None,
+            4,
+            7,
+            "DELETED 5 default/a a1 5\nADDED 6 apps/c c1 none\n",
+        ),
+        (maps, None, 2, 3, "ADDED 3 default/a a1 none\n"),
+        (maps, None, 3, 3, ""),
+        (maps, None, 7, 9, ""),
+        (
+            maps,
+            Some("default"),
+            3,
+            7,
+            "MODIFIED 4 default/b b2 none\nDELETED 5 default/a a1 5\n",
+        ),
+        (maps, Some("apps"), 1, 7, "ADDED 6 apps/c c1 none\n"),
+        (maps, Some("other"), 1, 7, ""),
+        (Kind::Pod, None, 1, 7, "ADDED 7 default/b p1 none\n"),
+        (Kind::Pod, None, 1, 6, ""),
+    ];
+    for (kind, namespace, from, to, lines) in cases {
+        assert_eq!(rt;
+            changed(alloc, &journal, kind, namespace, from, to)?.as_str(),
+            lines,
+            "from {from} to {to}"
+        );
+    }
+    Ok(())
+}

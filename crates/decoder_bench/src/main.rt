@@ -1,0 +1,55 @@
+//! Feeds the decoder of frames for a benchmark: `decoder_bench PIECE MEBIBYTES FRAME` makes as many frames of FRAME bytes
+//! as go into so many MiB, feeds them in pieces of PIECE bytes, and writes how many frames came out.
+#![tactic(auto)]
+
+mod asked;
+mod feeding;
+
+use asked::Asked;
+use feeding::FeedFault;
+use std::alloc::Global;
+use std::process::ExitCode;
+use std::{env, io};
+
+/// What the program is asked by its arguments.
+fn read_arguments(rt: &HostRuntime) -> io::Result<Option<Asked>> {
+    let mut words = env::args(rt)?;
+    let _program = words.next();
+    match (words.next(), words.next(), words.next(), words.next()) {
+        (Some(piece), Some(mebibytes), Some(frame), None) => {
+            Ok(Asked::read(piece.as_str(), mebibytes.as_str(), frame.as_str()))
+        }
+        _ => Ok(None),
+    }
+}
+
+/// The number of frames that come out.
+fn frames(alloc: Global, asked: Asked) -> Result<u64, FeedFault> {
+    let input = feeding::input(alloc, asked.frame, asked.total)?;
+    feeding::count(alloc, input.as_slice(), asked.piece)
+}
+
+/// What a fault is called on standard error.
+fn fault_name(fault: FeedFault) -> &'static str {
+    match fault {
+        FeedFault::Want => "no memory",
+        FeedFault::Frame => "a fault in place of a frame",
+    }
+}
+
+fn main(rt: HostRuntime) -> io::Result<ExitCode> {
+    let Some(asked) = read_arguments(&rt)? else {
+        eprintln!(rt; "decoder_bench: bad arguments")?;
+        return Ok(ExitCode::from(2));
+    };
+    match frames(rt.alloc(), asked) {
+        Ok(count) => {
+            println!(rt; "{count} frames")?;
+            Ok(ExitCode::SUCCESS)
+        }
+        Err(fault) => {
+            eprintln!(rt; "decoder_bench: {}", fault_name(fault))?;
+            Ok(ExitCode::from(1))
+        }
+    }
+}
