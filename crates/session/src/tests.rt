@@ -84,34 +84,34 @@ fn a_body_of_more_than_a_mebibyte_is_too_large(rt: HostRuntime) -> Result<(), Fa
     Ok(())
 }
 
+/// Whether a request lists a namespace.
+fn lists_a_namespace(request: &Request) -> bool {
+    match request {
+        Request::List(view) => view.namespace.is_some(),
+        _ => false,
+    }
+}
+
+/// Whether a request updates an object of this name.
+fn updates(request: &Request, name: &str) -> bool {
+    match request {
+        Request::Update(key, _) => key.name.as_str() == name,
+        _ => false,
+    }
+}
+
 #[test]
 fn requests_are_read(rt: HostRuntime) -> Result<(), Fail> {
     let alloc = rt.alloc();
     let routes = Routes::new(alloc)?;
-    let list = read_request(
-        alloc,
-        &routes,
-        Method::Get,
-        b"/api/v1/namespaces/team/configmaps",
-        b"",
-    );
-    assert!(rt; matches!(list, Ok(Request::List(view)) if view.namespace.is_some()));
-    let put = read_request(
-        alloc,
-        &routes,
-        Method::Put,
-        b"/api/v1/namespaces/team/configmaps/b",
-        b"{}",
-    );
-    assert!(rt; matches!(put, Ok(Request::Update(key, _)) if key.name.as_str() == "b"));
-    let delete = read_request(
-        alloc,
-        &routes,
-        Method::Delete,
-        b"/api/v1/namespaces/team/configmaps/b",
-        b"",
-    );
-    assert!(rt; matches!(delete, Err(Fault::MethodNotAllowed)));
+    let collection = b"/api/v1/namespaces/team/configmaps";
+    let object = b"/api/v1/namespaces/team/configmaps/b";
+    let list = read_request(alloc, &routes, Method::Get, collection, b"");
+    assert!(rt; list.is_ok_and(|request| lists_a_namespace(&request)));
+    let put = read_request(alloc, &routes, Method::Put, object, b"{}");
+    assert!(rt; put.is_ok_and(|request| updates(&request, "b")));
+    let delete = read_request(alloc, &routes, Method::Delete, object, b"");
+    assert!(rt; matches!(delete.err(), Some(Fault::MethodNotAllowed)));
     Ok(())
 }
 
