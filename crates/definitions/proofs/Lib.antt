@@ -7,6 +7,7 @@ pub mod Falling
 pub mod JsonMembers
 pub mod Limits
 pub mod NoFloatsRead
+pub mod OnLiterals
 pub mod Past
 pub mod Paths
 pub mod Played

@@ -11,7 +11,7 @@ use Rattle.definitions.specs.Names.{Name, name_cmp}
 use Rattle.definitions.specs.History.{History, Write, write, writes, up_to, Members, after, after_all, put_or_remove, members, found, present}
 use Rattle.definitions.specs.Reading.{reading}
 use Rattle.definitions.specs.Refusals.{too_large}
-use Rattle.definitions.specs.Targets.{asks_with, data_of}
+use Rattle.definitions.specs.Targets.{Asked, asks_with, data_of}
 use Rattle.definitions.specs.Verbs.{Request, get_object, list_objects, create_object, update_object, update_status, patch_object, delete_object, accept, shown, new_name, created, updated, with_write, write_of, overflows, most_objects, is_past_greatest}
 use Rattle.definitions.proofs.Cases.{there, of_create, of_update}
 use Rattle.definitions.proofs.Past.{writes-append, whole}
@@ -19,7 +19,7 @@ use Rattle.definitions.proofs.PutLaws.{IsAscending, IsAbove-below, none_above, n
 use Rattle.definitions.proofs.Runs.{by_lines}
 use Rattle.definitions.proofs.VerbLaws.{present-write, at_most}
 
-body_at : (b : Bool) (f : Data → Request) (text : List ℕ) (q : Request) → nat_lt 1048576 (length text) ≡ b → cond b (Err too_large) (asks_with f (data_of text)) ≡ Ok q → length text ≤ 1048576
+body_at : (b : Bool) (f : Data → Request) (text : List ℕ) (q : Asked) → nat_lt 1048576 (length text) ≡ b → cond b (Err too_large) (asks_with f (data_of text)) ≡ Ok q → length text ≤ 1048576
 body_at true f text q at is = cc
 body_at false f text q at is = at_most 1048576 (length text) at
 

@@ -1,10 +1,11 @@
 -- What holds after any lines.
 use Rattle.std.proofs.Common.{◌≡◌, ℕ, ◌+◌, ◌==◌, List, [], ◌∷◌, ◌++◌, length, Bool, true, false, cond, Option, Some, None, IfSome, Result, Ok, Err, decimal, arith, append_assoc, subst, refl, sym, ap, ◌∙◌}
+use Rattle.definitions.specs.Changes.{Change, changes_since}
 use Rattle.definitions.specs.History.{History, Write, write, compaction, writes, Follows, CanHappen, present}
 use Rattle.definitions.specs.Laws.{RunsOnlyAdd, RunsCanHappen, Carry, RunsCarryRevisions}
-use Rattle.definitions.specs.Lines.{Session, start, Line, ask, at, unreadable, line_of, outcome_of, session_after, next, after_lines}
+use Rattle.definitions.specs.Lines.{Session, start, Line, ask, at, unreadable, line_of, reply_for, watch_reply, history_from, session_after, next, after_lines}
 use Rattle.definitions.specs.Refusals.{Refusal}
-use Rattle.definitions.specs.Targets.{read_request}
+use Rattle.definitions.specs.Targets.{Asked, request, watch, read_request}
 use Rattle.definitions.specs.Verbs.{Request, accept, with_write, write_of}
 use Rattle.definitions.specs.Metadata.{version}
 use Rattle.definitions.proofs.Past.{writes-append}
@@ -12,9 +13,14 @@ use Rattle.definitions.proofs.VerbLaws.{versions}
 
 -- a property of histories that a write leaves is kept by every line
 module _ (P : History → Type 0) (each : (q : Request) (h : History) (moment : List ℕ) → P h → P (with_write h (write_of (accept q h moment)))) where
-  by_request : (s : Session) (r : Result Request Refusal) → P s.history → P (with_write s.history (write_of (outcome_of s r)))
+  by_watch : (s : Session) (changes : Result (List Change) Refusal) → P s.history → P (history_from s.history (watch_reply changes))
+  by_watch s (Err f) p = p
+  by_watch s (Ok changes) p = p
+
+  by_request : (s : Session) (r : Result Asked Refusal) → P s.history → P (history_from s.history (reply_for s r))
   by_request s (Err f) p = p
-  by_request s (Ok q) p = each q s.history s.moment p
+  by_request s (Ok (request q)) p = each q s.history s.moment p
+  by_request s (Ok (watch v r)) p = by_watch s (changes_since s.history v r) p
 
   by_line : (s : Session) (line : Line) → P s.history → P (session_after s line).history
   by_line s (ask method target body) p = by_request s (read_request method target body) p

@@ -109,8 +109,8 @@ PathsComeFirst =
     replay
     (codes "GET /api/v1/pods\n"
     ++ codes "GET /api/v1/namespaces/A/configmaps\n"
-    ++ codes "DELETE /api/v1/namespaces/default/configmaps?x\n"
-    ++ codes "GET /api/v1/namespaces/default/configmaps?x\n"
+    ++ codes "DELETE /api/v1/namespaces/default/configmaps?dryRun=All\n"
+    ++ codes "GET /api/v1/namespaces/default/configmaps?dryRun=All\n"
     ++ codes "HELLO\n"
     ++ codes "AT 2025-02-29T00:00:00Z\n")
     ≡ codes "404 {\"apiVersion\":\"v1\",\"code\":404,\"kind\":\"Status\",\"message\":\"the server could not find the requested resource\",\"metadata\":{},\"reason\":\"NotFound\",\"status\":\"Failure\"}\n"

@@ -11,7 +11,7 @@ use Rattle.definitions.specs.History.{History, Write, write, writes, CanHappen, 
 use Rattle.definitions.specs.Refusals.{Refusal}
 use Rattle.definitions.specs.Metadata.{metadata_text, uid, version}
 use Rattle.definitions.specs.Reading.{reading}
-use Rattle.definitions.specs.Targets.{Route, route, path_text, with_body}
+use Rattle.definitions.specs.Targets.{Asked, Route, route, path_text, with_body}
 use Rattle.definitions.specs.Uids.{uid_text, uid_revision, cluster_word}
 use Rattle.definitions.specs.Verbs.{Request, create_object, update_object, Outcome, refused, accept, write_of, outcome_body, history_after, overflows}
 
@@ -110,7 +110,7 @@ PathsAreRoutes = (t : List ℕ) (r : Route) → route t ≡ Some r → path_text
 
 -- a body that is read is no longer than a body may be
 abbrev pub BodiesFit : Type 0
-BodiesFit = (f : Data → Request) (text : List ℕ) (q : Request) → with_body f text ≡ Ok q → length text ≤ 1048576
+BodiesFit = (f : Data → Request) (text : List ℕ) (q : Asked) → with_body f text ≡ Ok q → length text ≤ 1048576
 
 -- ---- runs
 

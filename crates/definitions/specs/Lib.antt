@@ -15,6 +15,7 @@ pub mod Metadata
 pub mod Moments
 pub mod Names
 pub mod Objects
+pub mod Queries
 pub mod Reading
 pub mod Refusals
 pub mod Revisions

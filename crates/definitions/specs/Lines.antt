@@ -1,16 +1,19 @@
 -- What is written for what is read: request lines to reply lines, one after another.
-use Rattle.std.specs.Prelude.{ℕ, List, [], ◌∷◌, ◌++◌, ◌&&◌, ◌==◌, length, Option, Some, None, option_map, Result, Ok, Err, codes, decimal, if◌then◌else◌}
+use Rattle.std.specs.Prelude.{ℕ, List, [], ◌∷◌, ◌++◌, ◌&&◌, ◌==◌, length, flat_map, Option, Some, None, option_map, Result, Ok, Err, codes, decimal, if◌then◌else◌}
 use Rattle.std.specs.List.{slice_split}
 use Rattle.std.specs.Str.{bytes_eq}
 use Rattle.serde_json.specs.Written.{compact_text}
+use Rattle.definitions.specs.Changes.{Change, changes_since}
+use Rattle.definitions.specs.Frames.{frame_text}
 use Rattle.definitions.specs.History.{History}
 use Rattle.definitions.specs.Moments.{is_moment}
 use Rattle.definitions.specs.declared.methods.Method.{Method}
 use Rattle.definitions.specs.declared.methods.Method.TheVariants.{Get, Post, Put, Patch, Delete}
 use Rattle.definitions.specs.declared.refusals.Part.TheVariants as part
 use Rattle.definitions.specs.Refusals.{Refusal, bad_request}
-use Rattle.definitions.specs.Targets.{read_request}
-use Rattle.definitions.specs.Verbs.{Request, Outcome, refused, outcome_code, outcome_body, history_after, accept}
+use Rattle.definitions.specs.Streams.{change_event}
+use Rattle.definitions.specs.Targets.{Asked, request, watch, read_request}
+use Rattle.definitions.specs.Verbs.{Outcome, refused, outcome_code, outcome_body, history_after, accept}
 
 -- ---- what a line says
 
@@ -65,21 +68,40 @@ pub record Session : Type 0 where
 abbrev pub start : Session
 start = record { history = []; moment = codes "2026-01-01T00:00:00Z" }
 
-abbrev pub outcome_of : Session → Result Request Refusal → Outcome
-outcome_of s (Err f) = refused f
-outcome_of s (Ok q) = accept q s.history s.moment
+-- what is answered: an outcome, or the changes of a watch
+pub data Reply : Type 0 where
+  outcome : Outcome → Reply
+  shown : List Change → Reply
 
--- the code, a space, the body as compact JSON, and the end of the line
-abbrev pub reply_text : Outcome → List ℕ
-reply_text o = decimal (outcome_code o) ++ (32 ∷ (compact_text (outcome_body o) ++ 10 ∷ []))
+abbrev pub watch_reply : Result (List Change) Refusal → Reply
+watch_reply (Err f) = outcome (refused f)
+watch_reply (Ok changes) = shown changes
+
+abbrev pub reply_for : Session → Result Asked Refusal → Reply
+reply_for s (Err f) = outcome (refused f)
+reply_for s (Ok (request q)) = outcome (accept q s.history s.moment)
+reply_for s (Ok (watch v r)) = watch_reply (changes_since s.history v r)
+
+-- the lines that show changes
+abbrev pub frames_text : List Change → List ℕ
+frames_text changes = flat_map (λ c. frame_text (change_event c)) changes
+
+-- of an outcome the code, a space, the body as compact JSON, and the end of the line; of a watch how many lines follow, and these
+abbrev pub reply_text : Reply → List ℕ
+reply_text (outcome o) = decimal (outcome_code o) ++ (32 ∷ (compact_text (outcome_body o) ++ 10 ∷ []))
+reply_text (shown changes) = codes "200 watch " ++ (decimal (length changes) ++ (10 ∷ frames_text changes))
+
+abbrev pub history_from : History → Reply → History
+history_from h (outcome o) = history_after h o
+history_from h (shown changes) = h
 
 abbrev pub reply_to : Session → Line → List ℕ
-reply_to s (ask method target body) = reply_text (outcome_of s (read_request method target body))
+reply_to s (ask method target body) = reply_text (reply_for s (read_request method target body))
 reply_to s (at moment) = []
-reply_to s unreadable = reply_text (refused (bad_request part.Head))
+reply_to s unreadable = reply_text (outcome (refused (bad_request part.Head)))
 
 abbrev pub session_after : Session → Line → Session
-session_after s (ask method target body) = record { history = history_after s.history (outcome_of s (read_request method target body)); moment = s.moment }
+session_after s (ask method target body) = record { history = history_from s.history (reply_for s (read_request method target body)); moment = s.moment }
 session_after s (at moment) = record { history = s.history; moment = moment }
 session_after s unreadable = s
 

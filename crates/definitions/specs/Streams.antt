@@ -15,9 +15,13 @@ pub data Line : Type 0 where
   initial : Name → Data → Line
   initial_end : ℕ → Line
 
+-- the event that shows a change
+abbrev pub change_event : Change → Event
+change_event c = record { kind = frame_kind c.kind; object = c.object }
+
 -- the event that a line of a watch of a kind shows
 abbrev pub event_of : Kind → Line → Event
-event_of k (change c) = record { kind = frame_kind c.kind; object = c.object }
+event_of k (change c) = change_event c
 event_of k (bookmark r) = bookmark_event k false r
 event_of k (initial n d) = record { kind = Added; object = d }
 event_of k (initial_end r) = bookmark_event k true r

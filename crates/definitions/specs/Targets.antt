@@ -14,6 +14,8 @@ use Rattle.definitions.specs.declared.methods.Method.TheVariants.{Get, Post, Put
 use Rattle.definitions.specs.declared.refusals.Part.TheVariants as part
 use Rattle.definitions.specs.Kinds.{group, plural, kind_named, has_status}
 use Rattle.definitions.specs.Names.{Name, is_namespace}
+use Rattle.definitions.specs.History.{View}
+use Rattle.definitions.specs.Queries.{Query, plain, watching, pairs_of, collection_query, other_query}
 use Rattle.definitions.specs.Refusals.{Refusal, bad_request, no_such_path, method_not_allowed, too_large}
 use Rattle.definitions.specs.Verbs.{Request, get_object, list_objects, create_object, update_object, update_status}
 
@@ -139,10 +141,7 @@ is_allowed Put (status_of n) = true
 is_allowed Patch r = false
 is_allowed Delete r = false
 
--- a target is a path, and a query after a `?` (RFC 3986, Query)
-abbrev pub has_query : List ℕ → Bool
-has_query target = list_any (λ b. b == 63) target
-
+-- a target is a path, and a query after a `?` (RFC 3986, Path)
 abbrev pub path_of : List ℕ → List ℕ
 path_of target = before_first (λ b. b == 63) target
 
@@ -153,38 +152,56 @@ longest_body = 1048576
 abbrev pub data_of : List ℕ → Option Data
 data_of text = if is_utf8 text then read text else None
 
-abbrev pub asks_with : (Data → Request) → Option Data → Result Request Refusal
-asks_with f None = Err (bad_request part.Body)
-asks_with f (Some d) = Ok (f d)
+-- what is asked: a request, or to be shown the changes of a view after a revision (Kubernetes API Concepts, API verbs)
+pub data Asked : Type 0 where
+  request : Request → Asked
+  watch : View → ℕ → Asked
 
-abbrev pub with_body : (Data → Request) → List ℕ → Result Request Refusal
+abbrev pub asks_with : (Data → Request) → Option Data → Result Asked Refusal
+asks_with f None = Err (bad_request part.Body)
+asks_with f (Some d) = Ok (request (f d))
+
+abbrev pub with_body : (Data → Request) → List ℕ → Result Asked Refusal
 with_body f text = if nat_lt longest_body (length text) then Err too_large else asks_with f (data_of text)
 
--- what a method asks of a route (Kubernetes API Concepts, API verbs)
-abbrev pub asked : Method → Route → List ℕ → Result Request Refusal
-asked Get (collection k ns) text = Ok (list_objects (record { kind = k; namespace = ns }))
-asked Get (object_at n) text = Ok (get_object n)
-asked Get (status_of n) text = Ok (get_object n)
-asked Post (collection k None) text = Err method_not_allowed
-asked Post (collection k (Some ns)) text = with_body (create_object k ns) text
-asked Post (object_at n) text = Err method_not_allowed
-asked Post (status_of n) text = Err method_not_allowed
-asked Put (collection k ns) text = Err method_not_allowed
-asked Put (object_at n) text = with_body (update_object n) text
-asked Put (status_of n) text = with_body (update_status n) text
-asked Patch r text = Err method_not_allowed
-asked Delete r text = Err method_not_allowed
+-- the query that a method and a route take
+abbrev pub query_for : Method → Route → List ℕ → Option Query
+query_for Get (collection k ns) target = collection_query (pairs_of target)
+query_for method r target = other_query (pairs_of target)
 
-abbrev pub asked_at : Method → List ℕ → List ℕ → Option Route → Result Request Refusal
+abbrev pub asked_of_view : View → Query → Asked
+asked_of_view v plain = request (list_objects v)
+asked_of_view v (watching r) = watch v r
+
+-- what a method asks of a route (Kubernetes API Concepts, API verbs)
+abbrev pub asked : Method → Route → Query → List ℕ → Result Asked Refusal
+asked Get (collection k ns) q text = Ok (asked_of_view (record { kind = k; namespace = ns }) q)
+asked Get (object_at n) q text = Ok (request (get_object n))
+asked Get (status_of n) q text = Ok (request (get_object n))
+asked Post (collection k None) q text = Err method_not_allowed
+asked Post (collection k (Some ns)) q text = with_body (create_object k ns) text
+asked Post (object_at n) q text = Err method_not_allowed
+asked Post (status_of n) q text = Err method_not_allowed
+asked Put (collection k ns) q text = Err method_not_allowed
+asked Put (object_at n) q text = with_body (update_object n) text
+asked Put (status_of n) q text = with_body (update_status n) text
+asked Patch r q text = Err method_not_allowed
+asked Delete r q text = Err method_not_allowed
+
+abbrev pub asked_with : Method → Route → List ℕ → Option Query → Result Asked Refusal
+asked_with method r text None = Err (bad_request part.Query)
+asked_with method r text (Some q) = asked method r q text
+
+abbrev pub asked_at : Method → List ℕ → List ℕ → Option Route → Result Asked Refusal
 asked_at method target text None = Err no_such_path
 asked_at method target text (Some r) =
     if not (names_namespace r) then Err (bad_request part.Path)
-    else (if not (is_allowed method r) then Err method_not_allowed else (if has_query target then Err (bad_request part.Query) else asked method r text))
+    else (if not (is_allowed method r) then Err method_not_allowed else asked_with method r text (query_for method r target))
 
 -- a target that is no text is read as one, with U+FFFD in the place of what is none (Unicode, U+FFFD Substitution)
 abbrev pub decoded : List ℕ → List ℕ
 decoded t = if is_utf8 t then t else utf8_lossy t
 
--- the request, or the first refusal: of the path, the method, the query, the body
-abbrev pub read_request : Method → List ℕ → List ℕ → Result Request Refusal
+-- what is asked, or the first refusal: of the path, the method, the query, the body
+abbrev pub read_request : Method → List ℕ → List ℕ → Result Asked Refusal
 read_request method target text = asked_at method (decoded target) text (route (path_of (decoded target)))

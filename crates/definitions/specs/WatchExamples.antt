@@ -10,6 +10,9 @@ use Rattle.definitions.specs.Refusals.{too_new}
 use Rattle.definitions.specs.Changes.{changes}
 use Rattle.definitions.specs.Frames.{frame_text, bookmark_event, error_event, reading}
 use Rattle.definitions.specs.Streams.{change, text_of}
+use Rattle.form_urlencoded.specs.Form.{raw_pairs}
+use Rattle.definitions.specs.Lines.{replay}
+use Rattle.definitions.specs.Queries.{Query, plain, watching, collection_query}
 
 -- a ConfigMap of a name, with a value and a version
 abbrev config_map : List ℕ → List ℕ → List ℕ → Data
@@ -88,3 +91,52 @@ OthersAreRefused =
     × (reading (codes "{\"object\":{},\"type\":\"added\"}\n") ≡ record { events = []; held = []; fault = Some NotAFrame })
     × (reading (codes "{\"object\":{},\"type\":\"ERROR\"}\n{\"object\":[],\"type\":\"ERROR\"}\n{}")
     ≡ record { events = record { kind = Error; object = object no_members } ∷ []; held = []; fault = Some NotAFrame })
+
+abbrev create_a : List ℕ
+create_a = codes "POST /api/v1/namespaces/default/configmaps {\"metadata\":{\"name\":\"a\"},\"data\":{\"k\":\"v\"}}\n"
+
+abbrev update_a : List ℕ
+update_a = codes "PUT /api/v1/namespaces/default/configmaps/a {\"metadata\":{\"name\":\"a\",\"resourceVersion\":\"2\"},\"data\":{\"k\":\"w\"}}\n"
+
+abbrev object_a : List ℕ → List ℕ → List ℕ
+object_a value version =
+    codes "{\"apiVersion\":\"v1\",\"data\":{\"k\":\""
+    ++ (value
+    ++ (codes "\"},\"kind\":\"ConfigMap\",\"metadata\":{\"creationTimestamp\":\"2026-01-01T00:00:00Z\",\"name\":\"a\",\"namespace\":\"default\",\"resourceVersion\":\""
+    ++ (version ++ codes "\",\"uid\":\"00000000-0000-8000-8000-000000000002\"}}")))
+
+-- a watch shows how many changes there are since its revision, and these; one from a revision that is not there yet is refused
+abbrev pub WatchesAreReplayed : Type 0
+WatchesAreReplayed =
+    replay
+    (create_a
+    ++ update_a
+    ++ codes "GET /api/v1/namespaces/default/configmaps?watch=true&resourceVersion=2\n"
+    ++ codes "GET /api/v1/configmaps?resourceVersion=3&watch=1\n"
+    ++ codes "GET /api/v1/namespaces/default/configmaps?watch=true&resourceVersion=4\n")
+    ≡ (codes "201 " ++ object_a (codes "v") (codes "2") ++ codes "\n")
+    ++ (codes "200 " ++ object_a (codes "w") (codes "3") ++ codes "\n")
+    ++ (codes "200 watch 1\n{\"object\":" ++ object_a (codes "w") (codes "3") ++ codes ",\"type\":\"MODIFIED\"}\n")
+    ++ codes "200 watch 0\n"
+    ++ codes "504 {\"apiVersion\":\"v1\",\"code\":504,\"kind\":\"Status\",\"message\":\"Timeout: Too large resource version: 4, current: 3\",\"metadata\":{},\"reason\":\"Timeout\",\"status\":\"Failure\"}\n"
+
+abbrev query_in : List ℕ → Option Query
+query_in query = collection_query (raw_pairs query)
+
+-- of repeated members the first counts, names and values are decoded, and what is not known says nothing
+abbrev pub QueriesAreRead : Type 0
+QueriesAreRead =
+    (query_in (codes "") ≡ Some plain)
+    × (query_in (codes "pretty=1&&x") ≡ Some plain)
+    × (query_in (codes "resourceVersion=") ≡ Some plain)
+    × (query_in (codes "watch=true&resourceVersion=7&watch=false&resourceVersion=x") ≡ Some (watching 7))
+    × (query_in (codes "w%61tch=%31&resource%56ersion=9007199254740991") ≡ Some (watching 9007199254740991))
+
+-- what a watch or a list does not understand, or does not serve so far
+abbrev pub QueriesAreRefused : Type 0
+QueriesAreRefused =
+    map query_in
+    (codes "watch=true" ∷ codes "watch=true&resourceVersion=" ∷ codes "watch=true&resourceVersion=0" ∷ codes "watch=true&resourceVersion=00" ∷ codes "watch=true&resourceVersion=-1"
+    ∷ codes "watch=true&resourceVersion=9007199254740992" ∷ codes "watch=TRUE&resourceVersion=1" ∷ codes "watch=false" ∷ codes "watch&resourceVersion=1" ∷ codes "resourceVersion=1" ∷ codes "limit=1"
+    ∷ codes "dryRun=" ∷ codes "labelSelector=" ∷ [])
+    ≡ replicate 13 None

@@ -1,5 +1,5 @@
 //! Worked facts of watches, which the checker computes from the definitions.
-ghost use Rattle.definitions.specs.WatchExamples.{WritesAreSeen, ViewsAreKept, WatchesBegin, BookmarksAreSaid, ErrorsAreSaid, FramesAreRead, OthersAreRefused};
+ghost use Rattle.definitions.specs.WatchExamples.{WritesAreSeen, ViewsAreKept, WatchesBegin, BookmarksAreSaid, ErrorsAreSaid, FramesAreRead, OthersAreRefused, WatchesAreReplayed, QueriesAreRead, QueriesAreRefused};
 
 /// A create, an update and a removal are seen as ADDED, MODIFIED and DELETED, the last at its own revision.
 pub fn writes_are_seen()
@@ -34,4 +34,19 @@ pub fn frames_are_read()
 /// A line that is no frame ends what is read.
 pub fn others_are_refused()
     ensures { OthersAreRefused }
+{}
+
+/// A watch in a replay: its count and its frames, and the refusal of a revision that is not there yet.
+pub fn watches_are_replayed()
+    ensures { WatchesAreReplayed }
+{}
+
+/// Queries of lists and watches, in many spellings.
+pub fn queries_are_read()
+    ensures { QueriesAreRead }
+{}
+
+/// Queries that are refused, each for a reason of its own.
+pub fn queries_are_refused()
+    ensures { QueriesAreRefused }
 {}

@@ -4,20 +4,19 @@ use Rattle.serde_json.specs.Data.{Data}
 use Rattle.definitions.specs.declared.methods.Method.{Method}
 use Rattle.definitions.specs.declared.refusals.Part.TheVariants as part
 use Rattle.definitions.specs.Refusals.{bad_request, method_not_allowed, too_large}
-use Rattle.definitions.specs.Targets.{Route, route, path_of, names_namespace, is_allowed, has_query, asked, asked_at, decoded, longest_body, data_of, asks_with}
+use Rattle.definitions.specs.Targets.{Route, route, path_of, names_namespace, is_allowed, query_for, asked_with, asked_at, decoded, longest_body, data_of, asks_with}
 use Rattle.requests.specs.Checked.{ChecksComeFirst, BodiesAreReadOnce, checked_route, asked_after, body_or, asks_of}
 
-checks : (method : Method) (target text : List ℕ) (o : Option Route) → asked_at method target text o ≡ asked_after method text (checked_route method target o)
+checks : (method : Method) (target text : List ℕ) (o : Option Route) → asked_at method target text o ≡ asked_after method target text (checked_route method o)
 checks method target text None = refl
-checks method target text (Some r) = by (names_namespace r) (is_allowed method r) (has_query target)
+checks method target text (Some r) = by (names_namespace r) (is_allowed method r)
   where
-    by : (n a q : Bool)
-        → (if not n then Err (bad_request part.Path) else (if not a then Err method_not_allowed else (if q then Err (bad_request part.Query) else asked method r text)))
-        ≡ asked_after method text (if not n then Err (bad_request part.Path) else (if not a then Err method_not_allowed else (if q then Err (bad_request part.Query) else Ok r)))
-    by false a q = refl
-    by true false q = refl
-    by true true true = refl
-    by true true false = refl
+    by : (n a : Bool)
+        → (if not n then Err (bad_request part.Path) else (if not a then Err method_not_allowed else asked_with method r text (query_for method r target)))
+        ≡ asked_after method target text (if not n then Err (bad_request part.Path) else (if not a then Err method_not_allowed else Ok r))
+    by false a = refl
+    by true false = refl
+    by true true = refl
 
 pub checks_first : ChecksComeFirst
 checks_first method target text = checks method (decoded target) text (route (path_of (decoded target)))

@@ -1,3 +1,4 @@
 pub mod Checked
 pub mod Lines
+pub mod Queried
 pub mod Seen

@@ -9,7 +9,7 @@ use Rattle.routes.specs.Seen.{route_seen}
 use Rattle.routes.specs.declared.targets.Target.{Target}
 use Rattle.requests.specs.Checked.{body_of}
 use Rattle.requests.specs.declared.check.CheckFault.{CheckFault}
-use Rattle.requests.specs.declared.check.CheckFault.TheVariants.{NoSuchPath, BadNamespace, MethodNotAllowed, BadQuery}
+use Rattle.requests.specs.declared.check.CheckFault.TheVariants.{NoSuchPath, BadNamespace, MethodNotAllowed}
 use Rattle.requests.specs.declared.body.BodyFault.{BodyFault}
 use Rattle.requests.specs.declared.body.BodyFault.TheVariants.{TooLarge, NotJson, NoMemory}
 
@@ -18,7 +18,6 @@ abbrev pub check_refusal : CheckFault → Refusal
 check_refusal NoSuchPath = no_such_path
 check_refusal BadNamespace = bad_request part.Path
 check_refusal MethodNotAllowed = method_not_allowed
-check_refusal BadQuery = bad_request part.Query
 
 abbrev pub checked_seen : Result Target CheckFault → Result Route Refusal
 checked_seen (Ok t) = Ok (route_seen t)

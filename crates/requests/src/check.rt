@@ -1,8 +1,8 @@
-//! The checks of a request before its body is read.
+//! The checks of a request before its query is read.
 ghost use Rattle.std.specs.Prelude.{◌≡◌, IfOk, IsOk};
 ghost use Rattle.std.specs.Str.{IsUtf8};
 ghost use Rattle.std.specs.Cow.{cow_str_bytes};
-ghost use Rattle.definitions.specs.Targets.{is_allowed, has_query, path_of, decoded};
+ghost use Rattle.definitions.specs.Targets.{is_allowed, path_of, decoded};
 ghost use Rattle.routes.specs.Seen.{route_seen};
 ghost use Rattle.requests.specs.Checked.{checked_at};
 ghost use Rattle.requests.specs.Seen.{checked_seen};
@@ -13,7 +13,7 @@ use routes::targets::Target;
 use std::alloc::{AllocError, Global};
 use std::borrow::CowStr;
 
-/// Why a request is refused before its body is read, by the first check that it does not pass.
+/// Why a request is refused before its query is read, by the first check that it does not pass.
 #[derive(Clone, Copy, Debug, PartialEq, Eq)]
 pub enum CheckFault {
     /// The path names nothing that is served.
@@ -22,8 +22,6 @@ pub enum CheckFault {
     BadNamespace,
     /// What the path names does not serve the method.
     MethodNotAllowed,
-    /// The target has a query that is not understood.
-    BadQuery,
 }
 
 /// The path of a target: what stands before the first `?`.
@@ -34,13 +32,6 @@ fn path_of<'t>(target: &'t str) -> &'t str
         Some((path, _)) => path,
         None => target,
     }
-}
-
-/// Whether a target has a query.
-fn has_query(target: &str) -> bool
-    ensures { result ≡ has_query target.now }
-{
-    target.bytes().any(|byte| byte == b'?')
 }
 
 /// Whether what a path names serves the method so far.
@@ -55,8 +46,8 @@ fn is_allowed(method: Method, target: Target<'_>) -> bool
     }
 }
 
-/// What a request's target names, if the request passes the checks: of the path, of the path's namespace, of the
-/// method, and of the query, in this order. The target is a path, and a query after a `?`.
+/// What a request's target names, if the request passes the checks: of the path, of the path's namespace, and of the
+/// method, in this order. The target is a path, and a query after a `?`.
 pub fn check_request<'t>(
     routes: &Routes,
     method: Method,
@@ -72,9 +63,6 @@ pub fn check_request<'t>(
     }
     if !is_allowed(method, named) {
         return Err(CheckFault::MethodNotAllowed);
-    }
-    if has_query(target) {
-        return Err(CheckFault::BadQuery);
     }
     Ok(named)
 }

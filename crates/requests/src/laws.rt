@@ -1,7 +1,8 @@
 //! How the parts of a request's reading make the whole.
 ghost use Rattle.requests.specs.Checked.{ChecksComeFirst, BodiesAreReadOnce};
 
-/// A request is refused by the first check of its target that it does not pass, and else asks what its body says.
+/// A request is refused by the first check of its target that it does not pass, and else asks what its query and its
+/// body say.
 pub fn checks_come_first()
     ensures { ChecksComeFirst }
 {}

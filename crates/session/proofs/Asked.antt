@@ -15,8 +15,8 @@ pub asks-refused : (f : Data → Request) (text : List ℕ) (e : Fault) → Read
 asks-refused f text e (inl want) = inl want
 asks-refused f text e (inr is) = inr (bodies_once f text ∙ ap (asks_of f) is)
 
--- a request is what the checks of its decoded target leave
+-- what is asked is what the checks of its decoded target leave
 pub checked-asks : (method : Method) (target text decoded_text : List ℕ) (checked : Result Route Refusal)
-    → decoded_text ≡ decoded target → checked ≡ checked_at method decoded_text → read_request method target text ≡ asked_after method text checked
+    → decoded_text ≡ decoded target → checked ≡ checked_at method decoded_text → read_request method target text ≡ asked_after method decoded_text text checked
 checked-asks method target text decoded_text checked same is =
-    checks_first method target text ∙ ap (λ t. asked_after method text (checked_at method t)) (sym same) ∙ ap (asked_after method text) (sym is)
+    checks_first method target text ∙ ap (λ t. asked_after method t text (checked_at method t)) (sym same) ∙ ap (asked_after method decoded_text text) (sym is)

@@ -3,8 +3,7 @@ use Rattle.std.proofs.Common.{◌≡◌, ℕ, List, [], ◌∷◌, ◌++◌, Boo
 use Rattle.serde_json.specs.Written.{compact_text}
 use Rattle.definitions.proofs.Limits.{room}
 use Rattle.definitions.specs.History.{History, members, present}
-use Rattle.definitions.specs.Lines.{Session, outcome_of, reply_text}
-use Rattle.definitions.specs.Refusals.{Refusal}
+use Rattle.definitions.specs.Lines.{outcome, reply_text}
 use Rattle.definitions.specs.Verbs as verbs
 use Rattle.definitions.specs.Verbs.{Answer, Outcome, Request, answered, refused, history_after, overflows, with_write, accept}
 use Rattle.meta.specs.Writes.{write_of}
@@ -19,14 +18,12 @@ served-write (refused f) r w is = absurd is
 pub served-history : (h : History) (o : Outcome) (r : Reply) (w : Option Write) → Serves o (Ok (r, w)) → with_write h (option_map write_of w) ≡ history_after h o
 served-history h o r w is = ap (with_write h) (served-write o r w is)
 
-pub served-text : (o : Outcome) (r : Reply) (w : Option Write) → Serves o (Ok (r, w)) → decimal r.code ++ (32 ∷ (string_bytes r.text ++ 10 ∷ [])) ≡ reply_text o
+pub served-text : (o : Outcome) (r : Reply) (w : Option Write) → Serves o (Ok (r, w)) → decimal r.code ++ (32 ∷ (string_bytes r.text ++ 10 ∷ [])) ≡ reply_text (outcome o)
 served-text (answered a) r w is = ap₂ (λ code text. decimal code ++ (32 ∷ (text ++ 10 ∷ []))) (sym is.code) is.text
 served-text (refused f) r w is = absurd is
 
 -- what is served has room
-pub served-room : (s : Session) (asked : Result Request Refusal) (r : Reply) (w : Option Write) → Serves (outcome_of s asked) (Ok (r, w))
-    → IfSome (option_map write_of w) (λ e. overflows (members s.history (present s.history)) (present s.history) e ≡ false)
-served-room s (Err f) r w is = absurd is
-served-room s (Ok q) r w is =
-    subst (λ e. IfSome e (λ e. overflows (members s.history (present s.history)) (present s.history) e ≡ false))
-    (sym (served-write (accept q s.history s.moment) r w is)) (room q s.history s.moment)
+pub served-room : (h : History) (moment : List ℕ) (q : Request) (r : Reply) (w : Option Write) → Serves (accept q h moment) (Ok (r, w))
+    → IfSome (option_map write_of w) (λ e. overflows (members h (present h)) (present h) e ≡ false)
+served-room h moment q r w is =
+    subst (λ e. IfSome e (λ e. overflows (members h (present h)) (present h) e ≡ false)) (sym (served-write (accept q h moment) r w is)) (room q h moment)

@@ -4,16 +4,23 @@ use Rattle.serde_json.specs.Data.{Data}
 use Rattle.serde_json.specs.View.{view}
 use Rattle.serde_json.specs.declared.value.Value.{Value}
 use Rattle.definitions.specs.Refusals.{Refusal}
-use Rattle.definitions.specs.Verbs as verbs
+use Rattle.definitions.specs.Targets as targets
 use Rattle.meta.specs.Faults.{refusal_of}
 use Rattle.meta.specs.declared.faults.Fault.{Fault}
 use Rattle.meta.specs.declared.faults.Fault.TheVariants as fault
 use Rattle.verbs.specs.Requests.{request_of}
-use Rattle.verbs.specs.declared.requests.Request.{Request}
+use Rattle.selector.specs.Views.{view_of}
+use Rattle.session.specs.declared.asked.Asked.{Asked}
+use Rattle.session.specs.declared.asked.Asked.TheVariants.{Request, Watch}
 
--- the result is this request or refusal, or want of memory
-abbrev pub Asks : Result verbs.Request Refusal → Result Request Fault → Type 0
-Asks wanted (Ok q) = wanted ≡ Ok (request_of q)
+-- what is asked as the definitions say it
+abbrev pub asked_seen : Asked → targets.Asked
+asked_seen (Request q) = targets.request (request_of q)
+asked_seen (Watch view from) = targets.watch (view_of view) from
+
+-- the result is what is asked, or this refusal, or want of memory
+abbrev pub Asks : Result targets.Asked Refusal → Result Asked Fault → Type 0
+Asks wanted (Ok a) = wanted ≡ Ok (asked_seen a)
 Asks wanted (Err e) = (e ≡ fault.NoMemory) ⊎ (wanted ≡ Err (refusal_of e))
 
 -- the result is this data or refusal, or want of memory

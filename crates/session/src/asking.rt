@@ -1,20 +1,23 @@
 //! What a method, a target and a body ask for.
 ghost use Rattle.std.specs.Prelude.{◌≡◌, IfOk, option_map};
-ghost use Rattle.definitions.specs.Targets.{asked, read_request};
+ghost use Rattle.definitions.specs.Targets.{asked, asked_of_view, asked_with, query_for, read_request};
 ghost use Rattle.meta.specs.Faults.{refusal_of};
 ghost use Rattle.meta.specs.Keys.{name_of};
 ghost use Rattle.requests.specs.Checked.{body_of};
+ghost use Rattle.requests.specs.Queried.{query_seen};
 ghost use Rattle.requests.specs.Seen.{check_refusal};
 ghost use Rattle.routes.specs.Seen.{now, route_seen};
 ghost use Rattle.selector.specs.Views.{view_of};
-ghost use Rattle.session.specs.Asked.{Asks, ReadsData};
+ghost use Rattle.session.specs.Asked.{Asks, ReadsData, asked_seen};
 
+use crate::asked::Asked;
 use definitions::kinds::Kind;
 use definitions::methods::Method;
 use definitions::refusals::Part;
 use meta::{Fault, Key};
 use requests::body::{BodyFault, read_body};
 use requests::check::{CheckFault, check_request, decode};
+use requests::query::{Query, QueryFault, read_query};
 use routes::table::Routes;
 use routes::targets::Target;
 use selector::View;
@@ -22,50 +25,87 @@ use serde_json::Value;
 use std::alloc::{AllocError, Global};
 use verbs::Request;
 
-/// The request that a method, a target and a body make. The error is the first refusal: of the path, the method, the
-/// query, the body; or want of memory.
+/// What a method, a target and a body ask. The error is the first refusal: of the path, the method, the query, the
+/// body; or want of memory.
 pub fn read_request(
     alloc: Global,
     routes: &Routes,
     method: Method,
     target: &[u8],
     body: &[u8],
-) -> Result<Request, Fault>
+) -> Result<Asked, Fault>
     ensures { Asks (read_request method target.now body.now) result }
 {
     let text = decode(alloc, target)?;
     match check_request(routes, method, text.as_str()) {
-        Ok(named) => ask(alloc, method, named, body),
+        Ok(named) => ask_with(alloc, method, named, text.as_str(), body),
         Err(fault) => Err(check_fault(fault)),
     }
 }
 
-/// What a method asks of a target that passed the checks.
-fn ask(alloc: Global, method: Method, target: Target<'_>, body: &[u8]) -> Result<Request, Fault>
-    ensures { Asks (asked method (route_seen target.entry) body.now) result }
+/// What a method asks of a target that passed the checks, with its query.
+fn ask_with(
+    alloc: Global,
+    method: Method,
+    named: Target<'_>,
+    target: &str,
+    body: &[u8],
+) -> Result<Asked, Fault>
+    ensures { Asks (asked_with method (route_seen named.entry) body.now
+        (query_for method (route_seen named.entry) target.now)) result }
+{
+    match read_query(alloc, method, named, target) {
+        Ok(query) => ask(alloc, method, named, query, body),
+        Err(QueryFault::BadQuery) => Err(Fault::BadRequest(Part::Query)),
+        Err(QueryFault::NoMemory) => Err(Fault::NoMemory),
+    }
+}
+
+/// What a method asks of a target, with a query.
+fn ask(
+    alloc: Global,
+    method: Method,
+    target: Target<'_>,
+    query: Query,
+    body: &[u8],
+) -> Result<Asked, Fault>
+    ensures { Asks (asked method (route_seen target.entry) (query_seen query) body.now) result }
 {
     match (method, target) {
         (Method::Get, Target::Collection(kind, namespace)) => {
             let view = view(alloc, kind, namespace)?;
-            Ok(Request::List(view))
+            Ok(ask_of_view(view, query))
         }
         (
             Method::Get,
             Target::Object(kind, namespace, name) | Target::Status(kind, namespace, name),
-        ) => { Ok(Request::Get(key(alloc, kind, namespace, name)?)) }
+        ) => { Ok(Asked::Request(Request::Get(key(alloc, kind, namespace, name)?))) }
         (Method::Post, Target::Collection(kind, Some(namespace))) => {
             let value = read(alloc, body)?;
-            Ok(Request::Create(kind, String::from_str(alloc, namespace)?, value))
+            let namespace = String::from_str(alloc, namespace)?;
+            Ok(Asked::Request(Request::Create(kind, namespace, value)))
         }
         (Method::Put, Target::Object(kind, namespace, name)) => {
             let value = read(alloc, body)?;
-            Ok(Request::Update(key(alloc, kind, namespace, name)?, value))
+            let key = key(alloc, kind, namespace, name)?;
+            Ok(Asked::Request(Request::Update(key, value)))
         }
         (Method::Put, Target::Status(kind, namespace, name)) => {
             let value = read(alloc, body)?;
-            Ok(Request::UpdateStatus(key(alloc, kind, namespace, name)?, value))
+            let key = key(alloc, kind, namespace, name)?;
+            Ok(Asked::Request(Request::UpdateStatus(key, value)))
         }
         _ => Err(Fault::MethodNotAllowed),
+    }
+}
+
+/// The list of a view, or a watch of it.
+fn ask_of_view(view: View, query: Query) -> Asked
+    ensures { asked_seen result ≡ asked_of_view (view_of view) (query_seen query) }
+{
+    match query {
+        Query::Plain => Asked::Request(Request::List(view)),
+        Query::Watching(from) => Asked::Watch { view, from },
     }
 }
 
@@ -111,6 +151,5 @@ fn check_fault(fault: CheckFault) -> Fault
         CheckFault::NoSuchPath => Fault::NoSuchPath,
         CheckFault::BadNamespace => Fault::BadRequest(Part::Path),
         CheckFault::MethodNotAllowed => Fault::MethodNotAllowed,
-        CheckFault::BadQuery => Fault::BadRequest(Part::Query),
     }
 }

@@ -1,19 +1,21 @@
 //! Sessions.
 ghost use Rattle.definitions.specs.Lines as lines;
 
+use crate::asked::Asked;
 use crate::asking::read_request;
-use crate::lines::{line, refusal_line};
+use crate::lines::{line, refusal_line, watch_lines};
 use definitions::methods::Method;
 use definitions::refusals::Part;
 use line_service::LineService;
 use meta::{Fault, Write};
-use reply::Reply;
 use requests::line::{Line, read_line};
 use routes::table::Routes;
 use stamps::moments::Moment;
 use std::alloc::{AllocError, Global};
+use selector::View;
 use std::marker::Model;
 use store::Store;
+use verbs::Request;
 
 /// A store and the moment that it is, over which lines are answered. It is seen as what has happened, and the moment.
 #[derive(Drop)]
@@ -37,11 +39,13 @@ impl Model for Session {
 impl Session {
     ghost use Rattle.std.specs.Prelude.{◌≡◌, IfOk, OnOk, OnErr, IfSome, option_map, false};
     ghost use Rattle.definitions.specs.History.{members, present};
-    ghost use Rattle.definitions.specs.Lines.{start, outcome_of, reply_text};
+    ghost use Rattle.definitions.specs.Lines.{start, outcome, reply_for, reply_text, watch_reply, history_from};
     ghost use Rattle.definitions.specs.Targets as targets;
-    ghost use Rattle.definitions.specs.Verbs.{history_after, with_write, overflows};
+    ghost use Rattle.definitions.specs.Verbs.{accept, history_after, with_write, overflows};
     ghost use Rattle.meta.specs.Writes.{write_of};
-    ghost use Rattle.verbs.specs.Requests.{Serves};
+    ghost use Rattle.definitions.specs.Changes.{changes_since};
+    ghost use Rattle.selector.specs.Views.{view_of};
+    ghost use Rattle.verbs.specs.Requests.{request_of};
 
     /// A session over the empty store, at the start of 2026. The error is want of memory.
     pub fn new(alloc: Global) -> Result<Session, AllocError>
@@ -52,20 +56,6 @@ impl Session {
             moment: Moment::start(),
             routes: Routes::new(alloc)?,
         })
-    }
-
-    /// The reply to a request with what it writes, or why it is refused.
-    fn accept(
-        &self,
-        alloc: Global,
-        method: Method,
-        target: &[u8],
-        body: &[u8],
-    ) -> Result<(Reply, Option<Write>), Fault>
-        ensures { Serves (outcome_of self.now (targets.read_request method target.now body.now)) result }
-    {
-        let request = read_request(alloc, &self.routes, method, target, body)?;
-        verbs::accept(alloc, &self.store, request, self.moment)
     }
 
     /// Takes what a reply writes. An error, want of memory, changes nothing.
@@ -87,6 +77,39 @@ impl Session {
     }
 
     /// The reply line to a request, after which what it writes is written. An error, want of memory, changes nothing.
+    fn accept(&mut self, alloc: Global, request: Request) -> Result<Vec<u8>, AllocError>
+        ensures text { IfOk result (λ l. l.items
+            ≡ reply_text (outcome (accept (request_of request) self.old.history self.old.moment))) }
+        ensures history { OnOk result (self.new.history
+            ≡ history_after self.old.history (accept (request_of request) self.old.history self.old.moment)) }
+        ensures moment { self.new.moment ≡ self.old.moment }
+        ensures err { OnErr result (self.new ≡ self.old) }
+    {
+        match verbs::accept(alloc, &self.store, request, self.moment) {
+            Ok((reply, write)) => {
+                let text = line(alloc, reply.code, reply.text.as_str())?;
+                self.take(write)?;
+                Ok(text)
+            }
+            Err(Fault::NoMemory) => Err(AllocError),
+            Err(fault) => refusal_line(alloc, &fault),
+        }
+    }
+
+    /// The lines of a watch: the changes of a view after a revision.
+    fn show(&self, alloc: Global, view: &View, from: u64) -> Result<Vec<u8>, AllocError>
+        ensures { IfOk result (λ l. l.items
+            ≡ reply_text (watch_reply (changes_since self.now.history (view_of view.now) from))) }
+    {
+        match self.store.changes(alloc, view, from) {
+            Ok(events) => watch_lines(alloc, &events),
+            Err(Fault::NoMemory) => Err(AllocError),
+            Err(fault) => refusal_line(alloc, &fault),
+        }
+    }
+
+    /// The reply lines to what is asked, after which what it writes is written. An error, want of memory, changes
+    /// nothing.
     fn answer(
         &mut self,
         alloc: Global,
@@ -95,18 +118,15 @@ impl Session {
         body: &[u8],
     ) -> Result<Vec<u8>, AllocError>
         ensures text { IfOk result (λ l. l.items
-            ≡ reply_text (outcome_of self.old (targets.read_request method target.now body.now))) }
+            ≡ reply_text (reply_for self.old (targets.read_request method target.now body.now))) }
         ensures history { OnOk result (self.new.history
-            ≡ history_after self.old.history (outcome_of self.old (targets.read_request method target.now body.now))) }
+            ≡ history_from self.old.history (reply_for self.old (targets.read_request method target.now body.now))) }
         ensures moment { self.new.moment ≡ self.old.moment }
         ensures err { OnErr result (self.new ≡ self.old) }
     {
-        match self.accept(alloc, method, target, body) {
-            Ok((reply, write)) => {
-                let text = line(alloc, reply.code, reply.text.as_str())?;
-                self.take(write)?;
-                Ok(text)
-            }
+        match read_request(alloc, &self.routes, method, target, body) {
+            Ok(Asked::Request(request)) => self.accept(alloc, request),
+            Ok(Asked::Watch { view, from }) => self.show(alloc, &view, from),
             Err(Fault::NoMemory) => Err(AllocError),
             Err(fault) => refusal_line(alloc, &fault),
         }
