@@ -1,7 +1,7 @@
 use Rattle.std.proofs.Common.{rules, ◌≡◌, Some}
 use Rattle.routes.specs.declared.targets.Target.TheVariants.{Collection}
 use Rattle.std.proofs.lemmas.Result.{err_from_is_err_and}
-use Rattle.session.proofs.Asked.{asks-refused}
+use Rattle.session.proofs.Checks.{asks-refused}
 use Rattle.session.proofs.asking.ask.Goals as goal
 
 pub returns-in_err-value-in-Post-Collection-default-Some : goal.returns-in_err-value-in-Post-Collection-default-Some
