@@ -13,6 +13,7 @@ pub mod Played
 pub mod PutLaws
 pub mod ReadAgain
 pub mod Runs
+pub mod SelectorLaws
 pub mod Streamed
 pub mod TaskOrder
 pub mod Uids
