@@ -23,6 +23,7 @@ pub mod Schemas
 pub mod SelectorCodes
 pub mod SelectorExamples
 pub mod SelectorFields
+pub mod SelectorForms
 pub mod SelectorLaws
 pub mod SelectorTexts
 pub mod SelectorValues

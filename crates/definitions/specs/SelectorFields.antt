@@ -1,6 +1,6 @@
 -- What a selector of fields asks for, and what its text says (Kubernetes, Field Selectors).
-use Rattle.std.specs.Prelude.{ℕ, ◌==◌, ◌-◌, ◌&&◌, ◌||◌, List, [], ◌∷◌, ◌++◌, Bool, true, false, not, length, slice_index, take, reverse, codes, is_some, nat_lt, if◌then◌else◌, Option, None, Some, option_map, option_and_then, unwrap_or, Result, Ok, Err}
-use Rattle.std.specs.List.{list_all, list_any, before_first, after_first, slice_split, onto_first}
+use Rattle.std.specs.Prelude.{ℕ, ◌&&◌, List, [], ◌∷◌, Bool, true, false, not, codes, if◌then◌else◌, Option, None, Some, option_map}
+use Rattle.std.specs.List.{list_all, list_any, slice_split}
 use Rattle.std.specs.Str.{bytes_eq}
 use Rattle.definitions.specs.declared.selectors.Operator.{Operator}
 use Rattle.definitions.specs.declared.selectors.Operator.TheVariants.{In, NotIn, Exists, DoesNotExist}

@@ -1,6 +1,6 @@
 -- What the text of a selector says (Kubernetes, Labels and Selectors, API).
-use Rattle.std.specs.Prelude.{ℕ, ◌==◌, ◌-◌, ◌&&◌, ◌||◌, List, [], ◌∷◌, ◌++◌, Bool, true, false, not, length, slice_index, take, reverse, codes, is_some, nat_lt, if◌then◌else◌, Option, None, Some, option_map, option_and_then, unwrap_or, Result, Ok, Err}
-use Rattle.std.specs.List.{list_all, list_any, before_first, after_first, slice_split, onto_first}
+use Rattle.std.specs.Prelude.{ℕ, ◌==◌, ◌-◌, ◌&&◌, ◌||◌, List, [], ◌∷◌, Bool, false, not, length, slice_index, take, reverse, codes, nat_lt, if◌then◌else◌, Option, None, Some, option_and_then}
+use Rattle.std.specs.List.{list_any, before_first, after_first, slice_split, onto_first}
 use Rattle.std.specs.Str.{bytes_eq}
 use Rattle.definitions.specs.declared.selectors.Operator.{Operator}
 use Rattle.definitions.specs.declared.selectors.Operator.TheVariants.{In, NotIn, Exists, DoesNotExist}
@@ -104,4 +104,3 @@ requirement t = unblanked_requirement (trimmed t)
 abbrev pub said_by_text : List ℕ → Option (List Requirement)
 said_by_text [] = Some []
 said_by_text (b ∷ t) = each_read requirement (parts (b ∷ t))
-

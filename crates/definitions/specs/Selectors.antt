@@ -1,6 +1,6 @@
 -- What a selector of labels asks for (Kubernetes, Labels and Selectors).
-use Rattle.std.specs.Prelude.{ℕ, ◌==◌, ◌-◌, ◌&&◌, ◌||◌, List, [], ◌∷◌, ◌++◌, Bool, true, false, not, length, slice_index, take, reverse, codes, is_some, nat_lt, if◌then◌else◌, Option, None, Some, option_map, option_and_then, unwrap_or, Result, Ok, Err}
-use Rattle.std.specs.List.{list_all, list_any, before_first, after_first, slice_split, onto_first}
+use Rattle.std.specs.Prelude.{ℕ, List, [], ◌∷◌, Bool, true, false, not, is_some, if◌then◌else◌, Option, None, Some}
+use Rattle.std.specs.List.{list_all, list_any}
 use Rattle.std.specs.Str.{bytes_eq}
 use Rattle.serde_json.specs.Data.{Members}
 use Rattle.definitions.specs.declared.selectors.Operator.{Operator}
@@ -54,4 +54,3 @@ abbrev pub requiring : Option (List ℕ) → Operator → Option (List (List ℕ
 requiring None operator values = None
 requiring (Some k) operator None = None
 requiring (Some k) operator (Some vs) = Some (record { key = k; operator = operator; values = vs })
-
