@@ -20,16 +20,40 @@ fn lengths_are_limited(rt: HostRuntime) -> Result<(), AllocError> {
 fn labels_are_checked(rt: HostRuntime) -> Result<(), AllocError> {
     let longest = "012345678901234567890123456789012345678901234567890123456789012";
     let longer = "0123456789012345678901234567890123456789012345678901234567890123";
-    for value in ["", "production", "MyValue", "my_value", "12345", "a.b-c_d", longest] {
+    for value in [
+        "",
+        "production",
+        "MyValue",
+        "my_value",
+        "12345",
+        "a.b-c_d",
+        longest,
+    ] {
         assert!(rt; is_label_value(value));
     }
     for value in ["-a", "a-", "_", "a b", "a/b", "é", longer] {
         assert!(rt; !is_label_value(value));
     }
-    for key in ["app", "kubernetes.io/hostname", "example.com/a_B.c-1", "a/b", longest] {
+    for key in [
+        "app",
+        "kubernetes.io/hostname",
+        "example.com/a_B.c-1",
+        "a/b",
+        longest,
+    ] {
         assert!(rt; is_label_key(key));
     }
-    for key in ["", "/a", "a/", "a/b/c", "Example.com/a", "a..b/c", "a b", "é", longer] {
+    for key in [
+        "",
+        "/a",
+        "a/",
+        "a/b/c",
+        "Example.com/a",
+        "a..b/c",
+        "a b",
+        "é",
+        longer,
+    ] {
         assert!(rt; !is_label_key(key));
     }
     Ok(())
