@@ -14,6 +14,11 @@ pub mod Played
 pub mod PutLaws
 pub mod ReadAgain
 pub mod Runs
+pub mod SelectorForms
+pub mod SelectorLaws
+pub mod SelectorPlain
+pub mod SelectorSound
+pub mod SelectorTextsRead
 pub mod Streamed
 pub mod TaskOrder
 pub mod Uids

@@ -9,6 +9,7 @@ pub mod Frames
 pub mod History
 pub mod HistoryCodes
 pub mod Kinds
+pub mod Labels
 pub mod Laws
 pub mod Lines
 pub mod Metadata
@@ -20,6 +21,14 @@ pub mod Reading
 pub mod Refusals
 pub mod Revisions
 pub mod Schemas
+pub mod SelectorCodes
+pub mod SelectorExamples
+pub mod SelectorFields
+pub mod SelectorForms
+pub mod SelectorLaws
+pub mod SelectorTexts
+pub mod SelectorValues
+pub mod Selectors
 pub mod Streams
 pub mod Targets
 pub mod Uids

@@ -12,5 +12,8 @@ pub mod laws;
 pub mod methods;
 pub mod refusals;
 pub mod schemas;
+pub mod selector_examples;
+pub mod selector_laws;
+pub mod selectors;
 pub mod watch_examples;
 pub mod watch_laws;

@@ -6,7 +6,7 @@ ghost use Rattle.definitions.specs.Names.{is_letter_or_digit, is_label, is_names
 /// The greatest length of a namespace's name, in bytes.
 const LONGEST: usize = 63;
 
-fn is_letter_or_digit(byte: u8) -> bool
+pub(crate) fn is_letter_or_digit(byte: u8) -> bool
     ensures { result ≡ is_letter_or_digit byte }
 {
     (b'a' <= byte && byte <= b'z') || (b'0' <= byte && byte <= b'9')

@@ -1,10 +1,12 @@
-//! Whether texts can be names: labels of DNS names, and labels joined by dots.
+//! Whether texts can be names: labels of DNS names, labels joined by dots, and the keys and values of objects' labels.
 #![tactic(auto)]
 
 pub mod labels;
+pub mod object_labels;
 pub mod subdomains;
 #[cfg(test)]
 mod tests;
 
 pub use labels::{is_label, is_namespace};
+pub use object_labels::{is_label_key, is_label_value};
 pub use subdomains::is_subdomain;

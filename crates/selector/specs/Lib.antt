@@ -1,1 +1,4 @@
+pub mod Cuts
+pub mod Reading
+pub mod Seen
 pub mod Views

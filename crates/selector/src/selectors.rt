@@ -1,0 +1,118 @@
+//! Selectors of labels.
+ghost use Rattle.std.specs.Prelude.{◌≡◌, Some, Ok, IfOk, IfErr, length, ◌==◌};
+ghost use Rattle.serde_json.specs.View.{view};
+ghost use Rattle.definitions.specs.Labels.{labels_of};
+ghost use Rattle.definitions.specs.SelectorTexts.{said_by_text};
+ghost use Rattle.definitions.specs.SelectorValues.{said_by_value};
+ghost use Rattle.definitions.specs.Selectors.{meets_all};
+ghost use Rattle.selector.specs.Seen.{RefusesText, RefusesValue, labels_in, requirements_of};
+
+use crate::faults::{Fault, Stop};
+use crate::requirements::Requirement;
+use crate::texts::requirements;
+use crate::value_types::is_typed;
+use crate::values;
+use meta::objects::Object;
+use serde_json::Value;
+use std::alloc::Global;
+use std::marker::Model;
+
+/// Requirements of labels, all of which must hold (Kubernetes, Labels and Selectors).
+#[derive(Drop)]
+pub struct Selector {
+    requirements: Vec<Requirement>,
+}
+
+impl Model for Selector {
+    ghost use Rattle.std.specs.Prelude.{List};
+    ghost use Rattle.definitions.specs.SelectorCodes.{coded_requirements};
+    ghost use Rattle.definitions.specs.Selectors as meaning;
+    ghost use Rattle.selector.specs.Seen.{requirements_of};
+
+    ghost Value = { List meaning.Requirement };
+
+    ghost coded = { coded_requirements };
+
+    ghost view = { λ s. requirements_of s.requirements.items };
+}
+
+/// Whether labels meet each requirement.
+fn all_are_met(requirements: &Vec<Requirement>, labels: Option<&Value>) -> bool
+    ensures { result ≡ meets_all (requirements_of requirements.now.items) (labels_in labels.entry) }
+{
+    for requirement in requirements {
+        if !requirement.is_met(labels) {
+            return false;
+        }
+    }
+    true
+}
+
+/// Whether an object's labels meet each requirement.
+fn all_are_met_by(requirements: &Vec<Requirement>, object: &Object) -> bool
+    ensures { result ≡ meets_all (requirements_of requirements.now.items) (labels_of object.now.value) }
+{
+    for requirement in requirements {
+        if !requirement.is_met_by(object) {
+            return false;
+        }
+    }
+    true
+}
+
+impl Selector {
+    /// Reads a text, as the query parameter `labelSelector` has it. The empty text matches all. The errors are a text
+    /// of another form, and want of memory.
+    pub fn parse(alloc: Global, text: &str) -> Result<Selector, Fault>
+        ensures read { IfOk result (λ s. said_by_text text.now ≡ Some s) }
+        ensures refused { IfErr result (RefusesText (said_by_text text.now)) }
+    {
+        if text.is_empty() {
+            return Ok(Selector {
+                requirements: Vec::new(alloc),
+            });
+        }
+        match requirements(alloc, text.as_bytes()) {
+            Ok(requirements) => Ok(Selector { requirements }),
+            Err(Stop::Refused) => Err(Fault::Malformed),
+            Err(Stop::NoMemory) => Err(Fault::NoMemory),
+        }
+    }
+
+    /// Reads a value, as a `spec.selector` is. An empty object matches all. The errors are a member of a wrong type, a
+    /// key, an operator or values that do not go, and want of memory.
+    pub fn of_value(alloc: Global, value: &Value) -> Result<Selector, Fault>
+        ensures read { IfOk result (λ s. said_by_value (view value.now) ≡ Ok s) }
+        ensures refused { IfErr result (RefusesValue (said_by_value (view value.now))) }
+    {
+        if !is_typed(value) {
+            return Err(Fault::Malformed);
+        }
+        match values::requirements(alloc, value) {
+            Ok(requirements) => Ok(Selector { requirements }),
+            Err(Stop::Refused) => Err(Fault::Invalid),
+            Err(Stop::NoMemory) => Err(Fault::NoMemory),
+        }
+    }
+
+    /// Whether it has no requirement, and so matches all.
+    pub fn is_empty(&self) -> bool
+        ensures { result ≡ (length self.now == 0) }
+    {
+        self.requirements.is_empty()
+    }
+
+    /// Whether it selects what has these labels, the value of a `metadata.labels`. It takes no memory.
+    pub fn matches(&self, labels: Option<&Value>) -> bool
+        ensures { result ≡ meets_all self.now (labels_in labels.entry) }
+    {
+        all_are_met(&self.requirements, labels)
+    }
+
+    /// Whether it selects an object. It takes no memory.
+    pub fn selects(&self, object: &Object) -> bool
+        ensures { result ≡ meets_all self.now (labels_of object.now.value) }
+    {
+        all_are_met_by(&self.requirements, object)
+    }
+}
