@@ -16,6 +16,8 @@ pub mod Moments
 pub mod Names
 pub mod Objects
 pub mod Reading
+pub mod ReflectorCodes
+pub mod Reflectors
 pub mod Refusals
 pub mod Revisions
 pub mod Schemas
