@@ -6,7 +6,7 @@ use Rattle.definitions.specs.declared.reflectors.Phase.{Phase}
 use Rattle.definitions.specs.declared.reflectors.Phase.TheVariants.{Listing, Watching}
 use Rattle.definitions.specs.declared.reflectors.End.{End}
 use Rattle.definitions.specs.Frames.{Event, Read, reading, onto}
-use Rattle.definitions.specs.Reflectors.{Delta, Step, Run, run, step, going_on, first_delta, Reflector, Fed, nothing, ran, watched, fed_in, fed, joined, all_fed}
+use Rattle.definitions.specs.Reflectors.{Delta, Step, Run, run, step, going_on, first_delta, Reflector, Fed, nothing, ran, watched, fed, joined, all_fed}
 use Rattle.framing.specs.Decoders.{fed_after}
 use Rattle.framing.proofs.Reading.{no_cutting}
 use Rattle.reflector.proofs.Runs.{after_deltas}

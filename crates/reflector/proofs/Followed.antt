@@ -1,5 +1,5 @@
 -- A stream that is taken in leads from list to list.
-use Rattle.std.proofs.Common.{◌≡◌, ◌≤◌, ◌<◌, ℕ, nat_lt, List, [], ◌∷◌, ◌++◌, map, Bool, true, false, Option, Some, None, option_and_then, option_map, Ok, refl, sym, ap, ◌∙◌, subst, arith}
+use Rattle.std.proofs.Common.{◌≡◌, ◌≤◌, ◌<◌, ℕ, nat_lt, List, [], ◌∷◌, ◌++◌, map, true, false, Option, Some, None, option_and_then, option_map, Ok, refl, sym, ap, ◌∙◌, subst, arith}
 use Rattle.std.specs.List.{AllByRecursion}
 use Rattle.serde_json.specs.Data.{Data}
 use Rattle.definitions.specs.declared.kinds.Kind.{Kind}
@@ -14,8 +14,8 @@ use Rattle.definitions.specs.Streams.{Line, change, bookmark, initial, initial_e
 use Rattle.definitions.specs.Verbs.{greatest_revision}
 use Rattle.definitions.specs.WatchLaws.{AreBetween}
 use Rattle.definitions.proofs.Played.{list_played, goes_on, lie_between}
-use Rattle.definitions.specs.Reflectors.{Delta, Shown, Step, Run, run, step, shown, if_above, or_unreadable, put_step, remove_step, name_in, play_delta, play_deltas, going_on, mark_step}
-use Rattle.reflector.specs.Laws.{whole, object_of, IsTold}
+use Rattle.definitions.specs.Reflectors.{Shown, Step, Run, run, step, shown, if_above, or_unreadable, put_step, remove_step, name_in, play_delta, play_deltas, going_on, mark_step}
+use Rattle.reflector.specs.Laws.{whole, IsTold}
 use Rattle.reflector.proofs.Marks.{bookmark_step}
 
 -- ---- the first change

@@ -9,7 +9,7 @@ use Rattle.definitions.specs.declared.kinds.Kind.TheVariants.{ConfigMap, Pod, Re
 use Rattle.definitions.specs.Moments.{is_digit}
 use Rattle.definitions.specs.Revisions.{revision_of}
 use Rattle.definitions.specs.Frames.{bookmark_data, bookmark_event}
-use Rattle.definitions.specs.Reflectors.{Step, step, marked, is_of, revision, if_reached, or_unreadable, mark_step}
+use Rattle.definitions.specs.Reflectors.{step, marked, is_of, revision, if_reached, or_unreadable, mark_step}
 
 -- ---- a revision's digits
 

@@ -1,5 +1,5 @@
 -- The bytes of a stream, or of a beginning of it.
-use Rattle.std.proofs.Common.{◌≡◌, ◌≤◌, ℕ, List, [], ◌∷◌, ◌++◌, map, flat_map, Option, Some, None, refl, sym, ap, ◌∙◌, subst, append-nil, append_assoc}
+use Rattle.std.proofs.Common.{◌≡◌, ℕ, List, [], ◌∷◌, ◌++◌, map, Option, Some, None, refl, sym, ap, ◌∙◌, subst, append-nil, append_assoc}
 use Rattle.std.specs.List.{AllByRecursion}
 use Rattle.definitions.specs.declared.kinds.Kind.{Kind}
 use Rattle.definitions.specs.declared.frames.FrameFault.{FrameFault}
@@ -8,7 +8,7 @@ use Rattle.definitions.specs.History.{History, list}
 use Rattle.definitions.specs.Frames.{Event, Read, frame_text, reading, onto}
 use Rattle.definitions.specs.Streams.{Line, event_of, text_of}
 use Rattle.definitions.specs.Changes.{changes}
-use Rattle.definitions.specs.Reflectors.{Reflector, Fed, Run, run, ran, watched, fed, all_fed, play_deltas}
+use Rattle.definitions.specs.Reflectors.{Reflector, Fed, Run, run, ran, all_fed, play_deltas}
 use Rattle.framing.specs.Decoders.{fed_after}
 use Rattle.reflector.specs.Laws.{whole, IsReadBack, IsSent, IsAt, GoesOn}
 use Rattle.reflector.proofs.Cutting.{reading_twice, flat, no_cutting_at, at_revision}

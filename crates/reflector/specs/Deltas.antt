@@ -1,5 +1,5 @@
 -- What deltas, objects that were shown, and steps say.
-use Rattle.std.specs.Prelude.{◌≡◌, ◌⊎◌, ◌-◌, ℕ, List, [], length, drop, map, Option, Some, None, Result, Ok, Err}
+use Rattle.std.specs.Prelude.{◌≡◌, ◌⊎◌, ◌-◌, ℕ, List, length, drop, map, None, Result, Ok, Err}
 use Rattle.definitions.specs.declared.kinds.Kind.{Kind}
 use Rattle.definitions.specs.Frames.{reading}
 use Rattle.definitions.specs.Reflectors as reflectors

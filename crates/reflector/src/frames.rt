@@ -84,7 +84,11 @@ fn marked(kind: Kind, last: u64, value: &Value) -> Option<u64>
         return None;
     }
     let revision = revision(value)?;
-    if last <= revision { Some(revision) } else { None }
+    if last <= revision {
+        Some(revision)
+    } else {
+        None
+    }
 }
 
 /// A bookmark.

@@ -40,7 +40,7 @@ impl Model for Reflector {
 impl Reflector {
     ghost use Rattle.std.specs.Prelude.{◌≡◌, ◌<◌, length, Some, IfOk, IfErr, OnOk, OnErr, IsSome, option_map};
     ghost use Rattle.definitions.specs.Frames.{longest_frame};
-    ghost use Rattle.definitions.specs.Reflectors.{begun, asks, list_of, list_delta, with_list, cut, expired, fed};
+    ghost use Rattle.definitions.specs.Reflectors.{begun, asks, list_of, list_delta, with_list, cut, expired, turned, fed};
     ghost use Rattle.definitions.specs.declared.reflectors.Phase.TheVariants.{Watching};
     ghost use Rattle.reflector.specs.Deltas.{delta_of, deltas_of, RefusesList};
 
@@ -82,9 +82,7 @@ impl Reflector {
     {
         match read_list(alloc, self.kind, body)? {
             Some(Listed { revision, objects }) => {
-                self.held.clear();
-                self.revision = revision;
-                self.phase = Phase::Watching;
+                self.turn(Phase::Watching, revision);
                 Ok(Delta::Replace(revision, objects))
             }
             None => Err(ListFault::Unreadable),
@@ -143,14 +141,22 @@ impl Reflector {
     pub fn on_cut(&mut self)
         ensures { self.new ≡ cut self.old }
     {
-        self.held.clear();
+        self.turn(self.phase, self.revision);
     }
 
     /// Takes that the server no longer has the changes that were asked for: a list is asked for. It takes no memory.
     pub fn on_expired(&mut self)
         ensures { self.new ≡ expired self.old }
     {
+        self.turn(Phase::Listing, self.revision);
+    }
+
+    /// Goes on from a revision, with nothing held of a frame.
+    fn turn(&mut self, phase: Phase, revision: u64)
+        ensures { self.new ≡ turned phase revision self.old }
+    {
         self.held.clear();
-        self.phase = Phase::Listing;
+        self.phase = phase;
+        self.revision = revision;
     }
 }

@@ -1,4 +1,4 @@
-use Rattle.std.proofs.Common.{sym, ◌∙◌, arith}
+use Rattle.std.proofs.Common.{arith}
 use Rattle.reflector.proofs.Repeats.{key_repeats, key_is_new, none_yet, not_added, is_added}
 use Rattle.reflector.proofs.lists.repeats.Goals as goal
 
