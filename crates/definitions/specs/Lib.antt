@@ -18,6 +18,8 @@ pub mod Names
 pub mod Objects
 pub mod Queries
 pub mod Reading
+pub mod ReflectorCodes
+pub mod Reflectors
 pub mod Refusals
 pub mod Revisions
 pub mod Schemas

@@ -1,9 +1,9 @@
 //! A decoder of frames that come in pieces.
-ghost use Rattle.std.specs.Prelude.{◌≡◌, ◌≤◌, ◌-◌, IsSome, IsOk, IfOk, OnOk, OnErr, drop, vec_len};
+ghost use Rattle.std.specs.Prelude.{◌≡◌, IsSome, IsOk, IfOk, OnOk, OnErr};
 ghost use Rattle.framing.specs.Decoders.{opened, fed, left, events_of};
 
 use crate::frames::Frame;
-use crate::lines::read_lines;
+use crate::lines::{keep_last, read_lines};
 use crate::wants::Want;
 use definitions::frames::FrameFault;
 use std::alloc::Global;
@@ -79,17 +79,5 @@ impl Decoder {
                 Err(want)
             }
         }
-    }
-}
-
-/// Drops all but the last `kept` bytes.
-fn keep_last(bytes: &mut Vec<u8>, kept: usize)
-    requires { kept ≤ vec_len bytes.old }
-    ensures { bytes.new.items ≡ drop (vec_len bytes.old - kept) bytes.old.items }
-{
-    let len = bytes.len();
-    if kept < len {
-        bytes.as_mut_slice().copy_within(len - kept..len, 0);
-        bytes.truncate(kept);
     }
 }

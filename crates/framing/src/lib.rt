@@ -4,8 +4,8 @@
 pub mod decoder;
 pub mod frames;
 pub mod laws;
-mod lines;
-mod scan;
+pub mod lines;
+pub mod scan;
 #[cfg(test)]
 mod tests;
 pub mod texts;

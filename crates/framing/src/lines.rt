@@ -1,5 +1,5 @@
 //! The frames of whole lines.
-ghost use Rattle.std.specs.Prelude.{◌≡◌, ◌≤◌, ◌-◌, IfOk, length, take, drop};
+ghost use Rattle.std.specs.Prelude.{◌≡◌, ◌≤◌, ◌-◌, IfOk, length, take, drop, vec_len};
 ghost use Rattle.definitions.specs.Frames.{reading};
 ghost use Rattle.framing.specs.Lines.{IsPartial};
 ghost use Rattle.framing.specs.Decoders.{events_of, given};
@@ -56,5 +56,17 @@ pub fn read_lines(alloc: Global, bytes: &[u8], known: usize) -> Result<Lines, Wa
             kept: 0,
             fault: Some(FrameFault::TooLong),
         })
+    }
+}
+
+/// Drops all but the last `kept` bytes.
+pub fn keep_last(bytes: &mut Vec<u8>, kept: usize)
+    requires { kept ≤ vec_len bytes.old }
+    ensures { bytes.new.items ≡ drop (vec_len bytes.old - kept) bytes.old.items }
+{
+    let len = bytes.len();
+    if kept < len {
+        bytes.as_mut_slice().copy_within(len - kept..len, 0);
+        bytes.truncate(kept);
     }
 }

@@ -38,7 +38,7 @@ fn frame_of(value: Value) -> Option<Frame>
 }
 
 /// Takes a member out of a value.
-fn take_member(value: Value, name: &str) -> Option<Value>
+pub fn take_member(value: Value, name: &str) -> Option<Value>
     ensures { option_map view result ≡ get name.now (view value) }
 {
     match value {

@@ -1,0 +1,67 @@
+-- Laws of reflectors.
+use Rattle.std.specs.Prelude.{◌≡◌, ◌≤◌, ℕ, List, [], ◌++◌, flat_map, Some, None}
+use Rattle.std.specs.List.{AllByRecursion}
+use Rattle.definitions.specs.declared.kinds.Kind.{Kind}
+use Rattle.definitions.specs.declared.reflectors.Phase.TheVariants.{Watching}
+use Rattle.definitions.specs.History.{History, View, list}
+use Rattle.definitions.specs.Objects.{Object}
+use Rattle.definitions.specs.Changes.{Change, changes}
+use Rattle.definitions.specs.Frames.{frame_text}
+use Rattle.definitions.specs.Streams.{Line, IsStream, event_of, text_of}
+use Rattle.definitions.specs.Verbs.{greatest_revision}
+use Rattle.definitions.specs.Reflectors.{Reflector, Fed, shown, name_in, play_deltas, fed, all_fed}
+use Rattle.framing.specs.Texts.{ReadsAs}
+
+-- however the bytes of a watch are cut into pieces, what comes of them, and the reflector in the end, are the same
+abbrev pub NoCuttingMatters : Type 0
+NoCuttingMatters = (s : Reflector) (pieces : List (List ℕ)) → s.held ≡ [] → all_fed s pieces ≡ fed s (flat_map (λ p. p) pieces)
+
+-- all of a kind, in all namespaces
+abbrev pub whole : Kind → View
+whole k = record { kind = k; namespace = None }
+
+abbrev pub object_of : Kind → Change → Object
+object_of k c = record { kind = k; value = c.object }
+
+-- what a change shows is read as it stands, and says the change's key and revision
+pub record IsTold (k : Kind) (c : Change) : Type 0 where
+  pub shows : shown k c.object ≡ Some (record { object = object_of k c; revision = c.revision })
+  pub names : name_in (object_of k c) ≡ c.key
+
+-- the line is read back as what it shows, whatever follows
+abbrev pub IsReadBack : Kind → Line → Type 0
+IsReadBack k l = ReadsAs (frame_text (event_of k l)) (event_of k l)
+
+-- lines that go from a to b are sent to who watches from a; each can be read
+pub record IsSent (h : History) (k : Kind) (a b : ℕ) (ls : List Line) : Type 0 where
+  pub forward : a ≤ b
+  pub low : b ≤ greatest_revision
+  pub stream : IsStream h (whole k) a b ls
+  pub told : AllByRecursion (IsTold k) (changes h (whole k) a b)
+  pub read : AllByRecursion (IsReadBack k) ls
+
+-- a reflector that watches from a, and holds nothing of a frame
+pub record IsAt (s : Reflector) (a : ℕ) : Type 0 where
+  pub watches : s.phase ≡ Watching
+  pub revision : s.revision ≡ a
+  pub holds : s.held ≡ []
+
+-- it goes on to the revision that it names: the deltas make of the list at a the list there
+pub record GoesOn (h : History) (k : Kind) (a b : ℕ) (f : Fed) : Type 0 where
+  pub ended : f.ended ≡ None
+  pub watches : f.after.phase ≡ Watching
+  pub above : a ≤ f.after.revision
+  pub below : f.after.revision ≤ b
+  pub plays : play_deltas (list h (whole k) a) f.deltas ≡ list h (whole k) f.after.revision
+
+-- whatever part of a stream has come, in whatever pieces, the deltas make of the list at a the list at the revision named
+abbrev pub CutStreamsAreFollowed : Type 0
+CutStreamsAreFollowed =
+    (h : History) (a b : ℕ) (ls : List Line) (s : Reflector) (pieces : List (List ℕ)) (more : List ℕ) → IsAt s a → IsSent h s.kind a b ls
+    → flat_map (λ p. p) pieces ++ more ≡ text_of s.kind ls → GoesOn h s.kind a b (all_fed s pieces)
+
+-- when the whole stream has come, in whatever pieces, the deltas make of the list at a the list at b, which is the list at the revision named
+abbrev pub StreamsAreFollowed : Type 0
+StreamsAreFollowed =
+    (h : History) (a b : ℕ) (ls : List Line) (s : Reflector) (pieces : List (List ℕ)) → IsAt s a → IsSent h s.kind a b ls → flat_map (λ p. p) pieces ≡ text_of s.kind ls
+    → GoesOn h s.kind a b (all_fed s pieces) × (play_deltas (list h (whole s.kind) a) (all_fed s pieces).deltas ≡ list h (whole s.kind) b)

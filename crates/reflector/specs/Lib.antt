@@ -1,0 +1,3 @@
+pub mod Deltas
+pub mod Laws
+pub mod Pieces

@@ -1,0 +1,8 @@
+-- How many bytes are kept.
+use Rattle.std.specs.Prelude.{ℕ, Option, Some, None}
+use Rattle.definitions.specs.declared.reflectors.End.{End}
+
+-- an end keeps none
+abbrev pub kept_after : Option End → ℕ → ℕ
+kept_after (Some e) kept = 0
+kept_after None kept = kept

@@ -1,0 +1,19 @@
+//! Laws of reflectors.
+ghost use Rattle.reflector.specs.Laws.{NoCuttingMatters, CutStreamsAreFollowed, StreamsAreFollowed};
+
+/// However the bytes of a watch are cut into pieces, the deltas, the end and the reflector afterwards are the same.
+pub fn no_cutting_matters()
+    ensures { NoCuttingMatters }
+{}
+
+/// Whatever part of a stream has come, in whatever pieces, who holds the list where the stream begins and plays the
+/// deltas holds the list at the revision that the reflector names.
+pub fn cut_streams_are_followed()
+    ensures { CutStreamsAreFollowed }
+{}
+
+/// When a whole stream has come, in whatever pieces, who holds the list where it begins and plays the deltas holds the
+/// list where it ends.
+pub fn streams_are_followed()
+    ensures { StreamsAreFollowed }
+{}

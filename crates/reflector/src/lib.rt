@@ -1,0 +1,21 @@
+//! Reflectors: from the body of a list, and then the bytes of a watch in any pieces, to what becomes of a map of objects
+//! and to the revision at which the map is the server's. A reflector does no input or output: it says what to ask for, and
+//! is told what came.
+#![tactic(auto)]
+
+pub mod deltas;
+pub mod faults;
+pub(crate) mod frames;
+pub mod laws;
+pub(crate) mod lists;
+pub(crate) mod pieces;
+pub mod reflectors;
+pub(crate) mod shown;
+#[cfg(test)]
+mod tests;
+
+pub use definitions::reflectors::{Ask, End};
+pub use deltas::{Delta, Fed};
+pub use faults::ListFault;
+pub use framing::Want;
+pub use reflectors::Reflector;

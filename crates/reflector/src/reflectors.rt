@@ -1,0 +1,162 @@
+//! A reflector.
+
+use crate::deltas::{Delta, Fed};
+use crate::faults::ListFault;
+use crate::lists::{Listed, read_list};
+use crate::pieces::take_in;
+use definitions::reflectors::{Ask, Phase};
+use framing::Want;
+use framing::lines::keep_last;
+use meta::Kind;
+use std::alloc::Global;
+use std::marker::Model;
+
+/// What is known of the objects of one kind, in all namespaces: the revision up to which lists and watches were taken in,
+/// and the bytes of a frame that is not whole yet. The objects are with whoever plays the deltas.
+#[derive(Drop)]
+pub struct Reflector {
+    kind: Kind,
+    revision: u64,
+    phase: Phase,
+    held: Vec<u8>,
+}
+
+impl Model for Reflector {
+    ghost use Rattle.std.specs.Prelude.{◌<◌, length};
+    ghost use Rattle.framing.specs.Lines.{IsPartial};
+    ghost use Rattle.definitions.specs.Frames.{longest_frame};
+    ghost use Rattle.definitions.specs.Reflectors as reflectors;
+    ghost use Rattle.definitions.specs.ReflectorCodes.{coded_reflector};
+
+    ghost Value = { reflectors.Reflector };
+
+    ghost coded = { coded_reflector };
+
+    ghost view = { λ s. record { kind = s.kind; revision = s.revision; phase = s.phase; held = s.held.items } };
+
+    ghost invariant = { λ s. IsPartial s.held.items × (length s.held.items < longest_frame) };
+}
+
+impl Reflector {
+    ghost use Rattle.std.specs.Prelude.{◌≡◌, ◌<◌, length, Some, IfOk, IfErr, OnOk, OnErr, IsSome, option_map};
+    ghost use Rattle.definitions.specs.Frames.{longest_frame};
+    ghost use Rattle.definitions.specs.Reflectors.{begun, asks, list_of, list_delta, with_list, cut, expired, turned, fed};
+    ghost use Rattle.definitions.specs.declared.reflectors.Phase.TheVariants.{Watching};
+    ghost use Rattle.reflector.specs.Deltas.{delta_of, deltas_of, RefusesList};
+
+    /// A reflector that took nothing in yet: it wants a list, and its revision is 0.
+    pub fn new(alloc: Global, kind: Kind) -> Reflector
+        ensures { result ≡ begun kind }
+    {
+        Reflector {
+            kind,
+            revision: 0,
+            phase: Phase::Listing,
+            held: Vec::new(alloc),
+        }
+    }
+
+    /// What is to be asked of the server next. It takes no memory.
+    pub fn next(&self) -> Ask
+        ensures { result ≡ asks self.now }
+    {
+        match self.phase {
+            Phase::Listing => Ask::List,
+            Phase::Watching => Ask::Watch(self.revision),
+        }
+    }
+
+    /// The revision of the last list, change or bookmark that was taken in; 0 before the first list. It takes no memory.
+    pub fn revision(&self) -> u64
+        ensures { result ≡ self.now.revision }
+    {
+        self.revision
+    }
+
+    /// Takes in the body of a list, and gives the delta that replaces the whole map. An error changes nothing.
+    pub fn on_list(&mut self, alloc: Global, body: &[u8]) -> Result<Delta, ListFault>
+        ensures delta { IfOk result (λ d. Some (delta_of d) ≡ option_map list_delta (list_of self.old.kind body.now)) }
+        ensures after { OnOk result (self.new ≡ with_list (list_of self.old.kind body.now) self.old) }
+        ensures refused { IfErr result (RefusesList self.old.kind body.now) }
+        ensures err { OnErr result (self.new ≡ self.old) }
+    {
+        match read_list(alloc, self.kind, body)? {
+            Some(Listed { revision, objects }) => {
+                self.turn(Phase::Watching, revision);
+                Ok(Delta::Replace(revision, objects))
+            }
+            None => Err(ListFault::Unreadable),
+        }
+    }
+
+    /// Takes in the next piece of a watch, cut anywhere, and gives a delta for each frame that is whole now. While a list
+    /// is asked for, what comes is passed over. An end asks for a list, and drops what is held of a frame; the frames
+    /// before it are taken in. The error is want of memory, and changes nothing: the same piece can be fed again.
+    pub fn feed(&mut self, alloc: Global, piece: &[u8]) -> Result<Fed, Want>
+        ensures deltas { IfOk result (λ f. deltas_of f.deltas.items ≡ (fed self.old piece.now).deltas) }
+        ensures end { IfOk result (λ f. f.end ≡ (fed self.old piece.now).ended) }
+        ensures after { OnOk result (self.new ≡ (fed self.old piece.now).after) }
+        ensures err { OnErr result (self.new ≡ self.old) }
+        ensures bounded { length self.new.held < longest_frame }
+    {
+        match self.phase {
+            Phase::Listing => Ok(Fed {
+                deltas: Vec::new(alloc),
+                end: None,
+            }),
+            Phase::Watching => self.watch(alloc, piece),
+        }
+    }
+
+    /// Takes in the next piece, where no list is asked for.
+    fn watch(&mut self, alloc: Global, piece: &[u8]) -> Result<Fed, Want>
+        requires { self.old.phase ≡ Watching }
+        ensures deltas { IfOk result (λ f. deltas_of f.deltas.items ≡ (fed self.old piece.now).deltas) }
+        ensures end { IfOk result (λ f. f.end ≡ (fed self.old piece.now).ended) }
+        ensures after { OnOk result (self.new ≡ (fed self.old piece.now).after) }
+        ensures err { OnErr result (self.new ≡ self.old) }
+        ensures bounded { length self.new.held < longest_frame }
+    {
+        let known = self.held.len();
+        self.held.extend_from_slice(piece)?;
+        match take_in(alloc, self.kind, self.revision, self.held.as_slice(), known) {
+            Ok(taken) => {
+                keep_last(&mut self.held, taken.kept);
+                self.revision = taken.revision;
+                self.phase = taken.phase;
+                Ok(Fed {
+                    deltas: taken.deltas,
+                    end: taken.end,
+                })
+            }
+            Err(want) => {
+                self.held.truncate(known);
+                Err(want)
+            }
+        }
+    }
+
+    /// Takes the end of a connection: what is held of a frame is dropped, for the next watch begins with a whole one. It
+    /// takes no memory.
+    pub fn on_cut(&mut self)
+        ensures { self.new ≡ cut self.old }
+    {
+        self.turn(self.phase, self.revision);
+    }
+
+    /// Takes that the server no longer has the changes that were asked for: a list is asked for. It takes no memory.
+    pub fn on_expired(&mut self)
+        ensures { self.new ≡ expired self.old }
+    {
+        self.turn(Phase::Listing, self.revision);
+    }
+
+    /// Goes on from a revision, with nothing held of a frame.
+    fn turn(&mut self, phase: Phase, revision: u64)
+        ensures { self.new ≡ turned phase revision self.old }
+    {
+        self.held.clear();
+        self.phase = phase;
+        self.revision = revision;
+    }
+}
