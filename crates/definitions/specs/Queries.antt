@@ -1,10 +1,13 @@
 -- What the query of a target says (URL Standard, application/x-www-form-urlencoded parsing).
-use Rattle.std.specs.Prelude.{ℕ, zero, suc, List, [], ◌∷◌, Bool, true, false, ◌||◌, ◌==◌, length, Option, Some, None, option_and_then, codes, if◌then◌else◌}
+use Rattle.std.specs.Prelude.{ℕ, zero, suc, List, [], ◌∷◌, Bool, true, false, ◌||◌, ◌==◌, length, Option, Some, None, option_and_then, unwrap_or, codes, if◌then◌else◌}
 use Rattle.std.specs.List.{list_any, after_first}
 use Rattle.std.specs.Str.{bytes_eq}
 use Rattle.std.specs.Str.Lossy.{utf8_lossy}
 use Rattle.form_urlencoded.specs.Form.{raw_pairs, decode}
 use Rattle.definitions.specs.Revisions.{revision_of}
+use Rattle.definitions.specs.SelectorFields.{FieldRequirement, said_of_fields}
+use Rattle.definitions.specs.SelectorTexts.{said_by_text}
+use Rattle.definitions.specs.Selectors.{Requirement}
 
 -- what stands after the first `?` of a target (RFC 3986, Query)
 abbrev pub query_of : List ℕ → List ℕ
@@ -33,10 +36,14 @@ has_any names pairs = list_any (λ p. list_any (bytes_eq (text_of p.0)) names) p
 abbrev pub is_true : List ℕ → Bool
 is_true value = bytes_eq value (codes "true") || bytes_eq value (codes "1")
 
--- what a query adds to a request: nothing, or that the changes after a revision are watched
-pub data Query : Type 0 where
-  plain : Query
-  watching : ℕ → Query
+-- what a query adds to a request: which labels and fields are selected, and after which revision the changes are watched
+pub record Query : Type 0 where
+  pub labels : List Requirement
+  pub fields : List FieldRequirement
+  pub watch : Option ℕ
+
+abbrev pub plain : Query
+plain = record { labels = []; fields = []; watch = None }
 
 -- what no request may ask (Kubernetes API Concepts, Dry-run)
 abbrev pub refused_names : List (List ℕ)
@@ -45,9 +52,7 @@ refused_names = codes "dryRun" ∷ []
 -- what a list or a watch may not ask so far
 abbrev pub unserved_names : List (List ℕ)
 unserved_names =
-    codes "labelSelector"
-    ∷ codes "fieldSelector"
-    ∷ codes "limit"
+    codes "limit"
     ∷ codes "continue"
     ∷ codes "resourceVersionMatch"
     ∷ codes "allowWatchBookmarks"
@@ -55,25 +60,45 @@ unserved_names =
     ∷ refused_names
 
 -- a list is at the present revision so far: it names none
-abbrev pub list_query : Option (List ℕ) → Option Query
-list_query None = Some plain
-list_query (Some version) = if length version == 0 then Some plain else None
+abbrev pub list_version : Option (List ℕ) → Option (Option ℕ)
+list_version None = Some None
+list_version (Some version) = if length version == 0 then Some None else None
 
 -- a watch names the revision after which it begins, so far not 0 (Kubernetes API Concepts, Resource versions)
-abbrev pub after_revision : ℕ → Option Query
+abbrev pub after_revision : ℕ → Option (Option ℕ)
 after_revision zero = None
-after_revision (suc r) = Some (watching (suc r))
+after_revision (suc r) = Some (Some (suc r))
 
-abbrev pub watch_query : Option (List ℕ) → Option Query
-watch_query version = option_and_then after_revision (option_and_then revision_of version)
+abbrev pub watch_version : Option (List ℕ) → Option (Option ℕ)
+watch_version version = option_and_then after_revision (option_and_then revision_of version)
 
-abbrev pub by_watch : Option (List ℕ) → Option (List ℕ) → Option Query
-by_watch None version = list_query version
-by_watch (Some watch) version = if is_true watch then watch_query version else None
+abbrev pub by_watch : Option (List ℕ) → Option (List ℕ) → Option (Option ℕ)
+by_watch None version = list_version version
+by_watch (Some watch) version = if is_true watch then watch_version version else None
 
--- the query of a list or a watch, if it is understood
+-- a text that is absent counts as empty
+abbrev pub or_empty : Option (List ℕ) → List ℕ
+or_empty text = unwrap_or text []
+
+abbrev pub with_watch : List Requirement → List FieldRequirement → Option (Option ℕ) → Option Query
+with_watch labels fields None = None
+with_watch labels fields (Some watch) = Some (record { labels = labels; fields = fields; watch = watch })
+
+abbrev pub with_fields : List Requirement → Option (List FieldRequirement) → Option (Option ℕ) → Option Query
+with_fields labels None watch = None
+with_fields labels (Some fields) watch = with_watch labels fields watch
+
+abbrev pub with_labels : Option (List Requirement) → Option (List FieldRequirement) → Option (Option ℕ) → Option Query
+with_labels None fields watch = None
+with_labels (Some labels) fields watch = with_fields labels fields watch
+
+-- the query of a list or a watch, if it is understood (Kubernetes API Concepts, Resource versions; Labels and Selectors; Field Selectors)
 abbrev pub collection_query : Pairs → Option Query
-collection_query pairs = if has_any unserved_names pairs then None else by_watch (member (codes "watch") pairs) (member (codes "resourceVersion") pairs)
+collection_query pairs =
+    if has_any unserved_names pairs then None
+    else
+    with_labels (said_by_text (or_empty (member (codes "labelSelector") pairs))) (said_of_fields (or_empty (member (codes "fieldSelector") pairs)))
+    (by_watch (member (codes "watch") pairs) (member (codes "resourceVersion") pairs))
 
 -- the query of any other request, if it is understood
 abbrev pub other_query : Pairs → Option Query

@@ -15,7 +15,7 @@ use Rattle.definitions.specs.declared.refusals.Part.TheVariants as part
 use Rattle.definitions.specs.Kinds.{group, plural, kind_named, has_status}
 use Rattle.definitions.specs.Names.{Name, is_namespace}
 use Rattle.definitions.specs.History.{View}
-use Rattle.definitions.specs.Queries.{Query, plain, watching, pairs_of, collection_query, other_query}
+use Rattle.definitions.specs.Queries.{Query, pairs_of, collection_query, other_query}
 use Rattle.definitions.specs.Refusals.{Refusal, bad_request, no_such_path, method_not_allowed, too_large}
 use Rattle.definitions.specs.Verbs.{Request, get_object, list_objects, create_object, update_object, update_status}
 
@@ -169,13 +169,17 @@ abbrev pub query_for : Method → Route → List ℕ → Option Query
 query_for Get (collection k ns) target = collection_query (pairs_of target)
 query_for method r target = other_query (pairs_of target)
 
-abbrev pub asked_of_view : View → Query → Asked
-asked_of_view v plain = request (list_objects v)
-asked_of_view v (watching r) = watch v r
+-- what is selected of a collection
+abbrev pub selected : Kind → Option (List ℕ) → Query → View
+selected k ns q = record { kind = k; namespace = ns; labels = q.labels; fields = q.fields }
+
+abbrev pub list_or_watch : View → Option ℕ → Asked
+list_or_watch v None = request (list_objects v)
+list_or_watch v (Some r) = watch v r
 
 -- what a method asks of a route (Kubernetes API Concepts, API verbs)
 abbrev pub asked : Method → Route → Query → List ℕ → Result Asked Refusal
-asked Get (collection k ns) q text = Ok (asked_of_view (record { kind = k; namespace = ns }) q)
+asked Get (collection k ns) q text = Ok (list_or_watch (selected k ns q) q.watch)
 asked Get (object_at n) q text = Ok (request (get_object n))
 asked Get (status_of n) q text = Ok (request (get_object n))
 asked Post (collection k None) q text = Err method_not_allowed

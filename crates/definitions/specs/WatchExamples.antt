@@ -5,14 +5,16 @@ use Rattle.definitions.specs.declared.kinds.Kind.TheVariants.{ConfigMap, Pod, De
 use Rattle.definitions.specs.declared.frames.FrameKind.TheVariants.{Added, Error}
 use Rattle.definitions.specs.declared.frames.FrameFault.TheVariants.{NotAFrame}
 use Rattle.definitions.specs.Names.{Name}
-use Rattle.definitions.specs.History.{History, View, write, compaction}
+use Rattle.definitions.specs.History.{History, View, whole, write, compaction}
 use Rattle.definitions.specs.Refusals.{too_new}
 use Rattle.definitions.specs.Changes.{changes}
 use Rattle.definitions.specs.Frames.{frame_text, bookmark_event, error_event, reading}
 use Rattle.definitions.specs.Streams.{change, text_of}
 use Rattle.form_urlencoded.specs.Form.{raw_pairs}
 use Rattle.definitions.specs.Lines.{replay}
-use Rattle.definitions.specs.Queries.{Query, plain, watching, collection_query}
+use Rattle.definitions.specs.Queries.{Query, plain, collection_query}
+use Rattle.definitions.specs.declared.selectors.Operator.TheVariants.{In, DoesNotExist}
+use Rattle.definitions.specs.declared.selectors.SelectableField.TheVariants.{Name as NameField}
 
 -- a ConfigMap of a name, with a value and a version
 abbrev config_map : List ℕ → List ℕ → List ℕ → Data
@@ -35,7 +37,7 @@ some_history =
     ∷ []
 
 abbrev in_default : View
-in_default = record { kind = ConfigMap; namespace = Some (codes "default") }
+in_default = whole ConfigMap (Some (codes "default"))
 
 abbrev added_a : List ℕ
 added_a = codes "{\"object\":{\"data\":{\"k\":\"v\"},\"metadata\":{\"name\":\"a\",\"resourceVersion\":\"2\"}},\"type\":\"ADDED\"}\n"
@@ -56,8 +58,8 @@ WritesAreSeen = text_of ConfigMap (map change (changes some_history in_default 1
 -- a view of all namespaces sees all of them, one of another kind none
 abbrev pub ViewsAreKept : Type 0
 ViewsAreKept =
-    (text_of ConfigMap (map change (changes some_history (record { kind = ConfigMap; namespace = None }) 1 5)) ≡ added_a ++ (modified_a ++ (added_b ++ deleted_a)))
-    × (changes some_history (record { kind = Pod; namespace = None }) 1 5 ≡ [])
+    (text_of ConfigMap (map change (changes some_history (whole ConfigMap None) 1 5)) ≡ added_a ++ (modified_a ++ (added_b ++ deleted_a)))
+    × (changes some_history (whole Pod None) 1 5 ≡ [])
 
 -- a watch from revision 2 to 4 sees neither the create before it nor the removal after it, and one from the present revision nothing
 abbrev pub WatchesBegin : Type 0
@@ -123,14 +125,24 @@ WatchesAreReplayed =
 abbrev query_in : List ℕ → Option Query
 query_in query = collection_query (raw_pairs query)
 
+abbrev watching : ℕ → Query
+watching r = record { labels = []; fields = []; watch = Some r }
+
 -- of repeated members the first counts, names and values are decoded, and what is not known says nothing
 abbrev pub QueriesAreRead : Type 0
 QueriesAreRead =
     (query_in (codes "") ≡ Some plain)
     × (query_in (codes "pretty=1&&x") ≡ Some plain)
-    × (query_in (codes "resourceVersion=") ≡ Some plain)
+    × (query_in (codes "resourceVersion=&labelSelector=&fieldSelector") ≡ Some plain)
     × (query_in (codes "watch=true&resourceVersion=7&watch=false&resourceVersion=x") ≡ Some (watching 7))
     × (query_in (codes "w%61tch=%31&resource%56ersion=9007199254740991") ≡ Some (watching 9007199254740991))
+    × (query_in (codes "labelSelector=a+in+(b),%21c&fieldSelector=metadata.name!%3Dx")
+    ≡ Some
+    (record {
+      labels = record { key = codes "a"; operator = In; values = codes "b" ∷ [] } ∷ record { key = codes "c"; operator = DoesNotExist; values = [] } ∷ [];
+      fields = record { field = NameField; wanted = false; value = codes "x" } ∷ [];
+      watch = None;
+    }))
 
 -- what a watch or a list does not understand, or does not serve so far
 abbrev pub QueriesAreRefused : Type 0
@@ -138,5 +150,29 @@ QueriesAreRefused =
     map query_in
     (codes "watch=true" ∷ codes "watch=true&resourceVersion=" ∷ codes "watch=true&resourceVersion=0" ∷ codes "watch=true&resourceVersion=00" ∷ codes "watch=true&resourceVersion=-1"
     ∷ codes "watch=true&resourceVersion=9007199254740992" ∷ codes "watch=TRUE&resourceVersion=1" ∷ codes "watch=false" ∷ codes "watch&resourceVersion=1" ∷ codes "resourceVersion=1" ∷ codes "limit=1"
-    ∷ codes "dryRun=" ∷ codes "labelSelector=" ∷ [])
-    ≡ replicate 13 None
+    ∷ codes "dryRun=" ∷ codes "labelSelector=k+in+()" ∷ codes "fieldSelector=spec.x%3Dy" ∷ [])
+    ≡ replicate 14 None
+
+abbrev labelled_a : List ℕ → List ℕ → List ℕ
+labelled_a labels version =
+    codes "{\"apiVersion\":\"v1\",\"kind\":\"ConfigMap\",\"metadata\":{\"creationTimestamp\":\"2026-01-01T00:00:00Z\","
+    ++ (labels
+    ++ (codes "\"name\":\"a\",\"namespace\":\"default\",\"resourceVersion\":\"" ++ (version ++ codes "\",\"uid\":\"00000000-0000-8000-8000-000000000002\"}}")))
+
+abbrev with_x : List ℕ
+with_x = codes "\"labels\":{\"x\":\"1\"},"
+
+-- an object that loses the label that a watch selects by is DELETED for it, at the revision of that change, and ADDED where it has it again
+abbrev pub SelectionsAreLeft : Type 0
+SelectionsAreLeft =
+    replay
+    (codes "POST /api/v1/namespaces/default/configmaps {\"metadata\":{\"name\":\"a\",\"labels\":{\"x\":\"1\"}}}\n"
+    ++ codes "PUT /api/v1/namespaces/default/configmaps/a {\"metadata\":{\"name\":\"a\"}}\n"
+    ++ codes "PUT /api/v1/namespaces/default/configmaps/a {\"metadata\":{\"name\":\"a\",\"labels\":{\"x\":\"1\"}}}\n"
+    ++ codes "GET /api/v1/namespaces/default/configmaps?watch=true&resourceVersion=2&labelSelector=x%3D1\n")
+    ≡ (codes "201 " ++ labelled_a with_x (codes "2") ++ codes "\n")
+    ++ (codes "200 " ++ labelled_a [] (codes "3") ++ codes "\n")
+    ++ (codes "200 " ++ labelled_a with_x (codes "4") ++ codes "\n")
+    ++ codes "200 watch 2\n"
+    ++ (codes "{\"object\":" ++ labelled_a with_x (codes "3") ++ codes ",\"type\":\"DELETED\"}\n")
+    ++ (codes "{\"object\":" ++ labelled_a with_x (codes "4") ++ codes ",\"type\":\"ADDED\"}\n")

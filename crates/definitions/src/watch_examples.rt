@@ -1,5 +1,5 @@
 //! Worked facts of watches, which the checker computes from the definitions.
-ghost use Rattle.definitions.specs.WatchExamples.{WritesAreSeen, ViewsAreKept, WatchesBegin, BookmarksAreSaid, ErrorsAreSaid, FramesAreRead, OthersAreRefused, WatchesAreReplayed, QueriesAreRead, QueriesAreRefused};
+ghost use Rattle.definitions.specs.WatchExamples.{WritesAreSeen, ViewsAreKept, WatchesBegin, BookmarksAreSaid, ErrorsAreSaid, FramesAreRead, OthersAreRefused, WatchesAreReplayed, QueriesAreRead, QueriesAreRefused, SelectionsAreLeft};
 
 /// A create, an update and a removal are seen as ADDED, MODIFIED and DELETED, the last at its own revision.
 pub fn writes_are_seen()
@@ -49,4 +49,9 @@ pub fn queries_are_read()
 /// Queries that are refused, each for a reason of its own.
 pub fn queries_are_refused()
     ensures { QueriesAreRefused }
+{}
+
+/// What a watch that selects by a label shows of an object that loses it and has it again.
+pub fn selections_are_left()
+    ensures { SelectionsAreLeft }
 {}

@@ -3,6 +3,7 @@ use Rattle.std.specs.Prelude.{◌≡◌, ◌≤◌, ℕ, List, [], ◌++◌, fla
 use Rattle.std.specs.List.{AllByRecursion}
 use Rattle.definitions.specs.declared.kinds.Kind.{Kind}
 use Rattle.definitions.specs.declared.reflectors.Phase.TheVariants.{Watching}
+use Rattle.definitions.specs.History as history
 use Rattle.definitions.specs.History.{History, View, list}
 use Rattle.definitions.specs.Objects.{Object}
 use Rattle.definitions.specs.Changes.{Change, changes}
@@ -18,7 +19,7 @@ NoCuttingMatters = (s : Reflector) (pieces : List (List ℕ)) → s.held ≡ [] 
 
 -- all of a kind, in all namespaces
 abbrev pub whole : Kind → View
-whole k = record { kind = k; namespace = None }
+whole k = history.whole k None
 
 abbrev pub object_of : Kind → Change → Object
 object_of k c = record { kind = k; value = c.object }

@@ -5,20 +5,23 @@ use Rattle.definitions.specs.Queries.{refused_names, unserved_names}
 use Rattle.requests.specs.declared.query.Names.{Names}
 use Rattle.requests.specs.declared.query.Names.TheVariants.{Refused, Unserved}
 use Rattle.requests.specs.declared.query.Query.{Query}
-use Rattle.requests.specs.declared.query.Query.TheVariants.{Plain, Watching}
 use Rattle.requests.specs.declared.query.QueryFault.{QueryFault}
 use Rattle.requests.specs.declared.query.QueryFault.TheVariants.{BadQuery, NoMemory}
 
 -- the query as the definitions say it
 abbrev pub query_seen : Query → queries.Query
-query_seen Plain = queries.plain
-query_seen (Watching r) = queries.watching r
+query_seen q = record { labels = q.labels; fields = q.fields; watch = q.watch }
 
 abbrev pub names_seen : Names → List (List ℕ)
 names_seen Refused = refused_names
 names_seen Unserved = unserved_names
 
--- the result is this query, or that there is none; or memory ran out
+-- the result is this, or that there is none; or memory ran out
+abbrev pub Reads : {A : Type 0} → Option A → Result A QueryFault → Type 0
+Reads wanted (Ok a) = wanted ≡ Some a
+Reads wanted (Err BadQuery) = wanted ≡ None
+Reads wanted (Err NoMemory) = Unit {0}
+
 abbrev pub Understands : Option queries.Query → Result Query QueryFault → Type 0
 Understands wanted (Ok q) = wanted ≡ Some (query_seen q)
 Understands wanted (Err BadQuery) = wanted ≡ None

@@ -1,29 +1,34 @@
 //! Queries of targets.
-ghost use Rattle.std.specs.Prelude.{◌≡◌, ◌||◌, IfOk, Option, option_map, List};
+ghost use Rattle.std.specs.Prelude.{◌≡◌, IfOk, codes, option_map};
 ghost use Rattle.std.specs.Cow.{cow_str_bytes};
 ghost use Rattle.std.specs.List.{list_any};
 ghost use Rattle.std.specs.Str.{bytes_eq};
 ghost use Rattle.form_urlencoded.specs.Form.{raw_pairs};
-ghost use Rattle.definitions.specs.Queries.{query_of, has_any, member, is_true, list_query, watch_query, by_watch, collection_query, other_query, refused_names, unserved_names};
+ghost use Rattle.definitions.specs.Queries.{query_of, has_any, member, is_true, list_version, watch_version, by_watch, or_empty, collection_query, other_query, refused_names, unserved_names};
+ghost use Rattle.definitions.specs.SelectorFields.{said_of_fields};
+ghost use Rattle.definitions.specs.SelectorTexts.{said_by_text};
 ghost use Rattle.definitions.specs.Targets.{query_for};
 ghost use Rattle.routes.specs.Seen.{route_seen};
-ghost use Rattle.requests.specs.Queried.{query_seen, Understands, names_seen};
+ghost use Rattle.requests.specs.Queried.{Reads, Understands, names_seen};
 ghost use Rattle.requests.specs.declared.query.QueryFault.TheVariants.{NoMemory};
 
 use definitions::methods::Method;
 use form_urlencoded::parse;
 use routes::targets::Target;
+use selector::{Fields, Selector};
 use stamps::revisions::read_revision;
 use std::alloc::{AllocError, Global};
 use std::borrow::CowStr;
 
 /// What a query adds to a request.
-#[derive(Clone, Copy, Debug, PartialEq, Eq)]
-pub enum Query {
-    /// Nothing.
-    Plain,
-    /// The changes after this revision are watched.
-    Watching(u64),
+#[derive(Drop)]
+pub struct Query {
+    /// What the labels of a list's or a watch's objects have to meet.
+    pub labels: Selector,
+    /// What their fields have to meet.
+    pub fields: Fields,
+    /// The revision after which changes are watched; with none, nothing is.
+    pub watch: Option<u64>,
 }
 
 /// Why a query is not read.
@@ -79,9 +84,7 @@ fn is_unserved(name: &str) -> bool
 {
     matches!(
         name,
-        "labelSelector"
-            | "fieldSelector"
-            | "limit"
+        "limit"
             | "continue"
             | "resourceVersionMatch"
             | "allowWatchBookmarks"
@@ -126,36 +129,81 @@ fn is_true(value: &str) -> bool
     value == "true" || value == "1"
 }
 
-/// The query of a list, by its `resourceVersion`.
-fn list_query(version: Option<CowStr<'_>>) -> Option<Query>
-    ensures { option_map query_seen result ≡ list_query (option_map cow_str_bytes version.entry) }
+/// What a list says of its revision: that it is the present one.
+fn list_version(version: Option<CowStr<'_>>) -> Option<Option<u64>>
+    ensures { result ≡ list_version (option_map cow_str_bytes version.entry) }
 {
     match version {
-        None => Some(Query::Plain),
-        Some(text) if text.as_str().is_empty() => Some(Query::Plain),
+        None => Some(None),
+        Some(text) if text.as_str().is_empty() => Some(None),
         Some(_) => None,
     }
 }
 
-/// The query of a watch, by its `resourceVersion`.
-fn watch_query(version: Option<CowStr<'_>>) -> Option<Query>
-    ensures { option_map query_seen result ≡ watch_query (option_map cow_str_bytes version.entry) }
+/// The revision after which a watch begins.
+fn watch_version(version: Option<CowStr<'_>>) -> Option<Option<u64>>
+    ensures { result ≡ watch_version (option_map cow_str_bytes version.entry) }
 {
     match read_revision(version?.as_str())? {
         0 => None,
-        revision => Some(Query::Watching(revision)),
+        revision => Some(Some(revision)),
     }
 }
 
-/// The query of a list or a watch, by its `watch` and its `resourceVersion`.
-fn by_watch(watch: Option<CowStr<'_>>, version: Option<CowStr<'_>>) -> Option<Query>
-    ensures { option_map query_seen result
-        ≡ by_watch (option_map cow_str_bytes watch.entry) (option_map cow_str_bytes version.entry) }
+/// The revision after which changes are watched, if they are, by `watch` and `resourceVersion`.
+fn by_watch(watch: Option<CowStr<'_>>, version: Option<CowStr<'_>>) -> Option<Option<u64>>
+    ensures { result ≡ by_watch (option_map cow_str_bytes watch.entry) (option_map cow_str_bytes version.entry) }
 {
     match watch {
-        None => list_query(version),
-        Some(value) if is_true(value.as_str()) => watch_query(version),
+        None => list_version(version),
+        Some(value) if is_true(value.as_str()) => watch_version(version),
         Some(_) => None,
+    }
+}
+
+/// A text that is absent counts as empty.
+fn or_empty<'t>(text: &'t Option<CowStr<'_>>) -> &'t str
+    ensures { result.now ≡ or_empty (option_map cow_str_bytes text.now) }
+{
+    match text {
+        Some(text) => text.as_str(),
+        None => "",
+    }
+}
+
+/// The selector of labels in a query.
+fn labels(alloc: Global, query: &[u8]) -> Result<Selector, QueryFault>
+    ensures { Reads (said_by_text (or_empty (member (codes "labelSelector") (raw_pairs query.now)))) result }
+{
+    let text = member(alloc, query, "labelSelector")?;
+    match Selector::parse(alloc, or_empty(&text)) {
+        Ok(labels) => Ok(labels),
+        Err(selector::Fault::NoMemory) => Err(QueryFault::NoMemory),
+        Err(_) => Err(QueryFault::BadQuery),
+    }
+}
+
+/// The selector of fields in a query.
+fn fields(alloc: Global, query: &[u8]) -> Result<Fields, QueryFault>
+    ensures { Reads (said_of_fields (or_empty (member (codes "fieldSelector") (raw_pairs query.now)))) result }
+{
+    let text = member(alloc, query, "fieldSelector")?;
+    match Fields::parse(alloc, or_empty(&text)) {
+        Ok(fields) => Ok(fields),
+        Err(selector::Fault::NoMemory) => Err(QueryFault::NoMemory),
+        Err(_) => Err(QueryFault::BadQuery),
+    }
+}
+
+/// The revision after which changes are watched, if they are.
+fn watch(alloc: Global, query: &[u8]) -> Result<Option<u64>, QueryFault>
+    ensures { Reads (by_watch (member (codes "watch") (raw_pairs query.now)) (member (codes "resourceVersion") (raw_pairs query.now))) result }
+{
+    let watch = member(alloc, query, "watch")?;
+    let version = member(alloc, query, "resourceVersion")?;
+    match by_watch(watch, version) {
+        Some(watched) => Ok(watched),
+        None => Err(QueryFault::BadQuery),
     }
 }
 
@@ -166,12 +214,14 @@ fn collection_query(alloc: Global, query: &[u8]) -> Result<Query, QueryFault>
     if has_any(alloc, query, Names::Unserved)? {
         return Err(QueryFault::BadQuery);
     }
-    let watch = member(alloc, query, "watch")?;
-    let version = member(alloc, query, "resourceVersion")?;
-    match by_watch(watch, version) {
-        Some(understood) => Ok(understood),
-        None => Err(QueryFault::BadQuery),
-    }
+    let labels = labels(alloc, query)?;
+    let fields = fields(alloc, query)?;
+    let watch = watch(alloc, query)?;
+    Ok(Query {
+        labels,
+        fields,
+        watch,
+    })
 }
 
 /// The query of any other request.
@@ -181,7 +231,11 @@ fn other_query(alloc: Global, query: &[u8]) -> Result<Query, QueryFault>
     if has_any(alloc, query, Names::Refused)? {
         return Err(QueryFault::BadQuery);
     }
-    Ok(Query::Plain)
+    Ok(Query {
+        labels: Selector::everything(alloc),
+        fields: Fields::everything(alloc),
+        watch: None,
+    })
 }
 
 /// What stands after the first `?` of a target.

@@ -41,7 +41,7 @@ fn listed(
         Some(namespace) => Some(String::from_str(alloc, namespace)?),
         None => None,
     };
-    let found = journal.list_at(alloc, &View { kind, namespace }, revision)?;
+    let found = journal.list_at(alloc, &View::whole(alloc, kind, namespace), revision)?;
     let mut labels = String::new(alloc);
     for object in found.iter() {
         labels.push_str(label(Some(*object)).unwrap_or("none"))?;
@@ -128,7 +128,7 @@ fn changed(
         Some(namespace) => Some(String::from_str(alloc, namespace)?),
         None => None,
     };
-    let found = journal.changes(alloc, &View { kind, namespace }, from, to)?;
+    let found = journal.changes(alloc, &View::whole(alloc, kind, namespace), from, to)?;
     let mut lines = String::new(alloc);
     for event in found.iter() {
         let line = format!(in alloc;

@@ -1,5 +1,5 @@
 //! Selectors of fields.
-ghost use Rattle.std.specs.Prelude.{◌≡◌, Some, IfOk, IfErr, length, ◌==◌};
+ghost use Rattle.std.specs.Prelude.{◌≡◌, [], Some, IfOk, IfErr, length, ◌==◌};
 ghost use Rattle.std.specs.List.{slice_split};
 ghost use Rattle.definitions.specs.SelectorFields.{field_meets, field_named, field_requirement, fields_meet, has_blank, is_wanted, said_of_fields};
 ghost use Rattle.definitions.specs.SelectorTexts.{is_comma};
@@ -135,6 +135,15 @@ fn all_are_met(requirements: &Vec<FieldRequirement>, name: &str, namespace: &str
 }
 
 impl Fields {
+    /// The selector that matches all. It takes no memory.
+    pub fn everything(alloc: Global) -> Fields
+        ensures { result ≡ [] }
+    {
+        Fields {
+            requirements: Vec::new(alloc),
+        }
+    }
+
     /// Reads a text, as the query parameter `fieldSelector` has it. The empty text matches all. The errors are a text of
     /// another form, and want of memory.
     pub fn parse(alloc: Global, text: &str) -> Result<Fields, Fault>
@@ -142,9 +151,7 @@ impl Fields {
         ensures refused { IfErr result (RefusesText (said_of_fields text.now)) }
     {
         if text.is_empty() {
-            return Ok(Fields {
-                requirements: Vec::new(alloc),
-            });
+            return Ok(Fields::everything(alloc));
         }
         match field_requirements(alloc, text.as_bytes()) {
             Ok(requirements) => Ok(Fields { requirements }),

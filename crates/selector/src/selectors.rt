@@ -1,5 +1,5 @@
 //! Selectors of labels.
-ghost use Rattle.std.specs.Prelude.{◌≡◌, Some, Ok, IfOk, IfErr, length, ◌==◌};
+ghost use Rattle.std.specs.Prelude.{◌≡◌, [], Some, Ok, IfOk, IfErr, length, ◌==◌};
 ghost use Rattle.serde_json.specs.View.{view};
 ghost use Rattle.definitions.specs.Labels.{labels_of};
 ghost use Rattle.definitions.specs.SelectorTexts.{said_by_text};
@@ -61,6 +61,15 @@ fn all_are_met_by(requirements: &Vec<Requirement>, object: &Object) -> bool
 }
 
 impl Selector {
+    /// The selector that matches all. It takes no memory.
+    pub fn everything(alloc: Global) -> Selector
+        ensures { result ≡ [] }
+    {
+        Selector {
+            requirements: Vec::new(alloc),
+        }
+    }
+
     /// Reads a text, as the query parameter `labelSelector` has it. The empty text matches all. The errors are a text
     /// of another form, and want of memory.
     pub fn parse(alloc: Global, text: &str) -> Result<Selector, Fault>
@@ -68,9 +77,7 @@ impl Selector {
         ensures refused { IfErr result (RefusesText (said_by_text text.now)) }
     {
         if text.is_empty() {
-            return Ok(Selector {
-                requirements: Vec::new(alloc),
-            });
+            return Ok(Selector::everything(alloc));
         }
         match requirements(alloc, text.as_bytes()) {
             Ok(requirements) => Ok(Selector { requirements }),

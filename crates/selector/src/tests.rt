@@ -10,7 +10,7 @@ fn view(alloc: Global, kind: Kind, namespace: Option<&str>) -> Result<View, Fail
         Some(namespace) => Some(String::from_str(alloc, namespace)?),
         None => None,
     };
-    Ok(View { kind, namespace })
+    Ok(View::whole(alloc, kind, namespace))
 }
 
 // A Pod in `default`, asked for by its namespace, by all namespaces, and by what it is not.

@@ -3,31 +3,59 @@ ghost use Rattle.std.specs.Prelude.{◌≡◌};
 ghost use Rattle.definitions.specs.History.{in_view};
 ghost use Rattle.meta.specs.Keys.{name_of};
 
+use crate::fields::Fields;
+use crate::selectors::Selector;
 use definitions::kinds::Kind;
 use meta::keys::Key;
 use meta::objects::Object;
+use std::alloc::Global;
 
-/// What a list or a watch asks for (Kubernetes API Concepts, Resource URIs).
+/// What a list or a watch asks for (Kubernetes API Concepts, Resource URIs; Labels and Selectors; Field Selectors).
 #[derive(Drop)]
 pub struct View {
     pub kind: Kind,
     /// The namespace that is asked for; with none, all are.
     pub namespace: Option<String>,
+    /// What the objects' labels have to meet.
+    pub labels: Selector,
+    /// What the objects' fields have to meet.
+    pub fields: Fields,
 }
 
 impl View {
+    ghost use Rattle.std.specs.Prelude.{◌≡◌, ◌==◌, option_map, string_bytes};
+    ghost use Rattle.definitions.specs.History.{in_view, in_namespace, whole};
     ghost use Rattle.selector.specs.Views.{view_of};
+
+    /// All objects of a kind, in one namespace or in all. It takes no memory.
+    pub fn whole(alloc: Global, kind: Kind, namespace: Option<String>) -> View
+        ensures { view_of result ≡ whole kind (option_map string_bytes namespace) }
+    {
+        View {
+            kind,
+            namespace,
+            labels: Selector::everything(alloc),
+            fields: Fields::everything(alloc),
+        }
+    }
+
+    /// Whether the view asks for a namespace.
+    fn has_namespace(&self, namespace: &str) -> bool
+        ensures { result ≡ in_namespace (option_map string_bytes self.now.namespace) namespace.now }
+    {
+        match &self.namespace {
+            None => true,
+            Some(wanted) => wanted.as_bytes() == namespace.as_bytes(),
+        }
+    }
 
     /// Whether the view asks for an object under a key. It takes no memory.
     pub fn contains(&self, key: &Key, object: &Object) -> bool
         ensures { result ≡ in_view (view_of self.now) (name_of key.now) object.now.value }
     {
-        if self.kind != key.kind {
-            return false;
-        }
-        match &self.namespace {
-            None => true,
-            Some(wanted) => wanted.as_bytes() == key.namespace.as_bytes(),
-        }
+        self.kind == key.kind
+            && self.has_namespace(key.namespace.as_str())
+            && self.labels.selects(object)
+            && self.fields.matches(key.name.as_str(), key.namespace.as_str())
     }
 }

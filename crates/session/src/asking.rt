@@ -1,13 +1,12 @@
 //! What a method, a target and a body ask for.
-ghost use Rattle.std.specs.Prelude.{◌≡◌, IfOk, option_map};
-ghost use Rattle.definitions.specs.Targets.{asked, asked_of_view, asked_with, query_for, read_request};
+ghost use Rattle.std.specs.Prelude.{◌≡◌, IfOk, option_map, string_bytes};
+ghost use Rattle.definitions.specs.Targets.{asked, list_or_watch, selected, asked_with, query_for, read_request};
 ghost use Rattle.meta.specs.Faults.{refusal_of};
 ghost use Rattle.meta.specs.Keys.{name_of};
 ghost use Rattle.requests.specs.Checked.{body_of};
 ghost use Rattle.requests.specs.Queried.{query_seen};
 ghost use Rattle.requests.specs.Seen.{check_refusal};
 ghost use Rattle.routes.specs.Seen.{now, route_seen};
-ghost use Rattle.selector.specs.Views.{view_of};
 ghost use Rattle.session.specs.Asked.{Asks, ReadsData, asked_seen};
 
 use crate::asked::Asked;
@@ -73,8 +72,8 @@ fn ask(
 {
     match (method, target) {
         (Method::Get, Target::Collection(kind, namespace)) => {
-            let view = view(alloc, kind, namespace)?;
-            Ok(ask_of_view(view, query))
+            let namespace = owned(alloc, namespace)?;
+            Ok(list_or_watch(kind, namespace, query))
         }
         (
             Method::Get,
@@ -99,13 +98,20 @@ fn ask(
     }
 }
 
-/// The list of a view, or a watch of it.
-fn ask_of_view(view: View, query: Query) -> Asked
-    ensures { asked_seen result ≡ asked_of_view (view_of view) (query_seen query) }
+/// The list of what a query selects of a collection, or a watch of it.
+fn list_or_watch(kind: Kind, namespace: Option<String>, query: Query) -> Asked
+    ensures { asked_seen result
+        ≡ list_or_watch (selected kind (option_map string_bytes namespace) (query_seen query)) query.watch }
 {
-    match query {
-        Query::Plain => Asked::Request(Request::List(view)),
-        Query::Watching(from) => Asked::Watch { view, from },
+    let view = View {
+        kind,
+        namespace,
+        labels: query.labels,
+        fields: query.fields,
+    };
+    match query.watch {
+        None => Asked::Request(Request::List(view)),
+        Some(from) => Asked::Watch { view, from },
     }
 }
 
@@ -120,15 +126,14 @@ fn key(alloc: Global, kind: Kind, namespace: &str, name: &str) -> Result<Key, Al
     })
 }
 
-/// The view of a collection.
-fn view(alloc: Global, kind: Kind, namespace: Option<&str>) -> Result<View, AllocError>
-    ensures { IfOk result (λ v. view_of v ≡ record { kind = kind; namespace = option_map now namespace.entry }) }
+/// A text of one's own, where there is one.
+fn owned(alloc: Global, text: Option<&str>) -> Result<Option<String>, AllocError>
+    ensures { IfOk result (λ owned. option_map string_bytes owned ≡ option_map now text.entry) }
 {
-    let namespace = match namespace {
-        None => None,
-        Some(text) => Some(String::from_str(alloc, text)?),
-    };
-    Ok(View { kind, namespace })
+    match text {
+        None => Ok(None),
+        Some(text) => Ok(Some(String::from_str(alloc, text)?)),
+    }
 }
 
 /// The data of a body.

@@ -40,7 +40,7 @@ fn listed(
         Some(namespace) => Some(String::from_str(alloc, namespace)?),
         None => None,
     };
-    let found = store.list(alloc, &View { kind, namespace })?;
+    let found = store.list(alloc, &View::whole(alloc, kind, namespace))?;
     let mut labels = String::new(alloc);
     for object in found.iter() {
         labels.push_str(object.label("is").unwrap_or("none"))?;
@@ -102,10 +102,7 @@ fn changed(
         Some(namespace) => Some(String::from_str(alloc, namespace)?),
         None => None,
     };
-    let view = View {
-        kind: Kind::ConfigMap,
-        namespace,
-    };
+    let view = View::whole(alloc, Kind::ConfigMap, namespace);
     let found = match store.changes(alloc, &view, from) {
         Ok(found) => found,
         Err(Fault::TooNew { asked, present }) => {

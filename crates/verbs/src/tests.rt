@@ -61,10 +61,8 @@ fn sent(alloc: Global, store: &mut Store, request: Request) -> Result<String, Fa
 fn each_verb_is_answered(rt: HostRuntime) -> Result<(), Fail> {
     let alloc = rt.alloc();
     let mut store = Store::new(alloc);
-    let view = View {
-        kind: Kind::ConfigMap,
-        namespace: Some(String::from_str(alloc, "default")?),
-    };
+    let namespace = String::from_str(alloc, "default")?;
+    let view = View::whole(alloc, Kind::ConfigMap, Some(namespace));
     let created = sent(alloc, &mut store, create(alloc, BODY)?)?;
     assert_eq!(rt;
         created.as_str(),

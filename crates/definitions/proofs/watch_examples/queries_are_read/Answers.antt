@@ -4,4 +4,4 @@ use Rattle.definitions.proofs.watch_examples.queries_are_read.Goals as goal
 
 pub returns : goal.returns
 unfolding on_literals
-returns c = (refl, refl, refl, refl, refl)
+returns c = (refl, refl, refl, refl, refl, refl)
