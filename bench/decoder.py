@@ -14,36 +14,17 @@ Usage: decoder.py [--program PATH] [--mebibytes N] [--runs N] [--seconds N]
   --seconds N      the longest that one run may take, 120 if left out
 It uses no network, and writes no file but what the build makes. Its status is 1 where a run fails, and 0 otherwise: it promises no speed.
 """
-import argparse
 import os
-import pathlib
 import subprocess
 import sys
 import time
 
-PROGRAM = pathlib.Path(__file__).resolve().parent.parent / "crates" / "decoder_bench"
-BUILT = PROGRAM / "out" / "decoder_bench"
-BUILD_SECONDS = 3600
+import shared
+
 MEBIBYTE = 1 << 20
 PIECES = [1, 64, 4096, 65536]
 FRAME = 512
 MOST_MEBIBYTES = 1024
-
-
-def built(path):
-    """The program to measure, proved and built where none is given."""
-    if path:
-        return path
-    print("building, in crates/decoder_bench: rt run", file=sys.stderr)
-    subprocess.run(
-        ["rt", "run", "--", "64", "1", str(FRAME)],
-        cwd=PROGRAM,
-        stdin=subprocess.DEVNULL,
-        stdout=sys.stderr,
-        check=True,
-        timeout=BUILD_SECONDS,
-    )
-    return str(BUILT)
 
 
 def run(program, piece, mebibytes, frame, limit):
@@ -82,15 +63,8 @@ def measure(program, asked):
 
 
 def main():
-    parser = argparse.ArgumentParser(description=__doc__.splitlines()[0])
-    parser.add_argument("--program")
-    parser.add_argument("--mebibytes", type=int, default=16)
-    parser.add_argument("--runs", type=int, default=5)
-    parser.add_argument("--seconds", type=float, default=120)
-    asked = parser.parse_args()
-    if not 1 <= asked.mebibytes <= MOST_MEBIBYTES // 2 or asked.runs < 1:
-        parser.error(f"--mebibytes is from 1 to {MOST_MEBIBYTES // 2}, and --runs at least 1")
-    rows = measure(built(asked.program), asked)
+    asked = shared.arguments(__doc__, "mebibytes", most=MOST_MEBIBYTES // 2, default=16, runs=5)
+    rows = measure(shared.built(asked.program, "decoder_bench", ["64", "1", str(FRAME)]), asked)
     print(f"best of {asked.runs} runs, {os.cpu_count()} processors")
     print("| Frames | Bytes of a piece | MiB | Seconds | Seconds for twice as many | Bytes a second |")
     print("|---|---|---|---|---|---|")

@@ -14,32 +14,17 @@ Usage: queue.py [--program PATH] [--thousands N] [--runs N] [--seconds N]
   --seconds N      the longest that one run may take, 120 if left out
 It uses no network, and writes no files but those of the build.
 """
-import argparse
 import os
-import pathlib
 import subprocess
 import sys
 import time
 
-PROGRAM = pathlib.Path(__file__).resolve().parent.parent / "crates" / "queue_bench"
-BUILT = PROGRAM / "out" / "queue_bench"
-BUILD_SECONDS = 3600
+import shared
 
 # An add, a get and a done.
 OPERATIONS = 3
 
 WAYS = [("queue", "the queue"), ("plain", "a plain set and deque")]
-
-
-def built(path):
-    """The program to measure, proved and built where none is given."""
-    if path:
-        return path
-    print("building, in crates/queue_bench: rt run -- queue 1", file=sys.stderr)
-    subprocess.run(
-        ["rt", "run", "--", "queue", "1"], cwd=PROGRAM, stdin=subprocess.DEVNULL, stdout=sys.stderr, check=True, timeout=BUILD_SECONDS
-    )
-    return str(BUILT)
 
 
 def run(program, way, thousands, limit):
@@ -68,26 +53,15 @@ def measure(program, asked):
     return {way: best[way, asked.thousands] - best[way, 0] for way, _ in WAYS}
 
 
-def rate(count, seconds):
-    return f"{count / seconds:,.0f}" if seconds > 0 else "-"
-
-
 def main():
-    parser = argparse.ArgumentParser(description=__doc__.splitlines()[0])
-    parser.add_argument("--program")
-    parser.add_argument("--thousands", type=int, default=1000)
-    parser.add_argument("--runs", type=int, default=5)
-    parser.add_argument("--seconds", type=float, default=120)
-    asked = parser.parse_args()
-    if not 1 <= asked.thousands < 2**32 or asked.runs < 1:
-        parser.error("--thousands is from 1 to 4294967295, and --runs at least 1")
-    seconds = measure(built(asked.program), asked)
+    asked = shared.arguments(__doc__, "thousands", most=2**32 - 1, default=1000, runs=5)
+    seconds = measure(shared.built(asked.program, "queue_bench", ["queue", "1"]), asked)
     count = asked.thousands * 1000
     print(f"{count} adds, gets and dones over 100000 keys, best of {asked.runs} runs, {os.cpu_count()} processors")
     print("| Through | Operations a second | Seconds |")
     print("|---|---|---|")
     for way, name in WAYS:
-        print(f"| {name} | {rate(OPERATIONS * count, seconds[way])} | {seconds[way]:.3f} |")
+        print(f"| {name} | {shared.rate(OPERATIONS * count, seconds[way])} | {seconds[way]:.3f} |")
 
 
 if __name__ == "__main__":

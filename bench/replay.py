@@ -1,10 +1,10 @@
 #!/usr/bin/env python3
-"""Measures `kcp replay`: creates, gets and updates of ConfigMaps, in lines a second, and the memory that it takes.
+"""Measures `kcp replay`: creates, gets, updates, lists and watches of ConfigMaps, in lines a second, and the memory that it takes.
 
-Three inputs are run, each in a process of its own: the creates; the creates and the gets; the creates, the gets and the
-updates. The time of each part is the difference of two runs, each the best of several. Beside it stands the time
+Six inputs are run, each in a process of its own: the creates; the creates and the gets; and so on, each with one part more.
+The time of each part is the difference of two runs, each the best of several. Beside it stands the time
 that a loop takes which only reads and writes the same bytes, line by line, and does nothing else: what the machine
-costs by itself. Each reply's code is checked, so that a run that refuses its requests is not taken for a fast one.
+costs by itself. The beginning of each line of the replies is checked, so that a run that refuses its requests is not taken for a fast one.
 
 Usage: replay.py [--program PATH] [--count N] [--runs N] [--seconds N]
   --program PATH   an executable that is built; without it `rt run -- replay` in crates/kcp proves and builds one first
@@ -13,7 +13,6 @@ Usage: replay.py [--program PATH] [--count N] [--runs N] [--seconds N]
   --seconds N      the longest that one run may take, 120 if left out
 It uses no network, and writes only to a temporary folder.
 """
-import argparse
 import os
 import pathlib
 import subprocess
@@ -21,10 +20,15 @@ import sys
 import tempfile
 import time
 
-PROGRAM = pathlib.Path(__file__).resolve().parent.parent / "crates" / "kcp"
-BUILT = PROGRAM / "out" / "kcp"
-BUILD_SECONDS = 3600
+import shared
+
 COLLECTION = "/api/v1/namespaces/default/configmaps"
+
+# How often a list is asked for, and a watch.
+REPEATS = 20
+
+# How the line of a frame begins.
+FRAME = b'{"o'
 
 # What a machine costs by itself: a line in, its bytes out.
 LOOP = "import sys\nwrite = sys.stdout.buffer.write\nfor line in sys.stdin.buffer:\n    write(line)\n"
@@ -51,15 +55,18 @@ def updates(count):
     ]
 
 
-def built(path):
-    """The program to measure, proved and built where none is given."""
-    if path:
-        return path
-    print("building, in crates/kcp: rt run -- replay", file=sys.stderr)
-    subprocess.run(
-        ["rt", "run", "--", "replay"], cwd=PROGRAM, stdin=subprocess.DEVNULL, stdout=sys.stderr, check=True, timeout=BUILD_SECONDS
-    )
-    return str(BUILT)
+def lists(count):
+    return [f"GET {COLLECTION}"] * REPEATS
+
+
+def selections(count):
+    """Lists by four requirements, which all objects meet."""
+    return [f"GET {COLLECTION}?labelSelector=!tier,app+notin+(web,api),zone!=east,role+notin+(db)"] * REPEATS
+
+
+def watches(count):
+    """Watches of all that has happened: a change for each create and each update."""
+    return [f"GET {COLLECTION}?watch=true&resourceVersion=1"] * REPEATS
 
 
 def run(command, given, written, limit):
@@ -92,54 +99,51 @@ def best(command, given, written, asked):
 
 
 def check(written, codes):
-    """Ends the benchmark where a reply has another code than its request is to have."""
+    """Ends the benchmark where a line of the replies begins otherwise than it is to."""
     with open(written, "rb") as replies:
         found = [line[:3] for line in replies]
     if found != codes:
         wrong = next((n for n, pair in enumerate(zip(found, codes)) if pair[0] != pair[1]), min(len(found), len(codes)))
-        sys.exit(f"reply {wrong + 1} of {len(found)} is not {codes[wrong].decode() if wrong < len(codes) else 'wanted'}")
+        sys.exit(f"line {wrong + 1} of {len(found)} is not {codes[wrong].decode() if wrong < len(codes) else 'wanted'}")
 
 
 def measure(program, folder, asked):
     """For each part: its name, its seconds, those of the loop, and the memory by its end."""
-    parts = [("creates", creates, b"201"), ("gets", gets, b"200"), ("updates", updates, b"200")]
+    changes = [b"200"] + [FRAME] * (2 * asked.count)
+    parts = [
+        ("creates", creates, [b"201"] * asked.count),
+        ("gets", gets, [b"200"] * asked.count),
+        ("updates", updates, [b"200"] * asked.count),
+        (f"lists of {asked.count:,}", lists, [b"200"] * REPEATS),
+        ("the same by four requirements", selections, [b"200"] * REPEATS),
+        (f"watches of {2 * asked.count:,} changes", watches, changes * REPEATS),
+    ]
     given, written = folder / "given", folder / "written"
     codes, before, before_loop, rows = [], 0.0, 0.0, []
     given.write_bytes(b"")
-    for name, make, code in parts:
+    for name, make, replies in parts:
+        asks = make(asked.count)
         with open(given, "ab") as lines:
-            lines.writelines(line.encode() + b"\n" for line in make(asked.count))
-        codes += [code] * asked.count
+            lines.writelines(line.encode() + b"\n" for line in asks)
+        codes += replies
         seconds, memory = best([program, "replay"], given, written, asked)
         check(written, codes)
         loop_seconds, _ = best([sys.executable, "-c", LOOP], given, written, asked)
-        rows.append((name, seconds - before, loop_seconds - before_loop, memory))
+        rows.append((name, len(asks), seconds - before, loop_seconds - before_loop, memory))
         before, before_loop = seconds, loop_seconds
-    return rows, before, before_loop
-
-
-def rate(count, seconds):
-    return f"{count / seconds:,.0f}" if seconds > 0 else "-"
+    return rows
 
 
 def main():
-    parser = argparse.ArgumentParser(description=__doc__.splitlines()[0])
-    parser.add_argument("--program")
-    parser.add_argument("--count", type=int, default=10000)
-    parser.add_argument("--runs", type=int, default=3)
-    parser.add_argument("--seconds", type=float, default=120)
-    asked = parser.parse_args()
-    if not 1 <= asked.count <= 65536 or asked.runs < 1:
-        parser.error("--count is from 1 to 65536, and --runs at least 1")
-    program = built(asked.program)
+    asked = shared.arguments(__doc__, "count", most=65536, default=10000, runs=3)
+    program = shared.built(asked.program, "kcp", ["replay"])
     with tempfile.TemporaryDirectory() as folder:
-        rows, whole, whole_loop = measure(program, pathlib.Path(folder), asked)
-    print(f"{asked.count} lines of each part, best of {asked.runs} runs, {os.cpu_count()} processors")
-    print("| Part | Lines a second | Seconds | Seconds of a loop that only copies | Peak memory by then, MiB |")
-    print("|---|---|---|---|---|")
-    for name, seconds, loop_seconds, memory in rows:
-        print(f"| {name} | {rate(asked.count, seconds)} | {seconds:.3f} | {max(loop_seconds, 0):.3f} | {memory / 1024:.1f} |")
-    print(f"| all | {rate(3 * asked.count, whole)} | {whole:.3f} | {whole_loop:.3f} | {rows[-1][3] / 1024:.1f} |")
+        rows = measure(program, pathlib.Path(folder), asked)
+    print(f"best of {asked.runs} runs, {os.cpu_count()} processors")
+    print("| Part | Lines | Lines a second | Seconds | Seconds of a loop that only copies the lines | Peak memory by then, MiB |")
+    print("|---|---|---|---|---|---|")
+    for name, lines, seconds, loop_seconds, memory in rows:
+        print(f"| {name} | {lines:,} | {shared.rate(lines, seconds)} | {seconds:.3f} | {max(loop_seconds, 0):.3f} | {memory / 1024:.1f} |")
 
 
 if __name__ == "__main__":
