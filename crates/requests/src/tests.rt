@@ -1,6 +1,8 @@
 use crate::body::{BodyFault, LONGEST_BODY, read_body};
 use crate::check::{CheckFault, check_request, decode};
 use crate::line::{Line, read_line};
+use crate::query::{QueryFault, read_query};
+use definitions::kinds::Kind;
 use definitions::methods::Method;
 use routes::table::Routes;
 use routes::targets::Target;
@@ -51,10 +53,6 @@ fn checks_in_order(rt: HostRuntime) -> Result<(), Fail> {
         check_request(&routes, Method::Post, "/api/v1/namespaces/a/configmaps/b?").err(),
         Some(CheckFault::MethodNotAllowed)
     );
-    assert_eq!(rt;
-        check_request(&routes, Method::Get, "/api/v1/configmaps?watch=1").err(),
-        Some(CheckFault::BadQuery)
-    );
     Ok(())
 }
 
@@ -87,5 +85,26 @@ fn reads_bodies(rt: HostRuntime) -> Result<(), Fail> {
         read_body(rt.alloc(), &long).err(),
         Some(BodyFault::TooLarge)
     );
+    Ok(())
+}
+
+#[test]
+fn queries_are_read(rt: HostRuntime) -> Result<(), Fail> {
+    let alloc = rt.alloc();
+    let all = Target::Collection(Kind::ConfigMap, None);
+    let watch = "/api/v1/configmaps?watch=1&resourceVersion=7&labelSelector=a%3Db";
+    let watched = read_query(alloc, Method::Get, all, watch)?;
+    assert_eq!(rt; watched.watch, Some(7));
+    assert!(rt; !watched.labels.is_empty());
+    assert!(rt; watched.fields.is_empty());
+    let listed = read_query(alloc, Method::Get, all, "/api/v1/configmaps")?;
+    assert_eq!(rt; listed.watch, None);
+    let limited = read_query(alloc, Method::Get, all, "/api/v1/configmaps?limit=7");
+    assert_eq!(rt; limited.err(), Some(QueryFault::BadQuery));
+    let object = Target::Object(Kind::ConfigMap, "a", "b");
+    let read = read_query(alloc, Method::Get, object, "/?watch=1&labelSelector=((")?;
+    assert_eq!(rt; read.watch, None);
+    let dry = read_query(alloc, Method::Get, object, "/?dryRun=All");
+    assert_eq!(rt; dry.err(), Some(QueryFault::BadQuery));
     Ok(())
 }

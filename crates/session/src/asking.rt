@@ -35,9 +35,10 @@ pub fn read_request(
 ) -> Result<Asked, Fault>
     ensures { Asks (read_request method target.now body.now) result }
 {
-    let text = decode(alloc, target)?;
-    match check_request(routes, method, text.as_str()) {
-        Ok(named) => ask_with(alloc, method, named, text.as_str(), body),
+    let decoded = decode(alloc, target)?;
+    let target = decoded.as_str();
+    match check_request(routes, method, target) {
+        Ok(named) => ask_with(alloc, method, named, target, body),
         Err(fault) => Err(check_fault(fault)),
     }
 }

@@ -1,11 +1,12 @@
 //! Reply lines.
-ghost use Rattle.std.specs.Prelude.{◌≡◌, ◌++◌, ◌∷◌, [], IfOk, map, decimal};
-ghost use Rattle.definitions.specs.Lines.{reply_text, outcome, shown};
+ghost use Rattle.std.specs.Prelude.{◌≡◌, ◌++◌, ◌∷◌, [], IfOk, OnOk, map, decimal};
+ghost use Rattle.definitions.specs.Frames.{frame_text};
+ghost use Rattle.definitions.specs.Lines.{frames_text, reply_text, outcome, shown};
+ghost use Rattle.definitions.specs.Streams.{change_event};
 ghost use Rattle.definitions.specs.Verbs.{refused};
 ghost use Rattle.meta.specs.Faults.{refusal_of};
 ghost use Rattle.revisions.specs.Events.{change_seen};
 
-use framing::frame_text;
 use meta::Fault;
 use reply::Reply;
 use revisions::Event;
@@ -32,18 +33,34 @@ pub fn refusal_line(alloc: Global, fault: &Fault) -> Result<Vec<u8>, AllocError>
     line(alloc, reply.code, reply.text.as_str())
 }
 
+/// Adds the line of a change.
+fn push_frame(alloc: Global, event: &Event, text: &mut Vec<u8>) -> Result<(), AllocError>
+    ensures { OnOk result (text.new.items ≡ text.old.items ++ frame_text (change_event (change_seen event.now))) }
+{
+    let frame = framing::frame_text(alloc, event)?;
+    text.extend_from_slice(frame.as_bytes())?;
+    Ok(())
+}
+
+/// Adds the lines of changes.
+fn push_frames(alloc: Global, events: &[Event], text: &mut Vec<u8>) -> Result<(), AllocError>
+    ensures { OnOk result (text.new.items ≡ text.old.items ++ frames_text (map change_seen events.now)) }
+{
+    for event in events {
+        push_frame(alloc, event, text)?;
+    }
+    Ok(())
+}
+
 /// How many changes there are, and the line of each.
 pub fn watch_lines(alloc: Global, events: &[Event]) -> Result<Vec<u8>, AllocError>
     ensures { IfOk result (λ l. l.items ≡ reply_text (shown (map change_seen events.now))) }
 {
-    let digits = events.len().to_string(alloc)?;
+    let count = events.len().to_string(alloc)?;
     let mut text = Vec::new(alloc);
     text.extend_from_slice(b"200 watch ")?;
-    text.extend_from_slice(digits.as_bytes())?;
+    text.extend_from_slice(count.as_bytes())?;
     text.push(b'\n')?;
-    for event in events {
-        let frame = frame_text(alloc, event)?;
-        text.extend_from_slice(frame.as_bytes())?;
-    }
+    push_frames(alloc, events, &mut text)?;
     Ok(text)
 }

@@ -8,6 +8,7 @@ use definitions::methods::Method;
 use definitions::refusals::Part;
 use line_service::LineService;
 use meta::{Fault, Write};
+use reply::Reply;
 use requests::line::{Line, read_line};
 use routes::table::Routes;
 use stamps::moments::Moment;
@@ -45,7 +46,7 @@ impl Session {
     ghost use Rattle.meta.specs.Writes.{write_of};
     ghost use Rattle.definitions.specs.Changes.{changes_since};
     ghost use Rattle.selector.specs.Views.{view_of};
-    ghost use Rattle.verbs.specs.Requests.{request_of};
+    ghost use Rattle.verbs.specs.Requests.{Serves, request_of};
 
     /// A session over the empty store, at the start of 2026. The error is want of memory.
     pub fn new(alloc: Global) -> Result<Session, AllocError>
@@ -76,6 +77,13 @@ impl Session {
         }
     }
 
+    /// The reply to a request with what it writes, or why it is refused.
+    fn outcome(&self, alloc: Global, request: Request) -> Result<(Reply, Option<Write>), Fault>
+        ensures { Serves (accept (request_of request) self.now.history self.now.moment) result }
+    {
+        verbs::accept(alloc, &self.store, request, self.moment)
+    }
+
     /// The reply line to a request, after which what it writes is written. An error, want of memory, changes nothing.
     fn accept(&mut self, alloc: Global, request: Request) -> Result<Vec<u8>, AllocError>
         ensures text { IfOk result (λ l. l.items
@@ -85,7 +93,7 @@ impl Session {
         ensures moment { self.new.moment ≡ self.old.moment }
         ensures err { OnErr result (self.new ≡ self.old) }
     {
-        match verbs::accept(alloc, &self.store, request, self.moment) {
+        match self.outcome(alloc, request) {
             Ok((reply, write)) => {
                 let text = line(alloc, reply.code, reply.text.as_str())?;
                 self.take(write)?;
@@ -103,8 +111,10 @@ impl Session {
     {
         match self.store.changes(alloc, view, from) {
             Ok(events) => watch_lines(alloc, &events),
-            Err(Fault::NoMemory) => Err(AllocError),
-            Err(fault) => refusal_line(alloc, &fault),
+            Err(Fault::TooNew { asked, present }) => {
+                refusal_line(alloc, &Fault::TooNew { asked, present })
+            }
+            Err(_) => Err(AllocError),
         }
     }
 

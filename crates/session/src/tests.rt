@@ -1,5 +1,6 @@
-use crate::Session;
+use crate::asked::Asked;
 use crate::asking::read_request;
+use crate::sessions::Session;
 use definitions::methods::Method;
 use line_service::LineService;
 use meta::Fault;
@@ -84,18 +85,18 @@ fn a_body_of_more_than_a_mebibyte_is_too_large(rt: HostRuntime) -> Result<(), Fa
     Ok(())
 }
 
-/// Whether a request lists a namespace.
-fn lists_a_namespace(request: &Request) -> bool {
-    match request {
-        Request::List(view) => view.namespace.is_some(),
+/// Whether a namespace's list is asked for.
+fn lists_a_namespace(asked: &Asked) -> bool {
+    match asked {
+        Asked::Request(Request::List(view)) => view.namespace.is_some(),
         _ => false,
     }
 }
 
-/// Whether a request updates an object of this name.
-fn updates(request: &Request, name: &str) -> bool {
-    match request {
-        Request::Update(key, _) => key.name.as_str() == name,
+/// Whether an update of an object of this name is asked for.
+fn updates(asked: &Asked, name: &str) -> bool {
+    match asked {
+        Asked::Request(Request::Update(key, _)) => key.name.as_str() == name,
         _ => false,
     }
 }
@@ -107,9 +108,9 @@ fn requests_are_read(rt: HostRuntime) -> Result<(), Fail> {
     let collection = b"/api/v1/namespaces/team/configmaps";
     let object = b"/api/v1/namespaces/team/configmaps/b";
     let list = read_request(alloc, &routes, Method::Get, collection, b"");
-    assert!(rt; list.is_ok_and(|request| lists_a_namespace(&request)));
+    assert!(rt; list.is_ok_and(|asked| lists_a_namespace(&asked)));
     let put = read_request(alloc, &routes, Method::Put, object, b"{}");
-    assert!(rt; put.is_ok_and(|request| updates(&request, "b")));
+    assert!(rt; put.is_ok_and(|asked| updates(&asked, "b")));
     let delete = read_request(alloc, &routes, Method::Delete, object, b"");
     assert!(rt; matches!(delete.err(), Some(Fault::MethodNotAllowed)));
     Ok(())
@@ -140,5 +141,27 @@ fn a_fraction_is_no_body(rt: HostRuntime) -> Result<(), Fail> {
         b"POST /api/v1/namespaces/default/configmaps {\"metadata\":{\"name\":\"a\"},\"data\":{\"k\":1.5}}";
     assert!(rt; answers(alloc, &mut session, line, NO_BODY)?);
     assert!(rt; answers(alloc, &mut session, LIST, EMPTY)?);
+    Ok(())
+}
+
+const WATCH: &[u8] = b"GET /api/v1/namespaces/default/configmaps?watch=true&resourceVersion=2";
+
+const WATCHED: &str =
+    "200 watch 1\n{\"object\":{\"apiVersion\":\"v1\",\"data\":{\"k\":\"w\"},\"kind\":\"ConfigMap\",\"metadata\":{\"creationTimestamp\":\"2026-01-01T00:00:00Z\",\"name\":\"a\",\"namespace\":\"default\",\"resourceVersion\":\"3\",\"uid\":\"00000000-0000-8000-8000-000000000002\"}},\"type\":\"MODIFIED\"}\n";
+
+const WATCH_TO_COME: &[u8] =
+    b"GET /api/v1/namespaces/default/configmaps?watch=true&resourceVersion=4";
+
+const TOO_NEW: &str =
+    "504 {\"apiVersion\":\"v1\",\"code\":504,\"kind\":\"Status\",\"message\":\"Timeout: Too large resource version: 4, current: 3\",\"metadata\":{},\"reason\":\"Timeout\",\"status\":\"Failure\"}\n";
+
+#[test]
+fn a_watch_shows_what_has_changed(rt: HostRuntime) -> Result<(), Fail> {
+    let alloc = rt.alloc();
+    let mut session = Session::new(alloc)?;
+    assert!(rt; answers(alloc, &mut session, CREATE, CREATED)?);
+    assert!(rt; answers(alloc, &mut session, UPDATE, UPDATED)?);
+    assert!(rt; answers(alloc, &mut session, WATCH, WATCHED)?);
+    assert!(rt; answers(alloc, &mut session, WATCH_TO_COME, TOO_NEW)?);
     Ok(())
 }

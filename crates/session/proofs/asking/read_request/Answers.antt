@@ -8,11 +8,11 @@ use Rattle.session.proofs.asking.read_request.Goals as goal
 pub returns-in-Ok : goal.returns-in-Ok
 returns-in-Ok c =
     subst (λ asked. Asks asked c.ask_with.result)
-    (sym (checked-asks c.args.method c.args.target.now c.args.body.now c.as_str.result.now (Ok (route_seen c.in-Ok.named)) (c.as_str.ensures.value ∙ c.in_ok-text.ensures.text) c.in-Ok.ensures))
+    (sym (checked-asks c.args.method c.args.target.now c.args.body.now c.as_str-target.result.now (Ok (route_seen c.in-Ok.named)) (c.as_str-target.ensures.value ∙ c.in_ok-decoded.ensures.text) c.in-Ok.ensures))
     c.ask_with.ensures
 
 pub returns : goal.returns
 returns c =
     inr
-    (checked-asks c.args.method c.args.target.now c.args.body.now c.as_str.result.now (Err (check_refusal c.in-Err.fault)) (c.as_str.ensures.value ∙ c.in_ok-text.ensures.text) c.in-Err.ensures
+    (checked-asks c.args.method c.args.target.now c.args.body.now c.as_str-target.result.now (Err (check_refusal c.in-Err.fault)) (c.as_str-target.ensures.value ∙ c.in_ok-decoded.ensures.text) c.in-Err.ensures
     ∙ ap Err (sym c.check_fault.ensures))
