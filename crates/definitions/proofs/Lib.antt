@@ -5,7 +5,9 @@ pub mod Due
 pub mod Expected
 pub mod Falling
 pub mod JsonMembers
+pub mod JsonOrder
 pub mod Limits
+pub mod NeatMembers
 pub mod NoFloatsRead
 pub mod OnLiterals
 pub mod Past
@@ -19,7 +21,9 @@ pub mod SelectorLaws
 pub mod SelectorPlain
 pub mod SelectorSound
 pub mod SelectorTextsRead
+pub mod SentObjects
 pub mod Streamed
 pub mod TaskOrder
+pub mod TextLengths
 pub mod Uids
 pub mod VerbLaws

@@ -31,6 +31,7 @@ pub mod SelectorLaws
 pub mod SelectorTexts
 pub mod SelectorValues
 pub mod Selectors
+pub mod SentLaws
 pub mod Streams
 pub mod Targets
 pub mod Uids

@@ -1,0 +1,64 @@
+-- What the server stores and sends is what a client of it takes in.
+use Rattle.std.specs.Prelude.{◌≡◌, ◌≤◌, ◌+◌, ℕ, List, [], ◌∷◌, ◌++◌, length, true, Some, None, Ok, IfSome, IsSome, decimal, is_some, map}
+use Rattle.std.specs.List.{AllByRecursion}
+use Rattle.serde_json.specs.Data.{Data, depth}
+use Rattle.serde_json.specs.Find.{as_object}
+use Rattle.serde_json.specs.Written.{compact_text}
+use Rattle.definitions.specs.declared.kinds.Kind.{Kind}
+use Rattle.definitions.specs.Names.{Name}
+use Rattle.definitions.specs.History.{History, Write, View, writes, present, list}
+use Rattle.definitions.specs.Objects.{Object}
+use Rattle.definitions.specs.Metadata.{name, namespace, uid, version}
+use Rattle.definitions.specs.Reading.{reading}
+use Rattle.definitions.specs.Changes.{Change, changes}
+use Rattle.definitions.specs.Lines.{start, after_lines}
+use Rattle.definitions.specs.Reflectors.{shown, name_in}
+
+-- what has happened once these lines were read
+abbrev pub history_of : List (List ℕ) → History
+history_of lines = (after_lines start lines).history
+
+-- ---- what is stored
+
+-- an object as it is stored under a key by the write of a revision: it reads as itself, and says its key, a uid and the revision
+pub record IsKept (k : Name) (r : ℕ) (d : Data) : Type 0 where
+  pub reads : reading k.kind d ≡ Ok d
+  pub name : name d ≡ Some k.name
+  pub namespace : namespace d ≡ Some k.namespace
+  pub uid : is_some (uid d) ≡ true
+  pub version : version d ≡ Some (decimal r)
+
+-- these writes in order, the first at revision r: each object is stored so
+abbrev pub AreKept : ℕ → List Write → Type 0
+AreKept r [] = Unit {0}
+AreKept r (w ∷ ws) = IfSome w.put (IsKept w.key r) × AreKept (r + 1) ws
+
+-- whatever lines are read, each object that was ever stored reads as itself, and says its key, a uid and its revision
+abbrev pub RunsKeepObjects : Type 0
+RunsKeepObjects = (lines : List (List ℕ)) → AreKept 2 (writes (history_of lines))
+
+-- ---- what is sent
+
+-- all of a kind, in all namespaces
+abbrev pub whole : Kind → View
+whole k = record { kind = k; namespace = None }
+
+abbrev pub object_of : Kind → Change → Object
+object_of k c = record { kind = k; value = c.object }
+
+-- what a change shows is read as it stands, and says the change's key and revision
+pub record IsTold (k : Kind) (c : Change) : Type 0 where
+  pub shows : shown k c.object ≡ Some (record { object = object_of k c; revision = c.revision })
+  pub names : name_in (object_of k c) ≡ c.key
+
+-- what a change shows is an object that a line has room for
+pub record IsShort (c : Change) : Type 0 where
+  pub is_object : IsSome (as_object c.object)
+  pub nests : depth c.object ≤ 100
+  pub fits : length (compact_text c.object) ≤ 1573120
+
+-- whatever lines are read, what a watch of a kind shows is read as it stands, says its key and revision, and is short enough for a line
+abbrev pub ChangesAreTold : Type 0
+ChangesAreTold =
+    (lines : List (List ℕ)) (k : Kind) (a b : ℕ) → a ≤ b
+    → AllByRecursion (IsTold k) (changes (history_of lines) (whole k) a b) × AllByRecursion IsShort (changes (history_of lines) (whole k) a b)
