@@ -15,6 +15,7 @@ pub mod Paths
 pub mod Played
 pub mod PutLaws
 pub mod ReadAgain
+pub mod RevisionTexts
 pub mod Runs
 pub mod SelectorForms
 pub mod SelectorLaws
@@ -22,6 +23,7 @@ pub mod SelectorPlain
 pub mod SelectorSound
 pub mod SelectorTextsRead
 pub mod SentObjects
+pub mod SentRuns
 pub mod Streamed
 pub mod TaskOrder
 pub mod TextLengths

@@ -1,9 +1,11 @@
 -- How long the text of an object is, by its revision.
-use Rattle.std.proofs.Common.{◌≡◌, ◌≤◌, ◌<◌, ◌+◌, ◌^◌, ℕ, List, [], ◌∷◌, ◌++◌, length, Bool, true, false, cond, codes, decimal, nat_cmp, is_eq, Ordering, Less, Equal, Greater, refl, sym, ap, ◌∙◌, arith, length-append}
+use Rattle.std.proofs.Common.{◌≡◌, ◌≤◌, ◌<◌, ◌+◌, ◌*◌, ◌/◌, ◌%◌, ◌^◌, nat_lt, ℕ, List, [], ◌∷◌, ◌++◌, length, Bool, true, false, cond, codes, decimal, nat_cmp, is_eq, Ordering, Less, Equal, Greater, refl, sym, ap, ◌∙◌, arith, length-append}
 use Rattle.std.proofs.lemmas.Cmp.{nat_list_cmp_total, tied_itself}
 use Rattle.std.specs.Ordering.{match_ordering}
 use Rattle.std.specs.Cmp.Lexicographic.{slice_cmp}
-use Rattle.json.specs.Print.{quoted}
+use Rattle.std.proofs.lemmas.Fmt.{length-decimal-le}
+use Rattle.std.specs.Char.{digit_char}
+use Rattle.json.specs.Print.{quoted, escape, escape_byte, escape_letter}
 use Rattle.serde_json.specs.Data.{Data, string, object, Members, no_members, member, put}
 use Rattle.serde_json.specs.Written.{comma_if, compact_text, members_text}
 use Rattle.definitions.specs.Values.{members_of}
@@ -30,7 +32,7 @@ length-put later k d e no_members = omega (arith, length-member later k d no_mem
 length-put later k d e (member l f ms) = other_at (slice_cmp nat_cmp k l) later k l d e f ms (length-put true k d e ms)
 
 -- at another revision an object is longer by what the revision is longer
-pub length-at_revision : (r s : ℕ) (meta : Members) (d : Data)
+length-at_revision : (r s : ℕ) (meta : Members) (d : Data)
     → length (compact_text (at_revision r meta d)) + length (quoted (decimal s)) ≡ length (compact_text (at_revision s meta d)) + length (quoted (decimal r))
 length-at_revision r s meta d =
     omega (
@@ -38,6 +40,32 @@ length-at_revision r s meta d =
       length-put false (codes "metadata") (object (put (codes "resourceVersion") (string (decimal r)) meta)) (object (put (codes "resourceVersion") (string (decimal s)) meta)) (members_of d),
       length-put false (codes "resourceVersion") (string (decimal r)) (string (decimal s)) meta,
     )
+
+-- ---- texts in quotes
+
+length-choice : (a b : Bool) (xs ys zs : List ℕ) → length xs ≤ 6 → length ys ≤ 6 → length zs ≤ 6 → length (cond a xs (cond b ys zs)) ≤ 6
+length-choice true b xs ys zs h k l = h
+length-choice false true xs ys zs h k l = k
+length-choice false false xs ys zs h k l = l
+
+length-escape_byte : (x : ℕ) → length (escape_byte x) ≤ 6
+unfolding escape_byte
+length-escape_byte x =
+    length-choice (nat_lt 0 (escape_letter x)) (nat_lt x 32) (92 ∷ escape_letter x ∷ []) (92 ∷ 117 ∷ 48 ∷ 48 ∷ digit_char (x / 16) ∷ digit_char (x % 16) ∷ []) (x ∷ []) (omega arith) (omega arith) (omega arith)
+
+pub length-escape : (s : List ℕ) → length (escape s) ≤ 6 * length s
+length-escape [] = omega arith
+length-escape (x ∷ s) = omega (arith, length-append (escape_byte x) (escape s), length-escape_byte x, length-escape s)
+
+-- a revision in quotes
+length-revision : (r : ℕ) → r ≤ 9007199254740991 → length (quoted (decimal r)) ≤ 200
+length-revision r low =
+    let digits = length-decimal-le 20 r (omega arith) (omega arith) (omega arith) in
+    omega (arith, length-append (escape (decimal r)) (34 ∷ []), length-escape (decimal r), digits)
+
+-- an object of one revision fits at another, with a little more room
+pub fits_at : (r s : ℕ) (meta : Members) (d : Data) → length (compact_text (at_revision s meta d)) ≤ 1572864 → r ≤ 9007199254740991 → length (compact_text (at_revision r meta d)) ≤ 1573120
+fits_at r s meta d fits low = omega (arith, length-at_revision r s meta d, length-revision r low, fits)
 
 -- ---- what is put twice
 
