@@ -22,6 +22,7 @@ pub mod SelectorLaws
 pub mod SelectorPlain
 pub mod SelectorSound
 pub mod SelectorTextsRead
+pub mod SentChanges
 pub mod SentObjects
 pub mod SentRuns
 pub mod Streamed

@@ -16,5 +16,6 @@ pub mod schemas;
 pub mod selector_examples;
 pub mod selector_laws;
 pub mod selectors;
+pub mod sent_laws;
 pub mod watch_examples;
 pub mod watch_laws;
