@@ -23,6 +23,7 @@ pub mod SelectorPlain
 pub mod SelectorSound
 pub mod SelectorTextsRead
 pub mod SentChanges
+pub mod SentLists
 pub mod SentObjects
 pub mod SentRuns
 pub mod Streamed

@@ -15,7 +15,7 @@ use Rattle.definitions.specs.History.{History, Write, writes, present, up_to, la
 use Rattle.definitions.specs.Metadata.{metadata_of, metadata_text, name, namespace, uid}
 use Rattle.definitions.specs.Names.{Name}
 use Rattle.definitions.specs.Objects.{Object}
-use Rattle.definitions.specs.Reading.{reading, is_body}
+use Rattle.definitions.specs.Reading.{reading, is_body, fits, tidied, filled, whole_of}
 use Rattle.definitions.specs.Reflectors.{Shown, shown, shown_read, has_identity, revision, name_in}
 use Rattle.definitions.specs.Revisions.{revision_of}
 use Rattle.definitions.specs.SentLaws.{IsKept, IsTold, IsShort, ChangesAreTold, whole, history_of}
@@ -24,7 +24,7 @@ use Rattle.definitions.proofs.Limits.{limits}
 use Rattle.definitions.proofs.NeatMembers.{opens}
 use Rattle.definitions.proofs.NoFloatsRead.{both_true}
 use Rattle.definitions.proofs.Played.{up_to-split}
-use Rattle.definitions.proofs.ReadAgain.{settles}
+use Rattle.definitions.proofs.ReadAgain.{opened}
 use Rattle.definitions.proofs.RevisionTexts.{revision_is}
 use Rattle.definitions.proofs.SentObjects.{IsStored, IsHeld, reads_at, neat_of}
 use Rattle.definitions.proofs.SentRuns.{AreStored, AreStored-split, AreStored-up_to, last_held, all_stored}
@@ -79,10 +79,10 @@ is_object (number n) h = cc
 is_object (string s) h = cc
 is_object (array ds) h = cc
 
-body_of : (k : Kind) (d : Data) → reading k d ≡ Ok d → is_body d ≡ true
-body_of k d h = (settles k d d h).0
+pub read_body : (k : Kind) (d e : Data) → reading k d ≡ Ok e → is_body d ≡ true
+read_body k d e h = (opened (is_body d) (fits (whole_of k) d) (filled k (tidied (whole_of k) d)) e h).0
 
-nests : (d : Data) → is_body d ≡ true → depth d ≤ 100
+pub nests : (d : Data) → is_body d ≡ true → depth d ≤ 100
 nests d h = leb-true (depth d) 100 (both_true (is_some (as_object d) && not (has_float d)) (nat_le (depth d) 100) h).1
 
 abbrev Tells : Kind → Change → Type 0
@@ -90,14 +90,14 @@ Tells k c = IsTold k c × IsShort c
 
 tells : (k : Kind) (c : Change) → k ≡ c.key.kind → IsKept c.key c.revision c.object → c.revision ≤ 9007199254740991 → length (compact_text c.object) ≤ 1573120 → Tells k c
 tells k c same kept low fits =
-    let body = body_of c.key.kind c.object kept.reads in (
+    let body = read_body c.key.kind c.object c.object kept.reads in (
       record { shows = shown_is k c.key c.revision c.object same kept low; names = name_is k c.key c.revision c.object same kept },
       record { is_object = is_object c.object body; nests = nests c.object body; fits = fits },
     )
 
 -- ---- the change of a write
 
-same_kind : (a b : Kind) → ((rank a == rank b) && true) ≡ true → a ≡ b
+pub same_kind : (a b : Kind) → ((rank a == rank b) && true) ≡ true → a ≡ b
 same_kind ConfigMap ConfigMap h = refl
 same_kind Pod Pod h = refl
 same_kind ReplicaSet ReplicaSet h = refl

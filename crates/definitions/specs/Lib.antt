@@ -19,6 +19,7 @@ pub mod Objects
 pub mod Queries
 pub mod Reading
 pub mod ReflectorCodes
+pub mod ReflectorExamples
 pub mod Reflectors
 pub mod Refusals
 pub mod Revisions

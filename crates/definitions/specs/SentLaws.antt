@@ -1,18 +1,21 @@
 -- What the server stores and sends is what a client of it takes in.
 use Rattle.std.specs.Prelude.{◌≡◌, ◌≤◌, ◌+◌, ℕ, List, [], ◌∷◌, ◌++◌, length, true, Some, None, Ok, IfSome, IsSome, decimal, is_some, map}
 use Rattle.std.specs.List.{AllByRecursion}
+use Rattle.std.specs.Str.{is_utf8}
 use Rattle.serde_json.specs.Data.{Data, depth}
 use Rattle.serde_json.specs.Find.{as_object}
+use Rattle.serde_json.specs.Read.{read, max_depth}
 use Rattle.serde_json.specs.Written.{compact_text}
 use Rattle.definitions.specs.declared.kinds.Kind.{Kind}
 use Rattle.definitions.specs.Names.{Name}
-use Rattle.definitions.specs.History.{History, Write, View, writes, present, list}
+use Rattle.definitions.specs.History.{History, Write, View, Members, writes, present, list}
 use Rattle.definitions.specs.Objects.{Object}
 use Rattle.definitions.specs.Metadata.{name, namespace, uid, version}
 use Rattle.definitions.specs.Reading.{reading}
 use Rattle.definitions.specs.Changes.{Change, changes}
 use Rattle.definitions.specs.Lines.{start, after_lines}
-use Rattle.definitions.specs.Reflectors.{shown, name_in}
+use Rattle.definitions.specs.Verbs.{list_body}
+use Rattle.definitions.specs.Reflectors.{Listed, shown, name_in, list_of, put_all}
 
 -- what has happened once these lines were read
 abbrev pub history_of : List (List ℕ) → History
@@ -62,3 +65,30 @@ abbrev pub ChangesAreTold : Type 0
 ChangesAreTold =
     (lines : List (List ℕ)) (k : Kind) (a b : ℕ) → a ≤ b
     → AllByRecursion (IsTold k) (changes (history_of lines) (whole k) a b) × AllByRecursion IsShort (changes (history_of lines) (whole k) a b)
+
+-- ---- lists
+
+-- the objects of a list of a kind
+abbrev pub objects_in : Kind → Members → List Object
+objects_in k ms = map (λ m. record { kind = k; value = m.1 }) ms
+
+-- a text that says the list of a kind at a revision
+pub record IsListText (h : History) (k : Kind) (r : ℕ) (body : List ℕ) : Type 0 where
+  pub reached : r ≤ present h
+  pub utf8 : is_utf8 body ≡ true
+  pub says : read body ≡ Some (list_body k r (list h (whole k) r))
+
+-- the list of a kind as a reader has it
+abbrev pub listed_at : History → Kind → ℕ → Listed
+listed_at h k r = record { revision = r; objects = objects_in k (list h (whole k) r) }
+
+-- whatever lines are read, a text that says the list of a kind at a revision is read as that revision and the objects of that
+-- list as they stand, and who puts them in place of what it held holds that list
+abbrev pub ListsAreRead : Type 0
+ListsAreRead =
+    (lines : List (List ℕ)) (k : Kind) (r : ℕ) (body : List ℕ) → IsListText (history_of lines) k r body
+    → (list_of k body ≡ Some (listed_at (history_of lines) k r)) × (put_all [] (objects_in k (list (history_of lines) (whole k) r)) ≡ list (history_of lines) (whole k) r)
+
+-- whatever lines are read, the list of a kind nests no deeper than what is read of a text
+abbrev pub ListsNest : Type 0
+ListsNest = (lines : List (List ℕ)) (k : Kind) (r : ℕ) → depth (list_body k r (list (history_of lines) (whole k) r)) ≤ max_depth

@@ -10,6 +10,7 @@ pub mod frames;
 pub mod kinds;
 pub mod laws;
 pub mod methods;
+pub mod reflector_examples;
 pub mod reflectors;
 pub mod refusals;
 pub mod schemas;
