@@ -1,5 +1,5 @@
 -- What a server sends can be read and taken in.
-use Rattle.std.proofs.Common.{◌≡◌, ◌≤◌, ◌<◌, ◌+◌, ℕ, List, [], ◌∷◌, ◌++◌, length, flat_map, codes, false, sym, ap, subst, arith, length-append}
+use Rattle.std.proofs.Common.{◌≡◌, ◌≤◌, ◌<◌, ◌+◌, ℕ, List, [], ◌∷◌, ◌++◌, length, flat_map, codes, Some, false, refl, sym, ap, ◌∙◌, subst, arith, length-append}
 use Rattle.std.specs.List.{AllByRecursion}
 use Rattle.serde_json.specs.Data.{Data}
 use Rattle.serde_json.specs.Written.{compact_text}
@@ -9,15 +9,16 @@ use Rattle.definitions.specs.declared.frames.FrameKind.TheVariants.{Added, Modif
 use Rattle.definitions.specs.Changes.{Change, changes}
 use Rattle.definitions.specs.Frames.{kind_text, frame_kind}
 use Rattle.definitions.specs.History.{History, list, present}
-use Rattle.definitions.specs.Reflectors.{Reflector, all_fed, play_deltas}
-use Rattle.definitions.specs.SentLaws.{whole, IsShort, history_of}
+use Rattle.definitions.specs.Reflectors.{Reflector, with_list, all_fed, play_deltas}
+use Rattle.definitions.specs.SentLaws.{whole, IsShort, history_of, listed_at}
 use Rattle.definitions.specs.Streams.{Line, change, bookmark, initial, initial_end, Goes, change_event, text_of}
 use Rattle.definitions.proofs.Limits.{limits}
 use Rattle.definitions.proofs.SentChanges.{changes_told}
+use Rattle.definitions.proofs.SentLists.{lists_read}
 use Rattle.framing.specs.Texts.{framed_text, IsWithin}
 use Rattle.framing.proofs.Bookmarks.{IsWithin-bookmark}
 use Rattle.framing.proofs.FrameTexts.{frame_bytes}
-use Rattle.reflector.specs.Laws.{IsReadBack, IsReadWithin, IsSent, IsServed, IsAt, GoesOn}
+use Rattle.reflector.specs.Laws.{IsReadBack, IsReadWithin, IsSent, IsServed, IsAt, GoesOn, ListsAndWatchesAreFollowed}
 use Rattle.reflector.proofs.Streamed.{cut_streams, whole_streams}
 
 -- a frame is little longer than its object
@@ -75,3 +76,11 @@ pub whole_served : (requests : List (List ℕ)) (a b : ℕ) (ls : List Line) (s 
     → GoesOn (history_of requests) s.kind a b (all_fed s pieces)
     × (play_deltas (list (history_of requests) (whole s.kind) a) (all_fed s pieces).deltas ≡ list (history_of requests) (whole s.kind) b)
 whole_served requests a b ls s pieces at served e = whole_streams (history_of requests) a b ls s at pieces (sent requests s.kind a b ls served) e
+
+pub list_served : ListsAndWatchesAreFollowed
+list_served requests a b ls s ms body pieces more text served e =
+    let h = history_of requests in
+    let read = lists_read requests s.kind a body text in
+    let l = listed_at h s.kind a in
+    let on = cut_served requests a b ls (with_list (Some l) s) pieces more (record { watches = refl; revision = refl; holds = refl }) served e in
+    (l, read.0, on, ap (λ z. play_deltas z (all_fed (with_list (Some l) s) pieces).deltas) read.1 ∙ on.plays)

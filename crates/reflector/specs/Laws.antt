@@ -1,15 +1,15 @@
 -- Laws of reflectors.
-use Rattle.std.specs.Prelude.{◌≡◌, ◌≤◌, ℕ, List, [], ◌++◌, flat_map, Some, None}
+use Rattle.std.specs.Prelude.{◌≡◌, ◌≤◌, ℕ, List, [], ◌∷◌, ◌++◌, flat_map, Some, None}
 use Rattle.std.specs.List.{AllByRecursion}
 use Rattle.definitions.specs.declared.kinds.Kind.{Kind}
 use Rattle.definitions.specs.declared.reflectors.Phase.TheVariants.{Watching}
-use Rattle.definitions.specs.History.{History, list, present}
+use Rattle.definitions.specs.History.{History, Members, list, present}
 use Rattle.definitions.specs.Changes.{changes}
 use Rattle.definitions.specs.Frames.{frame_text}
 use Rattle.definitions.specs.Streams.{Line, IsStream, event_of, text_of}
 use Rattle.definitions.specs.Verbs.{greatest_revision}
-use Rattle.definitions.specs.Reflectors.{Reflector, Fed, play_deltas, fed, all_fed}
-use Rattle.definitions.specs.SentLaws.{whole, IsTold, history_of}
+use Rattle.definitions.specs.Reflectors.{Reflector, Fed, Listed, list_of, list_delta, with_list, play_deltas, fed, all_fed}
+use Rattle.definitions.specs.SentLaws.{whole, IsTold, IsListText, history_of}
 use Rattle.framing.specs.Texts.{ReadsAs, IsWithin}
 
 -- however the bytes of a watch are cut into pieces, what comes of them, and the reflector in the end, are the same
@@ -80,3 +80,12 @@ ServedStreamsAreFollowed =
     (requests : List (List ℕ)) (a b : ℕ) (ls : List Line) (s : Reflector) (pieces : List (List ℕ)) → IsAt s a → IsServed requests s.kind a b ls → flat_map (λ p. p) pieces ≡ text_of s.kind ls
     → GoesOn (history_of requests) s.kind a b (all_fed s pieces)
     × (play_deltas (list (history_of requests) (whole s.kind) a) (all_fed s pieces).deltas ≡ list (history_of requests) (whole s.kind) b)
+
+-- whatever requests a server answered: who takes in its list at a, and then whatever part of a watch from a has come, in
+-- whatever pieces, holds the list at the revision named, whatever it held before
+abbrev pub ListsAndWatchesAreFollowed : Type 0
+ListsAndWatchesAreFollowed =
+    (requests : List (List ℕ)) (a b : ℕ) (ls : List Line) (s : Reflector) (ms : Members) (body : List ℕ) (pieces : List (List ℕ)) (more : List ℕ)
+    → IsListText (history_of requests) s.kind a body → IsServed requests s.kind a b ls → flat_map (λ p. p) pieces ++ more ≡ text_of s.kind ls
+    → (l : Listed) × (list_of s.kind body ≡ Some l) × GoesOn (history_of requests) s.kind a b (all_fed (with_list (Some l) s) pieces)
+    × (let f = all_fed (with_list (Some l) s) pieces in play_deltas ms (list_delta l ∷ f.deltas) ≡ list (history_of requests) (whole s.kind) f.after.revision)

@@ -1,5 +1,5 @@
 //! Laws of reflectors.
-ghost use Rattle.reflector.specs.Laws.{NoCuttingMatters, CutStreamsAreFollowed, StreamsAreFollowed, CutServedStreamsAreFollowed, ServedStreamsAreFollowed};
+ghost use Rattle.reflector.specs.Laws.{NoCuttingMatters, CutStreamsAreFollowed, StreamsAreFollowed, CutServedStreamsAreFollowed, ServedStreamsAreFollowed, ListsAndWatchesAreFollowed};
 
 /// However the bytes of a watch are cut into pieces, the deltas, the end and the reflector afterwards are the same.
 pub fn no_cutting_matters()
@@ -29,4 +29,10 @@ pub fn cut_served_streams_are_followed()
 /// ends.
 pub fn served_streams_are_followed()
     ensures { ServedStreamsAreFollowed }
+{}
+
+/// Whatever requests a server answered: who takes in its list, and then any part of its watch from there, in any pieces,
+/// holds the list at the revision that the reflector names, whatever it held before.
+pub fn lists_and_watches_are_followed()
+    ensures { ListsAndWatchesAreFollowed }
 {}
