@@ -12,8 +12,9 @@ use Rattle.definitions.specs.History.{History, Write, View, Members, writes, pre
 use Rattle.definitions.specs.Objects.{Object}
 use Rattle.definitions.specs.Metadata.{name, namespace, uid, version}
 use Rattle.definitions.specs.Reading.{reading}
-use Rattle.definitions.specs.Changes.{Change, changes}
-use Rattle.definitions.specs.Lines.{start, after_lines}
+use Rattle.definitions.specs.Changes.{Change, changes, changes_since}
+use Rattle.definitions.specs.Lines.{start, after_lines, frames_text}
+use Rattle.definitions.specs.Streams.{change, IsStream, text_of}
 use Rattle.definitions.specs.Verbs.{list_body}
 use Rattle.definitions.specs.Reflectors.{Listed, shown, name_in, list_of, put_all}
 
@@ -65,6 +66,12 @@ abbrev pub ChangesAreTold : Type 0
 ChangesAreTold =
     (lines : List (List ℕ)) (k : Kind) (a b : ℕ) → a ≤ b
     → AllByRecursion (IsTold k) (changes (history_of lines) (whole k) a b) × AllByRecursion IsShort (changes (history_of lines) (whole k) a b)
+
+-- what is shown of the changes after a revision is the text of a stream from there to the present revision
+abbrev pub WatchesAreStreams : Type 0
+WatchesAreStreams =
+    (h : History) (v : View) (a : ℕ) (cs : List Change) → changes_since h v a ≡ Ok cs
+    → (a ≤ present h) × IsStream h v a (present h) (map change cs) × (frames_text cs ≡ text_of v.kind (map change cs))
 
 -- ---- lists
 

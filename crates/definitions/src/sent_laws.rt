@@ -1,5 +1,5 @@
 //! Laws of what is stored and sent, for who takes it in.
-ghost use Rattle.definitions.specs.SentLaws.{RunsKeepObjects, ChangesAreTold, ListsAreRead, ListsNest};
+ghost use Rattle.definitions.specs.SentLaws.{RunsKeepObjects, ChangesAreTold, ListsAreRead, ListsNest, WatchesAreStreams};
 
 /// Whatever is asked, each object that is ever stored reads as itself, and says its name, its namespace, a uid and the
 /// revision of its write: no client is sent an object that it can't take in.
@@ -22,4 +22,9 @@ pub fn lists_are_read()
 /// Whatever was asked before, the body of a list of a kind nests no deeper than what is read of a text.
 pub fn lists_nest()
     ensures { ListsNest }
+{}
+
+/// What a watch is shown of the changes after a revision is a stream from there to the present revision.
+pub fn watches_are_streams()
+    ensures { WatchesAreStreams }
 {}
