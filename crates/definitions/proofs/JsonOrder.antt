@@ -1,9 +1,8 @@
 -- Members in the order of their names, each once.
-use Rattle.std.proofs.Common.{◌≡◌, ℕ, List, Bool, true, false, cond, codes, nat_cmp, is_eq, is_some, IfSome, Option, Some, None, option_map, option_and_then, Ordering, Less, Equal, Greater, refl, sym, ap, ◌∙◌, subst}
+use Rattle.std.proofs.Common.{◌≡◌, ℕ, List, Bool, true, false, cond, codes, nat_cmp, is_eq, is_some, IfSome, Option, Some, None, option_map, option_and_then, Ordering, Less, Equal, Greater, refl, sym, ap, ◌∙◌}
 use Rattle.std.proofs.lemmas.Cmp.{nat_list_cmp_total}
 use Rattle.std.specs.Ordering.{match_ordering, ordering_reverse}
 use Rattle.std.specs.Cmp.Lexicographic.{slice_cmp}
-use Rattle.json.specs.Token.{Token}
 use Rattle.json.specs.Lex.{tokens}
 use Rattle.json.specs.Json as json
 use Rattle.serde_json.specs.Data.{Num, Data, number, string, array, object, Items, Members, no_members, member, put}

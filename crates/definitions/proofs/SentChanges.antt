@@ -1,5 +1,5 @@
 -- What the changes of a watch show, after any lines.
-use Rattle.std.proofs.Common.{◌≡◌, ◌≤◌, ◌<◌, ◌+◌, ◌-◌, ◌==◌, ◌&&◌, ℕ, List, [], ◌∷◌, ◌++◌, length, take, drop, Bool, true, false, cond, not, nat_le, nat_lt, map, codes, decimal, is_some, bytes_eq, option_and_then, IsSome, IfSome, unwrap_or, Option, Some, None, Result, Ok, Err, refl, sym, ap, ◌∙◌, subst, arith, length-append}
+use Rattle.std.proofs.Common.{◌≡◌, ◌≤◌, ◌+◌, ◌-◌, ◌==◌, ◌&&◌, ℕ, List, [], ◌∷◌, ◌++◌, length, drop, Bool, true, false, cond, not, nat_le, nat_lt, map, codes, decimal, is_some, bytes_eq, option_and_then, IsSome, IfSome, unwrap_or, Option, Some, None, Ok, Err, refl, sym, ap, ◌∙◌, subst, arith, length-append}
 use Rattle.std.proofs.lemmas.Bool.{leb-true}
 use Rattle.std.proofs.lemmas.List.{length-take}
 use Rattle.std.specs.List.{AllByRecursion}
@@ -8,9 +8,8 @@ use Rattle.serde_json.specs.Find.{as_object}
 use Rattle.serde_json.specs.Written.{compact_text, has_float}
 use Rattle.definitions.specs.declared.kinds.Kind.{Kind}
 use Rattle.definitions.specs.declared.kinds.Kind.TheVariants.{ConfigMap, Pod, ReplicaSet, Deployment}
-use Rattle.definitions.specs.declared.refusals.Part.{Part}
 use Rattle.definitions.specs.Kinds.{rank}
-use Rattle.definitions.specs.Changes.{Change, change_of, write_change, changes_after, changes, gone_at}
+use Rattle.definitions.specs.Changes.{Change, change_of, changes_after, changes, gone_at}
 use Rattle.definitions.specs.History.{History, Write, View, writes, present, up_to, last_of, in_view, seen}
 use Rattle.definitions.specs.Metadata.{metadata_of, metadata_text, name, namespace, uid}
 use Rattle.definitions.specs.Names.{Name}
@@ -18,9 +17,8 @@ use Rattle.definitions.specs.Refusals.{too_new}
 use Rattle.definitions.specs.Frames.{frame_text}
 use Rattle.definitions.specs.Lines.{frames_text}
 use Rattle.definitions.specs.Streams.{change, change_event, Goes, text_of}
-use Rattle.definitions.specs.Objects.{Object}
 use Rattle.definitions.specs.Reading.{reading, is_body, fits, tidied, filled, whole_of}
-use Rattle.definitions.specs.Reflectors.{Shown, shown, shown_read, has_identity, revision, name_in}
+use Rattle.definitions.specs.Reflectors.{shown, shown_read, has_identity, revision, name_in}
 use Rattle.definitions.specs.Revisions.{revision_of}
 use Rattle.definitions.specs.SentLaws.{IsKept, IsTold, IsShort, ChangesAreTold, WatchesAreStreams, whole, history_of}
 use Rattle.definitions.proofs.JsonMembers.{text_in-put_other, metadata_text-with}

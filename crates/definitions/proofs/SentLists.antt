@@ -1,5 +1,5 @@
 -- The body of a list, as it is read.
-use Rattle.std.proofs.Common.{◌≡◌, ◌≤◌, ◌<◌, ◌+◌, ◌==◌, ◌&&◌, ◌||◌, ℕ, List, [], ◌∷◌, ◌++◌, map, filter, length, Bool, true, false, cond, not, nat_le, max, codes, decimal, bytes_eq, is_some, is_eq, nat_cmp, IfSome, Option, Some, None, option_map, option_and_then, Result, Ok, Err, Ordering, Less, Equal, Greater, refl, sym, ap, ◌∙◌, subst, arith, append_assoc, append-nil}
+use Rattle.std.proofs.Common.{◌≡◌, ◌≤◌, ◌+◌, ◌||◌, ℕ, List, [], ◌∷◌, ◌++◌, map, Bool, true, false, cond, nat_le, codes, bytes_eq, is_some, is_eq, IfSome, Option, Some, None, option_map, option_and_then, Ok, Ordering, Less, Equal, Greater, refl, sym, ap, ◌∙◌, subst, arith, append_assoc, append-nil}
 use Rattle.std.proofs.lemmas.Bool.{le-leb}
 use Rattle.std.proofs.lemmas.Slice.Eq.{bytes_eq-Decides}
 use Rattle.std.specs.BTreeMap.{insert_entry, is_at}
@@ -17,21 +17,20 @@ use Rattle.definitions.specs.declared.kinds.Kind.TheVariants.{ConfigMap, Pod, Re
 use Rattle.definitions.specs.declared.schemas.Member.{Member}
 use Rattle.definitions.specs.declared.schemas.Shape.TheVariants.{NameOf, VersionOf, Object as ObjectOf}
 use Rattle.definitions.specs.declared.schemas.Schema.TheVariants.{Root}
-use Rattle.definitions.specs.Kinds.{rank, api_version, kind_text}
-use Rattle.definitions.specs.History.{History, Write, Members, writes, present, up_to, after_all, put_or_remove, in_view, viewed, list}
+use Rattle.definitions.specs.Kinds.{api_version, kind_text}
+use Rattle.definitions.specs.History.{Write, Members, present, up_to, after_all, put_or_remove, in_view, viewed, list}
 use Rattle.definitions.specs.Names.{Name, name_cmp, is_named}
 use Rattle.definitions.specs.Objects.{Object}
 use Rattle.definitions.specs.Reading.{reading, is_body, is_absent, fits, tidied, filled, empty}
 use Rattle.definitions.specs.Schemas.{kept, member_at}
 use Rattle.definitions.specs.Values.{members_of, without, is_null}
 use Rattle.definitions.specs.Verbs.{as_item, list_body}
-use Rattle.definitions.specs.Reflectors.{Shown, Listed, shown, shown_read, name_in, all_shown, apart, items_shown, repeats, is_list, revision, list_in, list_of, put_in, put_all}
-use Rattle.definitions.specs.Revisions.{revision_of}
+use Rattle.definitions.specs.Reflectors.{Shown, shown, shown_read, name_in, all_shown, apart, items_shown, repeats, is_list, revision, list_in, list_of, put_all}
 use Rattle.definitions.specs.SentLaws.{whole, history_of, objects_in, ListsAreRead, ListsNest}
 use Rattle.definitions.proofs.JsonMembers.{get_member-without_other}
 use Rattle.definitions.proofs.JsonOrder.{IsOrdered, IsOrdered-without, put_back, gone}
 use Rattle.definitions.proofs.Limits.{limits}
-use Rattle.definitions.proofs.NeatMembers.{One, Neat, Neat-get, Neat-without, Neat-depth, Neat-whole, Neat-fits, Neat-tidy, opens}
+use Rattle.definitions.proofs.NeatMembers.{Neat, Neat-get, Neat-without, Neat-depth, Neat-whole, Neat-fits, Neat-tidy, opens}
 use Rattle.definitions.proofs.PutLaws.{name_cmp_total, same_name, IsAbove, IsAscending}
 use Rattle.definitions.proofs.ReadAgain.{Has, HasSpec, Filled, Filled-filled, defaulted, spec_members, filled_members, filled-object, closed, tidied_members-MembersTidy}
 use Rattle.definitions.proofs.RevisionTexts.{revision_is}

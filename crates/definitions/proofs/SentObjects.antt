@@ -1,5 +1,5 @@
 -- Objects as they are stored, by the verb that stores them.
-use Rattle.std.proofs.Common.{◌≡◌, ◌≤◌, ◌<◌, ◌+◌, ◌^◌, ◌==◌, ◌||◌, ◌&&◌, ℕ, zero, suc, List, [], ◌∷◌, ◌++◌, length, Bool, true, false, cond, not, nat_lt, nat_le, codes, decimal, bytes_eq, is_some, unwrap_or, IfSome, Option, Some, None, Result, Ok, Err, refl, sym, ap, ◌∙◌, subst, arith, length-append}
+use Rattle.std.proofs.Common.{◌≡◌, ◌≤◌, ◌<◌, ◌+◌, ◌||◌, ◌&&◌, ℕ, List, [], length, Bool, true, false, not, nat_le, codes, decimal, bytes_eq, is_some, unwrap_or, IfSome, Option, Some, None, Result, Ok, Err, refl, sym, ap, ◌∙◌, subst, arith}
 use Rattle.std.proofs.lemmas.Bool.{ne_eqb}
 use Rattle.std.proofs.lemmas.Fmt.{decimal_nonempty}
 use Rattle.std.proofs.lemmas.Slice.Eq.{bytes_eq-Decides}
@@ -18,16 +18,16 @@ use Rattle.definitions.specs.History.{History, members, found, present}
 use Rattle.definitions.specs.Laws.{OfStored}
 use Rattle.definitions.specs.Metadata.{metadata_of, with_metadata, metadata_text, name, namespace, uid, version}
 use Rattle.definitions.specs.Reading.{reading}
-use Rattle.definitions.specs.Refusals.{bad_request, not_found, already_exists, conflict, invalid, too_large, storage_full}
+use Rattle.definitions.specs.Refusals.{bad_request, already_exists, conflict, invalid, too_large, storage_full}
 use Rattle.definitions.specs.SentLaws.{IsKept}
 use Rattle.definitions.specs.Uids.{uid_text, cluster_word}
 use Rattle.definitions.specs.Values.{members_of, without}
-use Rattle.definitions.specs.Verbs.{Request, get_object, list_objects, create_object, update_object, update_status, patch_object, delete_object, Outcome, accept, stored, shown, refuse_if, create_read, create_as, created, new_name, new_metadata, update_read, updated, replace, names_path, at_revision, keeping, kept, as_held, is_other, differs, is_too_large, is_past_greatest, most_objects}
+use Rattle.definitions.specs.Verbs.{Request, get_object, list_objects, create_object, update_object, update_status, patch_object, delete_object, Outcome, accept, stored, shown, create_read, create_as, created, new_name, new_metadata, update_read, updated, replace, names_path, at_revision, keeping, kept, as_held, is_other, differs, is_too_large, is_past_greatest, most_objects}
 use Rattle.definitions.proofs.Cases.{guard, there}
 use Rattle.definitions.proofs.JsonMembers.{text_in, text_in-put, text_in-put_other, text_in-without_other, metadata_text-with, metadata_of-with}
 use Rattle.definitions.proofs.JsonOrder.{IsOrdered, IsOrdered-put, IsOrdered-tidied, IsOrdered-filled}
-use Rattle.definitions.proofs.NeatMembers.{Neat, Neat-put, Neat-without, Neat-keeping, Neat-metadata, IsFilled, OneOf, one_text, Opened, opens, reads_with}
-use Rattle.definitions.proofs.ReadAgain.{Filled, Filled-filled, filled_members}
+use Rattle.definitions.proofs.NeatMembers.{Neat, Neat-put, Neat-without, Neat-keeping, Neat-metadata, IsFilled, one_text, Opened, opens, reads_with}
+use Rattle.definitions.proofs.ReadAgain.{Filled-filled, filled_members}
 use Rattle.definitions.proofs.TextLengths.{put_twice}
 use Rattle.definitions.proofs.VerbLaws.{at_most, uid-created, version-at_revision, uid-updated, text-updated, text-as_held_other, held_text, moved}
 

@@ -1,5 +1,5 @@
 -- How long the text of an object is, by its revision.
-use Rattle.std.proofs.Common.{◌≡◌, ◌≤◌, ◌<◌, ◌+◌, ◌*◌, ◌/◌, ◌%◌, ◌^◌, nat_lt, ℕ, List, [], ◌∷◌, ◌++◌, length, Bool, true, false, cond, codes, decimal, nat_cmp, is_eq, Ordering, Less, Equal, Greater, refl, sym, ap, ◌∙◌, arith, length-append}
+use Rattle.std.proofs.Common.{◌≡◌, ◌≤◌, ◌+◌, ◌*◌, ◌/◌, ◌%◌, nat_lt, ℕ, List, [], ◌∷◌, ◌++◌, length, Bool, true, false, cond, codes, decimal, nat_cmp, Ordering, Less, Equal, Greater, refl, ap, arith, length-append}
 use Rattle.std.proofs.lemmas.Cmp.{nat_list_cmp_total, tied_itself}
 use Rattle.std.specs.Ordering.{match_ordering}
 use Rattle.std.specs.Cmp.Lexicographic.{slice_cmp}

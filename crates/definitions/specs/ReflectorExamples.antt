@@ -1,11 +1,10 @@
 -- Worked facts of reflectors, computed from the definitions: what exact bytes do.
-use Rattle.std.specs.Prelude.{◌≡◌, ℕ, List, [], ◌∷◌, ◌++◌, Option, Some, None, codes}
-use Rattle.serde_json.specs.Data.{Data, string, object, no_members, member}
+use Rattle.std.specs.Prelude.{◌≡◌, ℕ, List, [], ◌∷◌, ◌++◌, Some, None, codes}
+use Rattle.serde_json.specs.Data.{string, object, no_members, member}
 use Rattle.definitions.specs.declared.kinds.Kind.TheVariants.{ConfigMap, Pod}
 use Rattle.definitions.specs.declared.reflectors.End.{End}
 use Rattle.definitions.specs.declared.reflectors.End.TheVariants.{Expired, Unreadable}
 use Rattle.definitions.specs.declared.reflectors.Phase.TheVariants.{Listing, Watching}
-use Rattle.definitions.specs.Names.{Name}
 use Rattle.definitions.specs.Objects.{Object}
 use Rattle.definitions.specs.Reflectors.{Reflector, Fed, list_of, put, remove, mark, fed}
 
@@ -15,17 +14,17 @@ a_map value version =
     record {
       kind = ConfigMap;
       value =
-      object
-      (member (codes "apiVersion") (string (codes "v1"))
-      (member (codes "data") (object (member (codes "k") (string value) no_members))
-      (member (codes "kind") (string (codes "ConfigMap"))
-      (member (codes "metadata")
-      (object
-      (member (codes "creationTimestamp") (string (codes "2026-01-01T00:00:00Z"))
-      (member (codes "name") (string (codes "a"))
-      (member (codes "namespace") (string (codes "default"))
-      (member (codes "resourceVersion") (string version) (member (codes "uid") (string (codes "00000000-0000-8000-8000-000000000002")) no_members))))))
-      no_members))));
+          object
+          (member (codes "apiVersion") (string (codes "v1"))
+          (member (codes "data") (object (member (codes "k") (string value) no_members))
+          (member (codes "kind") (string (codes "ConfigMap"))
+          (member (codes "metadata")
+          (object
+          (member (codes "creationTimestamp") (string (codes "2026-01-01T00:00:00Z"))
+          (member (codes "name") (string (codes "a"))
+          (member (codes "namespace") (string (codes "default"))
+          (member (codes "resourceVersion") (string version) (member (codes "uid") (string (codes "00000000-0000-8000-8000-000000000002")) no_members))))))
+          no_members))));
     }
 
 -- an item of a list, which says no kind
