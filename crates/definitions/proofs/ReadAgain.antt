@@ -81,7 +81,7 @@ mutual
   tidied_items-ItemsTidy s no_items h = refl
   tidied_items-ItemsTidy s (item d ds) h = rw (tidied-IsTidy s d h.0, tidied_items-ItemsTidy s ds h.1) refl
 
-  tidied_members-MembersTidy : (p : Schema) (ms : Members) → MembersTidy p ms → tidied_members p ms ≡ ms
+  pub tidied_members-MembersTidy : (p : Schema) (ms : Members) → MembersTidy p ms → tidied_members p ms ≡ ms
   tidied_members-MembersTidy p no_members h = refl
   tidied_members-MembersTidy p (member k d ms) h =
       kept_there (member_at p k) k d (tidied (member_at p k).shape d) ms (tidied_members p ms) (tidied-IsTidy (member_at p k).shape d h.1) (tidied_members-MembersTidy p ms h.2) h.0
@@ -377,7 +377,7 @@ opened true true x e h = (refl, refl, cc)
 opened true false x e h = cc
 opened false f x e h = cc
 
-closed : (b f : Bool) (x e : Data) → b ≡ true → f ≡ true → x ≡ e → (let r : Result Data Part = cond (not b) (Err part.Body) (cond f (Ok x) (Err part.Object)) in r ≡ Ok e)
+pub closed : (b f : Bool) (x e : Data) → b ≡ true → f ≡ true → x ≡ e → (let r : Result Data Part = cond (not b) (Err part.Body) (cond f (Ok x) (Err part.Object)) in r ≡ Ok e)
 closed b f x e p q r = rw (p, q, r) refl
 
 pub settled : (k : Kind) (ms : Members) → Good (Root k) ms → Filled k ms → has_float (object ms) ≡ false → reading k (object ms) ≡ Ok (object ms)

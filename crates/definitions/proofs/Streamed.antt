@@ -32,7 +32,7 @@ in_middle : (j : Name) (es : Members) (e : Name × Data) (more : Members) → Is
 in_middle j [] e more h = h.0
 in_middle j (f ∷ es) e more h = in_middle j es e more h.1
 
-put_last : (es : Members) (e : Name × Data) (more : Members) → IsAscending name_cmp (es ++ e ∷ more) → insert_entry name_cmp es e.0 e.1 ≡ es ++ e ∷ []
+pub put_last : (es : Members) (e : Name × Data) (more : Members) → IsAscending name_cmp (es ++ e ∷ more) → insert_entry name_cmp es e.0 e.1 ≡ es ++ e ∷ []
 put_last [] e more a = refl
 put_last (f ∷ es) e more a =
     let above : name_cmp e.0 f.0 ≡ Greater = name_cmp_total.antisymm e.0 f.0 ∙ ap ordering_reverse (in_middle f.0 es e more a.0) in
@@ -44,7 +44,7 @@ all_put (e ∷ ms) es ls a =
     ap (λ z. play_lines z (map (λ m. initial m.0 m.1) ms ++ ls)) (put_last es e ms a) ∙ all_put ms (es ++ e ∷ []) ls (subst (IsAscending name_cmp) (sym (append_assoc es (e ∷ []) ms)) a)
     ∙ ap (λ z. play_lines z ls) (append_assoc es (e ∷ []) ms)
 
-list_ascending : (h : History) (v : View) (a : ℕ) → IsAscending name_cmp (list h v a)
+pub list_ascending : (h : History) (v : View) (a : ℕ) → IsAscending name_cmp (list h v a)
 list_ascending h v a = IsAscending-filter name_cmp (λ m. in_view v m.0 m.1) (after_all [] (up_to a h)) (IsAscending-after_all [] (up_to a h) tt)
 
 pub initial_stream_played : (h : History) (v : View) (a b : ℕ) (ls : List Line) → a ≤ b → IsInitialStream h v a b ls → play_lines [] ls ≡ list h v b

@@ -20,7 +20,7 @@ use Rattle.definitions.proofs.JsonMembers.{text_in, text_in-put, text_in-put_oth
 use Rattle.definitions.proofs.Past.{set, writes-append}
 use Rattle.definitions.proofs.PutLaws.{found-after_all, name_cmp_total}
 
-version-at_revision : (r : ℕ) (meta : Members) (d : Data) → version (at_revision r meta d) ≡ Some (decimal r)
+pub version-at_revision : (r : ℕ) (meta : Members) (d : Data) → version (at_revision r meta d) ≡ Some (decimal r)
 version-at_revision r meta d =
     metadata_text-with (codes "resourceVersion") (put (codes "resourceVersion") (string (decimal r)) meta) d ∙ text_in-put (codes "resourceVersion") (decimal r) meta
 
@@ -37,7 +37,7 @@ versions (update_status k d) h moment = tt
 versions (patch_object k d) h moment = tt
 versions (delete_object k d) h moment = tt
 
-uid-created : (r : ℕ) (ns moment : List ℕ) (o : Data) → uid (created r ns moment o) ≡ Some (uid_text cluster_word r)
+pub uid-created : (r : ℕ) (ns moment : List ℕ) (o : Data) → uid (created r ns moment o) ≡ Some (uid_text cluster_word r)
 uid-created r ns moment o =
     metadata_text-with (codes "uid") (put (codes "resourceVersion") (string (decimal r)) (new_metadata r ns moment (metadata_of o))) o
     ∙ text_in-put_other (codes "uid") (codes "resourceVersion") (string (decimal r)) (new_metadata r ns moment (metadata_of o)) refl
@@ -115,12 +115,12 @@ writes_fit (update_status k d) h moment = tt
 writes_fit (patch_object k d) h moment = tt
 writes_fit (delete_object k d) h moment = tt
 
-text-as_held_other : (q k : List ℕ) (o : Option Data) (ms : Members) → bytes_eq q k ≡ false → text_in q (as_held k o ms) ≡ text_in q ms
+pub text-as_held_other : (q k : List ℕ) (o : Option Data) (ms : Members) → bytes_eq q k ≡ false → text_in q (as_held k o ms) ≡ text_in q ms
 text-as_held_other q k None ms other = text_in-without_other q k ms other
 text-as_held_other q k (Some d) ms other = text_in-put_other q k d ms other
 
 -- what is held at a member is there after, if it is a text
-held_text : (k : List ℕ) (o : Option Data) (ms : Members) → IfSome (option_and_then as_str o) (λ t. text_in k (as_held k o ms) ≡ Some t)
+pub held_text : (k : List ℕ) (o : Option Data) (ms : Members) → IfSome (option_and_then as_str o) (λ t. text_in k (as_held k o ms) ≡ Some t)
 held_text k None ms = tt
 held_text k (Some null) ms = tt
 held_text k (Some (boolean b)) ms = tt
@@ -129,12 +129,12 @@ held_text k (Some (string s)) ms = text_in-put k s ms
 held_text k (Some (array ds)) ms = tt
 held_text k (Some (object os)) ms = tt
 
-moved : (o a b : Option (List ℕ)) → a ≡ b → IfSome o (λ t. b ≡ Some t) → IfSome o (λ t. a ≡ Some t)
+pub moved : (o a b : Option (List ℕ)) → a ≡ b → IfSome o (λ t. b ≡ Some t) → IfSome o (λ t. a ≡ Some t)
 moved None a b is h = tt
 moved (Some t) a b is h = is ∙ h
 
 module _ (r : ℕ) (held o : Data) where
-  text-updated : (q : List ℕ) → bytes_eq q (codes "resourceVersion") ≡ false
+  pub text-updated : (q : List ℕ) → bytes_eq q (codes "resourceVersion") ≡ false
       → metadata_text q (updated r held o) ≡ text_in q (keeping kept (metadata_of held) (metadata_of o))
   text-updated q other =
       metadata_text-with q (put (codes "resourceVersion") (string (decimal r)) (keeping kept (metadata_of held) (metadata_of o))) o

@@ -19,6 +19,7 @@ pub mod Objects
 pub mod Queries
 pub mod Reading
 pub mod ReflectorCodes
+pub mod ReflectorExamples
 pub mod Reflectors
 pub mod Refusals
 pub mod Revisions
@@ -31,6 +32,7 @@ pub mod SelectorLaws
 pub mod SelectorTexts
 pub mod SelectorValues
 pub mod Selectors
+pub mod SentLaws
 pub mod Streams
 pub mod Targets
 pub mod Uids

@@ -1,8 +1,7 @@
 -- A bookmark is within the limits.
 use Rattle.std.proofs.Common.{◌≡◌, ℕ, ◌+◌, ◌*◌, ◌/◌, ◌%◌, ◌^◌, nat_lt, ◌≤◌, ◌<◌, List, [], ◌∷◌, ◌++◌, length, Bool, true, false, cond, codes, decimal, refl, ap, arith, length-append}
 use Rattle.std.proofs.lemmas.Fmt.{length-decimal-le}
-use Rattle.json.specs.Print.{escape_letter, escape_byte, escape}
-use Rattle.std.specs.Char.{digit_char}
+use Rattle.json.specs.Print.{escape}
 use Rattle.serde_json.specs.Data.{depth}
 use Rattle.serde_json.specs.Read.{max_depth}
 use Rattle.serde_json.specs.Written.{compact_text}
@@ -10,23 +9,10 @@ use Rattle.serde_json.proofs.OnLiterals.{serde_json_on_literals}
 use Rattle.definitions.specs.declared.kinds.Kind.{Kind}
 use Rattle.definitions.specs.declared.kinds.Kind.TheVariants.{ConfigMap, Pod, ReplicaSet, Deployment}
 use Rattle.definitions.specs.Frames.{kind_text, frame_data, bookmark_data, bookmark_event}
+use Rattle.definitions.proofs.TextLengths.{length-escape}
 use Rattle.framing.specs.Texts.{IsWithin, framed_text}
 use Rattle.definitions.specs.declared.frames.FrameKind.TheVariants.{Bookmark}
 use Rattle.framing.proofs.FrameTexts.{frame_bytes}
-
-length-choice : (a b : Bool) (xs ys zs : List ℕ) → length xs ≤ 6 → length ys ≤ 6 → length zs ≤ 6 → length (cond a xs (cond b ys zs)) ≤ 6
-length-choice true b xs ys zs h k l = h
-length-choice false true xs ys zs h k l = k
-length-choice false false xs ys zs h k l = l
-
-length-escape_byte : (x : ℕ) → length (escape_byte x) ≤ 6
-unfolding escape_byte
-length-escape_byte x =
-    length-choice (nat_lt 0 (escape_letter x)) (nat_lt x 32) (92 ∷ escape_letter x ∷ []) (92 ∷ 117 ∷ 48 ∷ 48 ∷ digit_char (x / 16) ∷ digit_char (x % 16) ∷ []) (x ∷ []) (omega arith) (omega arith) (omega arith)
-
-length-escape : (s : List ℕ) → length (escape s) ≤ 6 * length s
-length-escape [] = omega arith
-length-escape (x ∷ s) = omega (arith, length-append (escape_byte x) (escape s), length-escape_byte x, length-escape s)
 
 -- what stands before the revision in a bookmark, and behind it
 front : Kind → Bool → List ℕ

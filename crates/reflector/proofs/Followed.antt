@@ -15,7 +15,7 @@ use Rattle.definitions.specs.Verbs.{greatest_revision}
 use Rattle.definitions.specs.WatchLaws.{AreBetween}
 use Rattle.definitions.proofs.Played.{list_played, goes_on, lie_between}
 use Rattle.definitions.specs.Reflectors.{Shown, Step, Run, run, step, shown, if_above, or_unreadable, put_step, remove_step, name_in, play_delta, play_deltas, going_on, mark_step}
-use Rattle.reflector.specs.Laws.{whole, IsTold}
+use Rattle.definitions.specs.SentLaws.{whole, IsTold}
 use Rattle.reflector.proofs.Marks.{bookmark_step}
 
 -- ---- the first change

@@ -5,4 +5,5 @@ pub mod Held
 pub mod Marks
 pub mod Repeats
 pub mod Runs
+pub mod Served
 pub mod Streamed

@@ -1,33 +1,20 @@
 -- Laws of reflectors.
-use Rattle.std.specs.Prelude.{◌≡◌, ◌≤◌, ℕ, List, [], ◌++◌, flat_map, Some, None}
+use Rattle.std.specs.Prelude.{◌≡◌, ◌≤◌, ℕ, List, [], ◌∷◌, ◌++◌, flat_map, Some, None}
 use Rattle.std.specs.List.{AllByRecursion}
 use Rattle.definitions.specs.declared.kinds.Kind.{Kind}
 use Rattle.definitions.specs.declared.reflectors.Phase.TheVariants.{Watching}
-use Rattle.definitions.specs.History as history
-use Rattle.definitions.specs.History.{History, View, list}
-use Rattle.definitions.specs.Objects.{Object}
-use Rattle.definitions.specs.Changes.{Change, changes}
+use Rattle.definitions.specs.History.{History, Members, list, present}
+use Rattle.definitions.specs.Changes.{changes}
 use Rattle.definitions.specs.Frames.{frame_text}
 use Rattle.definitions.specs.Streams.{Line, IsStream, event_of, text_of}
 use Rattle.definitions.specs.Verbs.{greatest_revision}
-use Rattle.definitions.specs.Reflectors.{Reflector, Fed, shown, name_in, play_deltas, fed, all_fed}
-use Rattle.framing.specs.Texts.{ReadsAs}
+use Rattle.definitions.specs.Reflectors.{Reflector, Fed, Listed, list_of, list_delta, with_list, play_deltas, fed, all_fed}
+use Rattle.definitions.specs.SentLaws.{whole, IsTold, IsListText, history_of}
+use Rattle.framing.specs.Texts.{ReadsAs, IsWithin}
 
 -- however the bytes of a watch are cut into pieces, what comes of them, and the reflector in the end, are the same
 abbrev pub NoCuttingMatters : Type 0
 NoCuttingMatters = (s : Reflector) (pieces : List (List ℕ)) → s.held ≡ [] → all_fed s pieces ≡ fed s (flat_map (λ p. p) pieces)
-
--- all of a kind, in all namespaces
-abbrev pub whole : Kind → View
-whole k = history.whole k None
-
-abbrev pub object_of : Kind → Change → Object
-object_of k c = record { kind = k; value = c.object }
-
--- what a change shows is read as it stands, and says the change's key and revision
-pub record IsTold (k : Kind) (c : Change) : Type 0 where
-  pub shows : shown k c.object ≡ Some (record { object = object_of k c; revision = c.revision })
-  pub names : name_in (object_of k c) ≡ c.key
 
 -- the line is read back as what it shows, whatever follows
 abbrev pub IsReadBack : Kind → Line → Type 0
@@ -66,3 +53,39 @@ abbrev pub StreamsAreFollowed : Type 0
 StreamsAreFollowed =
     (h : History) (a b : ℕ) (ls : List Line) (s : Reflector) (pieces : List (List ℕ)) → IsAt s a → IsSent h s.kind a b ls → flat_map (λ p. p) pieces ≡ text_of s.kind ls
     → GoesOn h s.kind a b (all_fed s pieces) × (play_deltas (list h (whole s.kind) a) (all_fed s pieces).deltas ≡ list h (whole s.kind) b)
+
+-- ---- what a server sends
+
+-- the line is read back, if it is within the limits of a line (as each line is that `framing` writes)
+abbrev pub IsReadWithin : Kind → Line → Type 0
+IsReadWithin k l = IsWithin (event_of k l) → IsReadBack k l
+
+-- lines that go from a to b, of what has happened once these requests were answered, are sent to who watches from a
+pub record IsServed (requests : List (List ℕ)) (k : Kind) (a b : ℕ) (ls : List Line) : Type 0 where
+  pub forward : a ≤ b
+  pub reached : b ≤ present (history_of requests)
+  pub stream : IsStream (history_of requests) (whole k) a b ls
+  pub read : AllByRecursion (IsReadWithin k) ls
+
+-- whatever requests a server answered, whatever part of a watch from a has come, in whatever pieces, the deltas make of the
+-- list at a the list at the revision named
+abbrev pub CutServedStreamsAreFollowed : Type 0
+CutServedStreamsAreFollowed =
+    (requests : List (List ℕ)) (a b : ℕ) (ls : List Line) (s : Reflector) (pieces : List (List ℕ)) (more : List ℕ) → IsAt s a → IsServed requests s.kind a b ls
+    → flat_map (λ p. p) pieces ++ more ≡ text_of s.kind ls → GoesOn (history_of requests) s.kind a b (all_fed s pieces)
+
+-- and when all of it has come, they make of it the list at b
+abbrev pub ServedStreamsAreFollowed : Type 0
+ServedStreamsAreFollowed =
+    (requests : List (List ℕ)) (a b : ℕ) (ls : List Line) (s : Reflector) (pieces : List (List ℕ)) → IsAt s a → IsServed requests s.kind a b ls → flat_map (λ p. p) pieces ≡ text_of s.kind ls
+    → GoesOn (history_of requests) s.kind a b (all_fed s pieces)
+    × (play_deltas (list (history_of requests) (whole s.kind) a) (all_fed s pieces).deltas ≡ list (history_of requests) (whole s.kind) b)
+
+-- whatever requests a server answered: who takes in its list at a, and then whatever part of a watch from a has come, in
+-- whatever pieces, holds the list at the revision named, whatever it held before
+abbrev pub ListsAndWatchesAreFollowed : Type 0
+ListsAndWatchesAreFollowed =
+    (requests : List (List ℕ)) (a b : ℕ) (ls : List Line) (s : Reflector) (ms : Members) (body : List ℕ) (pieces : List (List ℕ)) (more : List ℕ)
+    → IsListText (history_of requests) s.kind a body → IsServed requests s.kind a b ls → flat_map (λ p. p) pieces ++ more ≡ text_of s.kind ls
+    → (l : Listed) × (list_of s.kind body ≡ Some l) × GoesOn (history_of requests) s.kind a b (all_fed (with_list (Some l) s) pieces)
+    × (let f = all_fed (with_list (Some l) s) pieces in play_deltas ms (list_delta l ∷ f.deltas) ≡ list (history_of requests) (whole s.kind) f.after.revision)

@@ -1,5 +1,5 @@
 //! Laws of reflectors.
-ghost use Rattle.reflector.specs.Laws.{NoCuttingMatters, CutStreamsAreFollowed, StreamsAreFollowed};
+ghost use Rattle.reflector.specs.Laws.{NoCuttingMatters, CutStreamsAreFollowed, StreamsAreFollowed, CutServedStreamsAreFollowed, ServedStreamsAreFollowed, ListsAndWatchesAreFollowed};
 
 /// However the bytes of a watch are cut into pieces, the deltas, the end and the reflector afterwards are the same.
 pub fn no_cutting_matters()
@@ -16,4 +16,23 @@ pub fn cut_streams_are_followed()
 /// list where it ends.
 pub fn streams_are_followed()
     ensures { StreamsAreFollowed }
+{}
+
+/// Whatever requests a server answered, and whatever part of its watch has come, in whatever pieces: who holds the list
+/// where the watch begins and plays the deltas holds the list at the revision that the reflector names. Its lines are as
+/// `framing::frame_text` and `framing::bookmark_text` write them.
+pub fn cut_served_streams_are_followed()
+    ensures { CutServedStreamsAreFollowed }
+{}
+
+/// When all of such a watch has come, who holds the list where it begins and plays the deltas holds the list where it
+/// ends.
+pub fn served_streams_are_followed()
+    ensures { ServedStreamsAreFollowed }
+{}
+
+/// Whatever requests a server answered: who takes in its list, and then any part of its watch from there, in any pieces,
+/// holds the list at the revision that the reflector names, whatever it held before.
+pub fn lists_and_watches_are_followed()
+    ensures { ListsAndWatchesAreFollowed }
 {}

@@ -1,0 +1,219 @@
+-- What holds of what is stored, after any lines.
+use Rattle.std.proofs.Common.{◌≡◌, ◌+◌, ◌-◌, ◌==◌, ◌&&◌, ℕ, List, [], ◌∷◌, ◌++◌, length, drop, Bool, true, false, cond, not, nat_lt, codes, bytes_eq, IfSome, Option, Some, None, Result, Ok, Err, refl, sym, subst, arith}
+use Rattle.std.proofs.lemmas.List.{take-append-drop}
+use Rattle.std.specs.Str.{is_utf8}
+use Rattle.serde_json.specs.Data.{Data}
+use Rattle.serde_json.specs.Read.{read}
+use Rattle.definitions.specs.declared.methods.Method.{Method}
+use Rattle.definitions.specs.declared.methods.Method.TheVariants.{Get, Post, Put, Patch, Delete}
+use Rattle.definitions.specs.declared.refusals.Part.TheVariants as part
+use Rattle.definitions.specs.Changes.{Change, changes_since}
+use Rattle.definitions.specs.History.{History, Write, write, writes, last_of, members, found, present, up_to}
+use Rattle.definitions.specs.Lines.{Session, start, Line, ask, at, unreadable, ask_if, cut, target_alone, target_and_body, line_from, line_of, reply_for, watch_reply, history_from, session_after, next, after_lines}
+use Rattle.definitions.specs.Moments.{is_moment}
+use Rattle.definitions.specs.Names.{Name, is_named, is_namespace}
+use Rattle.definitions.specs.Queries.{Query, plain, watching}
+use Rattle.definitions.specs.Refusals.{Refusal, bad_request, method_not_allowed, too_large}
+use Rattle.definitions.specs.Targets.{Asked, request, watch, Route, collection, object_at, status_of, route, path_of, decoded, query_for, names_namespace, is_allowed, data_of, asks_with, with_body, asked_of_view, asked, asked_with, asked_at, read_request}
+use Rattle.definitions.specs.Verbs.{Request, create_object, update_object, update_status, accept, with_write, write_of}
+use Rattle.definitions.specs.History as history
+use Rattle.definitions.specs.SentLaws.{IsKept, AreKept, RunsKeepObjects, history_of}
+use Rattle.definitions.proofs.JsonOrder.{IsOrdered, HasOrder, ordered_read}
+use Rattle.definitions.specs.Values.{members_of}
+use Rattle.definitions.proofs.NeatMembers.{IsFilled}
+use Rattle.definitions.proofs.Past.{writes-append}
+use Rattle.definitions.proofs.PutLaws.{found-after_all, same_name}
+use Rattle.definitions.proofs.SentObjects.{IsStored, IsAsked, IsHeld, filled_long, stores}
+
+-- ---- what is asked
+
+abbrev AsksWell : Result Asked Refusal → Type 0
+AsksWell (Err f) = Unit {0}
+AsksWell (Ok (request q)) = IsAsked q
+AsksWell (Ok (watch v r)) = Unit {0}
+
+well_or : (b : Bool) (f : Refusal) (r : Result Asked Refusal) → (b ≡ false → AsksWell r) → AsksWell (cond b (Err f) r)
+well_or true f r each = tt
+well_or false f r each = each refl
+
+ordered_data : (b : Bool) (text : List ℕ) → HasOrder (cond b (read text) None)
+ordered_data true text = ordered_read text
+ordered_data false text = tt
+
+well_with : (f : Data → Request) (o : Option Data) → ((d : Data) → IsOrdered (members_of d) → IsAsked (f d)) → HasOrder o → AsksWell (asks_with f o)
+well_with f None each h = tt
+well_with f (Some d) each h = each d h
+
+well_body : (f : Data → Request) (text : List ℕ) → ((d : Data) → IsOrdered (members_of d) → IsAsked (f d)) → AsksWell (with_body f text)
+well_body f text each = well_or (nat_lt 1048576 (length text)) too_large (asks_with f (data_of text)) (λ _. well_with f (data_of text) each (ordered_data (is_utf8 text) text))
+
+filled_namespace : (ns : List ℕ) → is_namespace ns ≡ true → IsFilled ns
+filled_namespace [] h = cc
+filled_namespace (b ∷ bs) h = filled_long (b ∷ bs) (omega arith)
+
+well_view : (v : history.View) (q : Query) → AsksWell (Ok (asked_of_view v q))
+well_view v plain = tt
+well_view v (watching r) = tt
+
+well_asked : (method : Method) (r : Route) (q : Query) (text : List ℕ) → names_namespace r ≡ true → AsksWell (asked method r q text)
+well_asked Get (collection k ns) q text h = well_view (record { kind = k; namespace = ns }) q
+well_asked Get (object_at n) q text h = tt
+well_asked Get (status_of n) q text h = tt
+well_asked Post (collection k None) q text h = tt
+well_asked Post (collection k (Some ns)) q text h = well_body (create_object k ns) text (λ d a. (filled_namespace ns h, a))
+well_asked Post (object_at n) q text h = tt
+well_asked Post (status_of n) q text h = tt
+well_asked Put (collection k ns) q text h = tt
+well_asked Put (object_at n) q text h = well_body (update_object n) text (λ d a. a)
+well_asked Put (status_of n) q text h = well_body (update_status n) text (λ d a. a)
+well_asked Patch r q text h = tt
+well_asked Delete r q text h = tt
+
+well_query : (method : Method) (r : Route) (text : List ℕ) (o : Option Query) → names_namespace r ≡ true → AsksWell (asked_with method r text o)
+well_query method r text None h = tt
+well_query method r text (Some q) h = well_asked method r q text h
+
+not_false : (b : Bool) → not b ≡ false → b ≡ true
+not_false true h = refl
+not_false false h = cc
+
+well_at : (method : Method) (target text : List ℕ) (o : Option Route) → AsksWell (asked_at method target text o)
+well_at method target text None = tt
+well_at method target text (Some r) =
+    well_or (not (names_namespace r)) (bad_request part.Path) _
+    (λ names. well_or (not (is_allowed method r)) method_not_allowed (asked_with method r text (query_for method r target))
+    (λ _. well_query method r text (query_for method r target) (not_false (names_namespace r) names)))
+
+well_request : (method : Method) (target text : List ℕ) → AsksWell (read_request method target text)
+well_request method target text = well_at method (decoded target) text (route (path_of (decoded target)))
+
+-- ---- the moments
+
+abbrev IsTimed : Line → Type 0
+IsTimed (ask method target body) = Unit {0}
+IsTimed (at moment) = IsFilled moment
+IsTimed unreadable = Unit {0}
+
+filled_moment : (t : List ℕ) → is_moment t ≡ true → IsFilled t
+filled_moment [] h = cc
+filled_moment (b ∷ bs) h = filled_long (b ∷ bs) (omega arith)
+
+timed_either : (b : Bool) (x y : Line) → IsTimed x → IsTimed y → IsTimed (cond b x y)
+timed_either true x y p q = p
+timed_either false x y p q = q
+
+timed_if : (method : Method) (target body : List ℕ) → IsTimed (ask_if method target body)
+timed_if method target body = timed_either (length target == 0) unreadable (ask method target body) tt tt
+
+timed_alone : (method : Method) (rest : List ℕ) (o : Option (List ℕ × List ℕ)) → IsTimed (target_alone method rest o)
+timed_alone method rest None = timed_if method rest []
+timed_alone method rest (Some p) = timed_if method p.0 p.1
+
+timed_both : (method : Method) (o : Option (List ℕ × List ℕ)) → IsTimed (target_and_body method o)
+timed_both method None = tt
+timed_both method (Some p) = timed_if method p.0 p.1
+
+timed_at : (a b : Bool) (t : List ℕ) → (b ≡ true → IsFilled t) → IsTimed (cond (a && b) (at t) unreadable)
+timed_at true true t h = h refl
+timed_at true false t h = tt
+timed_at false b t h = tt
+
+timed_from : (o : Option (List ℕ × List ℕ)) → IsTimed (line_from o)
+timed_from None = tt
+timed_from (Some p) =
+    timed_either (bytes_eq p.0 (codes "GET")) (target_alone Get p.1 (cut p.1)) _ (timed_alone Get p.1 (cut p.1))
+    (timed_either (bytes_eq p.0 (codes "DELETE")) (target_alone Delete p.1 (cut p.1)) _ (timed_alone Delete p.1 (cut p.1))
+    (timed_either (bytes_eq p.0 (codes "POST")) (target_and_body Post (cut p.1)) _ (timed_both Post (cut p.1))
+    (timed_either (bytes_eq p.0 (codes "PUT")) (target_and_body Put (cut p.1)) _ (timed_both Put (cut p.1))
+    (timed_either (bytes_eq p.0 (codes "PATCH")) (target_and_body Patch (cut p.1)) _ (timed_both Patch (cut p.1))
+    (timed_at (bytes_eq p.0 (codes "AT")) (is_moment p.1) p.1 (filled_moment p.1))))))
+
+-- ---- after any lines
+
+-- a property of histories that a write leaves, where requests come of lines
+module _ (P : History → Type 0) (each : (q : Request) (h : History) (moment : List ℕ) → IsAsked q → IsFilled moment → P h → P (with_write h (write_of (accept q h moment)))) where
+  abbrev Holds : Session → Type 0
+  Holds s = IsFilled s.moment × P s.history
+
+  by_watch : (s : Session) (changes : Result (List Change) Refusal) → P s.history → P (history_from s.history (watch_reply changes))
+  by_watch s (Err f) p = p
+  by_watch s (Ok changes) p = p
+
+  by_request : (s : Session) (r : Result Asked Refusal) → AsksWell r → Holds s → P (history_from s.history (reply_for s r))
+  by_request s (Err f) well p = p.1
+  by_request s (Ok (request q)) well p = each q s.history s.moment well p.0 p.1
+  by_request s (Ok (watch v r)) well p = by_watch s (changes_since s.history v r) p.1
+
+  by_line : (s : Session) (line : Line) → IsTimed line → Holds s → Holds (session_after s line)
+  by_line s (ask method target body) timed p = (p.0, by_request s (read_request method target body) (well_request method target body) p)
+  by_line s (at moment) timed p = (timed, p.1)
+  by_line s unreadable timed p = p
+
+  by_text : (b : Bool) (s : Session) (t : List ℕ) → Holds s → Holds (cond b s (session_after s (line_of t)))
+  by_text true s t p = p
+  by_text false s t p = by_line s (line_of t) (timed_from (cut t)) p
+
+  by_session : (s : Session) (lines : List (List ℕ)) → Holds s → Holds (after_lines s lines)
+  by_session s [] p = p
+  by_session s (t ∷ ts) p = by_session (next s t) ts (by_text (length t == 0) s t p)
+
+  pub by_asked : (lines : List (List ℕ)) → P [] → P (history_of lines)
+  by_asked lines p = (by_session start lines (refl, p)).1
+
+-- ---- what is stored
+
+-- these writes in order, the first at revision r
+abbrev pub AreStored : ℕ → List Write → Type 0
+AreStored r [] = Unit {0}
+AreStored r (w ∷ ws) = IfSome w.put (IsStored w.key r) × AreStored (r + 1) ws
+
+stored_append : (r n : ℕ) (ws : List Write) (w : Write) → n ≡ r + length ws → AreStored r ws → IfSome w.put (IsStored w.key n) → AreStored r (ws ++ w ∷ [])
+stored_append r n [] w is c last =
+    let here : n ≡ r = omega (arith, is) in
+    (subst (λ m. IfSome w.put (IsStored w.key m)) here last, tt)
+stored_append r n (v ∷ ws) w is c last = (c.0, stored_append (r + 1) n ws w (omega (arith, is)) c.1 last)
+
+stored_write : (h : History) (o : Option Write) → IfSome o (λ w. IfSome w.put (IsStored w.key (present h + 1))) → AreStored 2 (writes h) → AreStored 2 (writes (with_write h o))
+stored_write h None v c = c
+stored_write h (Some w) v c = subst (AreStored 2) (sym (writes-append h (write w ∷ []))) (stored_append 2 (present h + 1) (writes h) w (omega arith) c v)
+
+pub AreStored-split : (r : ℕ) (us ws : List Write) → AreStored r (us ++ ws) → AreStored r us × AreStored (r + length us) ws
+AreStored-split r [] ws a = (tt, subst (λ n. AreStored n ws) (omega arith) a)
+AreStored-split r (u ∷ us) ws a =
+    let more = AreStored-split (r + 1) us ws a.1 in
+    let place : r + 1 + length us ≡ r + length (u ∷ us) = omega arith in
+    ((a.0, more.0), subst (λ n. AreStored n ws) place more.1)
+
+pub AreStored-up_to : (h : History) (r : ℕ) → AreStored 2 (writes h) → AreStored 2 (up_to r h)
+AreStored-up_to h r a = (AreStored-split 2 (up_to r h) (drop (r - 1) (writes h)) (subst (AreStored 2) (sym (take-append-drop (r - 1) (writes h))) a)).0
+
+some_held : (k l : Name) (r : ℕ) (o : Option Data) → k ≡ l → IfSome o (IsStored l r) → IfSome o (IsHeld k)
+some_held k l r None is a = tt
+some_held k l r (Some d) is a = (r, subst (λ n. IsStored n r d) (sym is) a)
+
+held_cond : (b : Bool) (k : Name) (r : ℕ) (w : Write) (before : Option Data) → is_named k w.key ≡ b → IfSome before (IsHeld k) → IfSome w.put (IsStored w.key r) → IfSome (cond b w.put before) (IsHeld k)
+held_cond true k r w before is h a = some_held k w.key r w.put (same_name k w.key is) a
+held_cond false k r w before is h a = h
+
+-- what is under a name is stored so
+pub last_held : (k : Name) (r : ℕ) (ws : List Write) (before : Option Data) → IfSome before (IsHeld k) → AreStored r ws → IfSome (last_of before k ws) (IsHeld k)
+last_held k r [] before h a = h
+last_held k r (w ∷ ws) before h a = last_held k (r + 1) ws (cond (is_named k w.key) w.put before) (held_cond (is_named k w.key) k r w before refl h a.0) a.1
+
+pub found_held : (h : History) (r : ℕ) (k : Name) → AreStored 2 (writes h) → IfSome (found k (members h r)) (IsHeld k)
+found_held h r k a = subst (λ o. IfSome o (IsHeld k)) (sym (found-after_all k [] (up_to r h) tt)) (last_held k 2 (up_to r h) None tt (AreStored-up_to h r a))
+
+pub all_stored : (lines : List (List ℕ)) → AreStored 2 (writes (history_of lines))
+all_stored lines =
+    by_asked (λ h. AreStored 2 (writes h)) (λ q h moment well filled a. stored_write h (write_of (accept q h moment)) (stores q h moment well filled (λ k. found_held h (present h) k a)) a) lines tt
+
+one_kept : (k : Name) (r : ℕ) (o : Option Data) → IfSome o (IsStored k r) → IfSome o (IsKept k r)
+one_kept k r None a = tt
+one_kept k r (Some d) a = a.kept
+
+all_kept : (r : ℕ) (ws : List Write) → AreStored r ws → AreKept r ws
+all_kept r [] a = tt
+all_kept r (w ∷ ws) a = (one_kept w.key r w.put a.0, all_kept (r + 1) ws a.1)
+
+pub runs_keep : RunsKeepObjects
+runs_keep lines = all_kept 2 (writes (history_of lines)) (all_stored lines)

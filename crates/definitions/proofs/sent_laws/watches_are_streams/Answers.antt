@@ -1,0 +1,5 @@
+use Rattle.definitions.proofs.SentChanges.{watches_stream}
+use Rattle.definitions.proofs.sent_laws.watches_are_streams.Goals as goal
+
+pub returns : goal.returns
+returns c = watches_stream

@@ -1,0 +1,102 @@
+-- What the server stores and sends is what a client of it takes in.
+use Rattle.std.specs.Prelude.{◌≡◌, ◌≤◌, ◌+◌, ℕ, List, [], ◌∷◌, length, true, Some, None, Ok, IfSome, IsSome, decimal, is_some, map}
+use Rattle.std.specs.List.{AllByRecursion}
+use Rattle.std.specs.Str.{is_utf8}
+use Rattle.serde_json.specs.Data.{Data, depth}
+use Rattle.serde_json.specs.Find.{as_object}
+use Rattle.serde_json.specs.Read.{read, max_depth}
+use Rattle.serde_json.specs.Written.{compact_text}
+use Rattle.definitions.specs.declared.kinds.Kind.{Kind}
+use Rattle.definitions.specs.Names.{Name}
+use Rattle.definitions.specs.History as history
+use Rattle.definitions.specs.History.{History, Write, View, Members, writes, present, list}
+use Rattle.definitions.specs.Objects.{Object}
+use Rattle.definitions.specs.Metadata.{name, namespace, uid, version}
+use Rattle.definitions.specs.Reading.{reading}
+use Rattle.definitions.specs.Changes.{Change, changes, changes_since}
+use Rattle.definitions.specs.Lines.{start, after_lines, frames_text}
+use Rattle.definitions.specs.Streams.{change, IsStream, text_of}
+use Rattle.definitions.specs.Verbs.{list_body}
+use Rattle.definitions.specs.Reflectors.{Listed, shown, name_in, list_of, put_all}
+
+-- what has happened once these lines were read
+abbrev pub history_of : List (List ℕ) → History
+history_of lines = (after_lines start lines).history
+
+-- ---- what is stored
+
+-- an object as it is stored under a key by the write of a revision: it reads as itself, and says its key, a uid and the revision
+pub record IsKept (k : Name) (r : ℕ) (d : Data) : Type 0 where
+  pub reads : reading k.kind d ≡ Ok d
+  pub name : name d ≡ Some k.name
+  pub namespace : namespace d ≡ Some k.namespace
+  pub uid : is_some (uid d) ≡ true
+  pub version : version d ≡ Some (decimal r)
+
+-- these writes in order, the first at revision r: each object is stored so
+abbrev pub AreKept : ℕ → List Write → Type 0
+AreKept r [] = Unit {0}
+AreKept r (w ∷ ws) = IfSome w.put (IsKept w.key r) × AreKept (r + 1) ws
+
+-- whatever lines are read, each object that was ever stored reads as itself, and says its key, a uid and its revision
+abbrev pub RunsKeepObjects : Type 0
+RunsKeepObjects = (lines : List (List ℕ)) → AreKept 2 (writes (history_of lines))
+
+-- ---- what is sent
+
+-- all of a kind, in all namespaces
+abbrev pub whole : Kind → View
+whole k = history.whole k None
+
+abbrev pub object_of : Kind → Change → Object
+object_of k c = record { kind = k; value = c.object }
+
+-- what a change shows is read as it stands, and says the change's key and revision
+pub record IsTold (k : Kind) (c : Change) : Type 0 where
+  pub shows : shown k c.object ≡ Some (record { object = object_of k c; revision = c.revision })
+  pub names : name_in (object_of k c) ≡ c.key
+
+-- what a change shows is an object that a line has room for
+pub record IsShort (c : Change) : Type 0 where
+  pub is_object : IsSome (as_object c.object)
+  pub nests : depth c.object ≤ 100
+  pub fits : length (compact_text c.object) ≤ 1573120
+
+-- whatever lines are read, what a watch of a kind shows is read as it stands, says its key and revision, and is short enough for a line
+abbrev pub ChangesAreTold : Type 0
+ChangesAreTold =
+    (lines : List (List ℕ)) (k : Kind) (a b : ℕ) → a ≤ b
+    → AllByRecursion (IsTold k) (changes (history_of lines) (whole k) a b) × AllByRecursion IsShort (changes (history_of lines) (whole k) a b)
+
+-- what is shown of the changes after a revision is the text of a stream from there to the present revision
+abbrev pub WatchesAreStreams : Type 0
+WatchesAreStreams =
+    (h : History) (v : View) (a : ℕ) (cs : List Change) → changes_since h v a ≡ Ok cs
+    → (a ≤ present h) × IsStream h v a (present h) (map change cs) × (frames_text cs ≡ text_of v.kind (map change cs))
+
+-- ---- lists
+
+-- the objects of a list of a kind
+abbrev pub objects_in : Kind → Members → List Object
+objects_in k ms = map (λ m. record { kind = k; value = m.1 }) ms
+
+-- a text that says the list of a kind at a revision
+pub record IsListText (h : History) (k : Kind) (r : ℕ) (body : List ℕ) : Type 0 where
+  pub reached : r ≤ present h
+  pub utf8 : is_utf8 body ≡ true
+  pub says : read body ≡ Some (list_body k r (list h (whole k) r))
+
+-- the list of a kind as a reader has it
+abbrev pub listed_at : History → Kind → ℕ → Listed
+listed_at h k r = record { revision = r; objects = objects_in k (list h (whole k) r) }
+
+-- whatever lines are read, a text that says the list of a kind at a revision is read as that revision and the objects of that
+-- list as they stand, and who puts them in place of what it held holds that list
+abbrev pub ListsAreRead : Type 0
+ListsAreRead =
+    (lines : List (List ℕ)) (k : Kind) (r : ℕ) (body : List ℕ) → IsListText (history_of lines) k r body
+    → (list_of k body ≡ Some (listed_at (history_of lines) k r)) × (put_all [] (objects_in k (list (history_of lines) (whole k) r)) ≡ list (history_of lines) (whole k) r)
+
+-- whatever lines are read, the list of a kind nests no deeper than what is read of a text
+abbrev pub ListsNest : Type 0
+ListsNest = (lines : List (List ℕ)) (k : Kind) (r : ℕ) → depth (list_body k r (list (history_of lines) (whole k) r)) ≤ max_depth
