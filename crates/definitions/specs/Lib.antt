@@ -1,7 +1,9 @@
 pub mod Board
 pub mod BoardLaws
 pub mod Changes
+pub mod Checks
 pub mod Codes
+pub mod Defaults
 pub mod Examples
 pub mod ExpectationLaws
 pub mod Expectations

@@ -2,6 +2,7 @@
 //! No other crate is known here: each of them proves that it does what stands here.
 #![tactic(auto)]
 
+pub mod amounts;
 pub mod board_laws;
 pub mod controllers;
 pub mod examples;
