@@ -43,12 +43,9 @@ deployment_defaults d =
     with_changed (codes "strategy") strategy_defaults
     (with_default (codes "strategy") empty (with_default (codes "revisionHistoryLimit") (whole 10) (with_default (codes "replicas") (whole 1) d)))
 
-abbrev pub spec_defaults : Kind → Data → Data
-spec_defaults ConfigMap d = d
-spec_defaults Pod d = d
-spec_defaults ReplicaSet d = replica_set_defaults d
-spec_defaults Deployment d = deployment_defaults d
-
 -- an object of a kind with what its spec leaves out
 abbrev pub defaulted : Kind → Data → Data
-defaulted k d = with_changed (codes "spec") (spec_defaults k) d
+defaulted ConfigMap d = d
+defaulted Pod d = d
+defaulted ReplicaSet d = with_changed (codes "spec") replica_set_defaults d
+defaulted Deployment d = with_changed (codes "spec") deployment_defaults d
