@@ -1,6 +1,8 @@
 pub mod Board
 pub mod BoardLaws
 pub mod Changes
+pub mod CheckExamples
+pub mod CheckLaws
 pub mod Checks
 pub mod Codes
 pub mod Defaults

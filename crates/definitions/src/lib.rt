@@ -4,6 +4,8 @@
 
 pub mod amounts;
 pub mod board_laws;
+pub mod check_examples;
+pub mod check_laws;
 pub mod controllers;
 pub mod examples;
 pub mod expectation_laws;
