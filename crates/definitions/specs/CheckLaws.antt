@@ -4,7 +4,9 @@ use Rattle.serde_json.specs.Data.{Data}
 use Rattle.definitions.specs.declared.kinds.Kind.{Kind}
 use Rattle.definitions.specs.declared.kinds.Kind.TheVariants.{ReplicaSet, Deployment}
 use Rattle.definitions.specs.Checks.{create_fault, in_spec, update_fault}
+use Rattle.definitions.specs.Defaults.{defaulted}
 use Rattle.definitions.specs.Labels.{labels_of}
+use Rattle.definitions.specs.Reading.{reading}
 use Rattle.definitions.specs.Selectors.{Requirement, meets_all}
 use Rattle.definitions.specs.SelectorValues.{said_by_value}
 use Rattle.definitions.specs.Verbs.{created}
@@ -33,3 +35,7 @@ abbrev pub StoredPassAgain : Type 0
 StoredPassAgain =
     (k : Kind) (made : List ℕ) (present later : ℕ) (r : ℕ) (namespace moment : List ℕ) (d : Data) → present ≤ later → create_fault k made present d ≡ None
     → create_fault k made later (created r namespace moment d) ≡ None
+
+-- a read object with its defaults reads as itself
+abbrev pub DefaultsReadAgain : Type 0
+DefaultsReadAgain = (k : Kind) (d : Data) → reading k d ≡ Ok d → reading k (defaulted k d) ≡ Ok (defaulted k d)

@@ -1,5 +1,5 @@
 //! Laws of defaults and checks.
-ghost use Rattle.definitions.specs.CheckLaws.{CreatedSelectTheirTemplates, UpdatedSelectTheirTemplates, StoredPassAgain};
+ghost use Rattle.definitions.specs.CheckLaws.{CreatedSelectTheirTemplates, UpdatedSelectTheirTemplates, StoredPassAgain, DefaultsReadAgain};
 
 /// The selector of a ReplicaSet or Deployment that can be created matches the labels of its template.
 pub fn created_select_their_templates()
@@ -14,4 +14,9 @@ pub fn updated_select_their_templates()
 /// An object that can be created could be created again as it was stored, whatever was written since.
 pub fn stored_pass_again()
     ensures { StoredPassAgain }
+{}
+
+/// A read object with its defaults reads as itself.
+pub fn defaults_read_again()
+    ensures { DefaultsReadAgain }
 {}

@@ -17,3 +17,6 @@ mod uids;
 
 pub use checks::{check_create, check_update};
 pub use spec_defaults::defaults;
+
+#[cfg(test)]
+mod tests;
