@@ -1,17 +1,17 @@
 -- What follows where no check finds a fault.
-use Rattle.std.proofs.Common.{◌≡◌, ◌⊎◌, inl, inr, ◌≤◌, ◌<◌, ◌^◌, ℕ, List, [], ◌∷◌, Bool, true, false, cond, not, ◌&&◌, ◌||◌, length, nat_le, nat_lt, Option, Some, None, is_some, unwrap_or, Result, Ok, Err, option_and_then, codes, refl, sym, ap, ◌∙◌, arith}
+use Rattle.std.proofs.Common.{◌≡◌, inl, inr, ◌≤◌, ◌^◌, ℕ, List, [], ◌∷◌, Bool, true, false, cond, not, ◌&&◌, ◌||◌, length, nat_le, nat_lt, Option, Some, None, is_some, unwrap_or, option_and_then, codes, refl, sym, ap, ◌∙◌, arith}
 use Rattle.std.proofs.lemmas.Bool.Decides.{nat_tests}
 use Rattle.std.specs.Prelude.{decimal}
 use Rattle.std.specs.List.{list_all}
 use Rattle.std.specs.Str.{bytes_eq}
-use Rattle.serde_json.specs.Data.{Data, null, boolean, number, string, array, object, Members, put, no_items}
+use Rattle.serde_json.specs.Data.{Data, null, boolean, number, string, array, object, put, no_items}
 use Rattle.serde_json.specs.Find.{get, get_member, as_str, as_array}
 use Rattle.serde_json.proofs.Views.{get_member-put_other}
 use Rattle.definitions.specs.declared.kinds.Kind.{Kind}
 use Rattle.definitions.specs.declared.kinds.Kind.TheVariants.{ConfigMap, Pod, ReplicaSet, Deployment}
 use Rattle.definitions.specs.declared.refusals.Field.{Field}
 use Rattle.definitions.specs.CheckLaws.{HasTemplate, SelectsItsTemplate, CreatedSelectTheirTemplates, UpdatedSelectTheirTemplates, StoredPassAgain}
-use Rattle.definitions.specs.Checks.{Check, first_fault, checks, checks_of, create_fault, update_fault, in_spec, requirements, if_ok, is_template, is_template_valid, is_selected, are_labels, are_labels_valid, are_replicas_valid, is_selector_valid, adds_no_finalizer, is_selector_kept, is_known_uid, is_not_empty, is_owner, are_owners_valid, controllers, generate_name, is_name, is_name_valid, generates, passes_if_there, is_generate_name_valid, are_finalizers_valid, is_finalizer, text_is, is_status_valid, is_not_negative, counts, is_strategy}
+use Rattle.definitions.specs.Checks.{Check, first_fault, checks, checks_of, in_spec, requirements, if_ok, is_template, is_template_valid, are_labels, are_labels_valid, is_selector_valid, adds_no_finalizer, is_selector_kept, is_known_uid, is_not_empty, is_owner, are_owners_valid, controllers, generate_name, is_name, is_name_valid, generates, passes_if_there, is_generate_name_valid, are_finalizers_valid, is_finalizer, text_is, is_status_valid, is_not_negative, counts, is_strategy}
 use Rattle.definitions.specs.Labels.{labels_of}
 use Rattle.definitions.specs.Metadata.{Owner, metadata, metadata_of, name, owners, owners_in}
 use Rattle.definitions.specs.Selectors.{Requirement, meets_all}
@@ -196,20 +196,36 @@ module _ (r : ℕ) (ns moment : List ℕ) (d : Data) where
   kind_met Pod m = tt
   kind_met ReplicaSet m =
       (ap is_not_negative (in_spec_same (codes "replicas")) ∙ m.0, (selector ∙ m.1.0, (template ∙ m.1.1.0, (status ReplicaSet ∙ m.1.1.1.0, tt))))
-  kind_met Deployment m =
-      (ap is_not_negative (in_spec_same (codes "replicas")) ∙ m.0,
-      (selector ∙ m.1.0,
-      (template ∙ m.1.1.0,
-      (ap (passes is_strategy) (in_spec_same (codes "strategy")) ∙ m.1.1.1.0,
-      (ap is_not_negative (in_spec_same (codes "revisionHistoryLimit")) ∙ m.1.1.1.1.0,
-      (status Deployment ∙ m.1.1.1.1.1.0, tt))))))
+  kind_met Deployment m = (
+    ap is_not_negative (in_spec_same (codes "replicas")) ∙ m.0,
+    (
+      selector ∙ m.1.0,
+      (
+        template ∙ m.1.1.0,
+        (
+          ap (passes is_strategy) (in_spec_same (codes "strategy")) ∙ m.1.1.1.0,
+          (
+            ap is_not_negative (in_spec_same (codes "revisionHistoryLimit")) ∙ m.1.1.1.1.0,
+            (status Deployment ∙ m.1.1.1.1.1.0, tt),
+          ),
+        ),
+      ),
+    ),
+  )
 
 pub stored_pass : StoredPassAgain
 stored_pass k made present later r ns moment d le h =
     let m = all_met (checks k made present true true d) h in
-    no_fault (checks k made later true true (created r ns moment d))
-    (names r ns moment d ∙ m.0,
-    (generated r ns moment d made ∙ m.1.0,
-    (labels r ns moment d ∙ m.1.1.0,
-    (ends r ns moment d ∙ m.1.1.1.0,
-    (owned r ns moment d later ∙ owned_later present later le d m.1.1.1.1.0, kind_met r ns moment d k m.1.1.1.1.1)))))
+    no_fault (checks k made later true true (created r ns moment d)) (
+      names r ns moment d ∙ m.0,
+      (
+        generated r ns moment d made ∙ m.1.0,
+        (
+          labels r ns moment d ∙ m.1.1.0,
+          (
+            ends r ns moment d ∙ m.1.1.1.0,
+            (owned r ns moment d later ∙ owned_later present later le d m.1.1.1.1.0, kind_met r ns moment d k m.1.1.1.1.1),
+          ),
+        ),
+      ),
+    )

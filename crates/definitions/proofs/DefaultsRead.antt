@@ -1,24 +1,23 @@
 -- What a read object is with its defaults reads as itself.
-use Rattle.std.proofs.Common.{◌≡◌, ◌≤◌, ◌+◌, List, ℕ, suc, Bool, true, false, not, cond, if◌then◌else◌, codes, ◌||◌, ◌&&◌, nat_le, max, is_some, Option, Some, None, Result, Ok, Err, Ordering, Less, Equal, Greater, nat_cmp, refl, sym, ap, ◌∙◌, subst, arith}
+use Rattle.std.proofs.Common.{◌≡◌, ◌≤◌, List, ℕ, suc, Bool, true, false, not, cond, if◌then◌else◌, codes, ◌||◌, ◌&&◌, nat_le, is_some, Option, Some, None, Ok, Ordering, Less, Equal, Greater, nat_cmp, refl, sym, ap, ◌∙◌, subst, arith}
 use Rattle.std.proofs.lemmas.Bool.{leb-true}
 use Rattle.std.specs.Ordering.{match_ordering}
 use Rattle.std.specs.Cmp.Lexicographic.{slice_cmp}
-use Rattle.serde_json.specs.Data.{Data, null, boolean, number, string, array, object, Items, no_items, item, Members, no_members, member, put, depth, members_depth}
-use Rattle.serde_json.specs.Find.{get, get_member}
+use Rattle.serde_json.specs.Data.{Data, null, boolean, number, string, array, object, Members, no_members, member, put, depth, members_depth}
+use Rattle.serde_json.specs.Find.{get_member}
 use Rattle.serde_json.specs.Written.{has_float, members_have_float}
 use Rattle.definitions.specs.declared.kinds.Kind.{Kind}
 use Rattle.definitions.specs.declared.kinds.Kind.TheVariants.{ConfigMap, Pod, ReplicaSet, Deployment}
-use Rattle.definitions.specs.declared.schemas.Shape.{Shape}
 use Rattle.definitions.specs.declared.schemas.Shape.TheVariants.{Object}
 use Rattle.definitions.specs.declared.schemas.Schema.{Schema}
 use Rattle.definitions.specs.declared.schemas.Schema.TheVariants.{Root, ReplicaSetSpec, DeploymentSpec, Strategy, Unknown}
 use Rattle.definitions.specs.CheckLaws.{DefaultsReadAgain}
 use Rattle.definitions.specs.Defaults.{whole, with_found, with_changed, rolling_defaults, is_rolling_update, with_rolling, strategy_defaults, replica_set_defaults, deployment_defaults, defaulted}
 use Rattle.definitions.specs.Schemas.{member_at}
-use Rattle.definitions.specs.Values.{with_default, with_member, is_null}
-use Rattle.definitions.specs.Reading.{fits, members_fit, tidied, tidied_members, is_absent, filled, is_body, empty, reading, whole_of}
-use Rattle.definitions.proofs.NoFloatsRead.{has_float-tidied, has_float-filled, has_float-is_body, both_true, members_have_float-put}
-use Rattle.definitions.proofs.ReadAgain.{IsTidy, MembersTidy, MembersTidy-tidied, members_fit-tidied, members_depth-tidied, Fine, Good, Good-of, same_name, Has, Has-put, Filled, HasSpec, filled_members, filled-object, Good-filled, Filled-filled, opened, settled}
+use Rattle.definitions.specs.Values.{with_default, is_null}
+use Rattle.definitions.specs.Reading.{fits, members_fit, tidied, tidied_members, is_absent, filled, is_body, empty, reading}
+use Rattle.definitions.proofs.NoFloatsRead.{has_float-tidied, has_float-filled, has_float-is_body, both_true}
+use Rattle.definitions.proofs.ReadAgain.{IsTidy, MembersTidy, MembersTidy-tidied, members_fit-tidied, members_depth-tidied, Good, Good-of, same_name, Has, Has-put, Filled, filled_members, filled-object, Good-filled, Filled-filled, opened, settled}
 
 -- a member that fits, is tidy, is no deeper than n and has no float
 abbrev Part : ℕ → Schema → List ℕ → Data → Type 0

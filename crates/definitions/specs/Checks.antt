@@ -1,5 +1,5 @@
 -- What an object has to be before it is stored: eleven checks in their order, and the first field that fails its check.
-use Rattle.std.specs.Prelude.{ℕ, suc, ℤ, pos, int_le, List, [], ◌∷◌, Bool, true, false, not, ◌&&◌, ◌||◌, ◌==◌, ◌^◌, length, nat_le, nat_lt, Option, Some, None, Result, Ok, Err, option_and_then, is_some, unwrap_or, codes, if◌then◌else◌}
+use Rattle.std.specs.Prelude.{ℕ, suc, ℤ, pos, int_le, List, [], ◌∷◌, Bool, true, false, not, ◌&&◌, ◌||◌, ◌==◌, ◌^◌, length, nat_le, nat_lt, Option, Some, None, Result, Ok, Err, option_and_then, is_some, codes, if◌then◌else◌}
 use Rattle.std.specs.List.{list_all, list_any, before_first, after_first}
 use Rattle.std.specs.Str.{bytes_eq}
 use Rattle.std.specs.Str.Parse.{digits_value}
