@@ -1,6 +1,8 @@
 pub mod Alarms
 pub mod BoardRuns
 pub mod Cases
+pub mod CheckLaws
+pub mod DefaultsRead
 pub mod Due
 pub mod Expected
 pub mod Falling

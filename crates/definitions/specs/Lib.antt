@@ -1,7 +1,11 @@
 pub mod Board
 pub mod BoardLaws
 pub mod Changes
+pub mod CheckExamples
+pub mod CheckLaws
+pub mod Checks
 pub mod Codes
+pub mod Defaults
 pub mod Examples
 pub mod ExpectationLaws
 pub mod Expectations

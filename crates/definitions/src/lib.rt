@@ -2,7 +2,10 @@
 //! No other crate is known here: each of them proves that it does what stands here.
 #![tactic(auto)]
 
+pub mod amounts;
 pub mod board_laws;
+pub mod check_examples;
+pub mod check_laws;
 pub mod controllers;
 pub mod examples;
 pub mod expectation_laws;

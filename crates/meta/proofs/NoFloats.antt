@@ -79,7 +79,7 @@ pub inner_of-no_float : (o : Option Data) → no_float o → members_have_float 
 inner_of-no_float None h = refl
 inner_of-no_float (Some d) h = members_of-no_float d h
 
-get_no_float : (k : List ℕ) (d : Data) → has_float d ≡ false → no_float (get k d)
+pub get_no_float : (k : List ℕ) (d : Data) → has_float d ≡ false → no_float (get k d)
 get_no_float k null h = tt
 get_no_float k (boolean b) h = tt
 get_no_float k (number n) h = tt

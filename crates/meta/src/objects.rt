@@ -1,6 +1,6 @@
 //! Objects.
 ghost use Rattle.std.specs.Prelude.{◌≡◌, ◌≤◌, ◌++◌, Some, Ok, OnOk, IfOk, IfErr, IfSome, is_some, map, codes, option_map, option_and_then, string_bytes, true, false};
-ghost use Rattle.serde_json.specs.Find.{as_array, as_object};
+ghost use Rattle.serde_json.specs.Find.{get, as_array, as_object};
 ghost use Rattle.serde_json.specs.Data.{depth};
 ghost use Rattle.serde_json.specs.Read.{read, max_depth};
 ghost use Rattle.serde_json.specs.View.{view, items_view, members_view};
@@ -100,7 +100,7 @@ impl Object {
     }
 
     /// An object of a kind, that says what a value says.
-    pub(crate) fn from_whole(kind: Kind, value: Value) -> Object
+    pub fn from_whole(kind: Kind, value: Value) -> Object
         requires no_float { has_float (view value) ≡ false }
         requires object { is_some (as_object (view value)) ≡ true }
         ensures value { result.value ≡ view value }
@@ -109,8 +109,16 @@ impl Object {
         Object { kind, value }
     }
 
+    /// A member of the object, as `spec` and `status` are.
+    pub fn member(&self, name: &str) -> Option<&Value>
+        ensures member { option_map (λ v. view v.now) result ≡ get name.now self.now.value }
+        ensures no_float { IfSome result (λ v. has_float (view v.now) ≡ false) }
+    {
+        member(&self.value, name)
+    }
+
     /// A member of the metadata.
-    pub(crate) fn metadata_member(&self, name: &str) -> Option<&Value>
+    pub fn metadata_member(&self, name: &str) -> Option<&Value>
         ensures member { option_map (λ v. view v.now) result ≡ metadata name.now self.now.value }
         ensures no_float { IfSome result (λ v. has_float (view v.now) ≡ false) }
     {
@@ -190,6 +198,12 @@ fn metadata_text<'a>(value: &'a Value, name: &str) -> Option<&'a str>
     ensures { option_map (λ s. s.now) result ≡ metadata_text name.now (view value.now) }
 {
     metadata_member(value, name)?.as_str()
+}
+
+fn member<'a>(value: &'a Value, name: &str) -> Option<&'a Value>
+    ensures { option_map (λ v. view v.now) result ≡ get name.now (view value.now) }
+{
+    value.get(name)
 }
 
 /// A member of an object's metadata.

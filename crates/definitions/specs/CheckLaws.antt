@@ -1,0 +1,41 @@
+-- Laws of defaults and checks.
+use Rattle.std.specs.Prelude.{◌≡◌, ◌⊎◌, ◌≤◌, ℕ, List, true, None, Some, Ok, codes}
+use Rattle.serde_json.specs.Data.{Data}
+use Rattle.definitions.specs.declared.kinds.Kind.{Kind}
+use Rattle.definitions.specs.declared.kinds.Kind.TheVariants.{ReplicaSet, Deployment}
+use Rattle.definitions.specs.Checks.{create_fault, in_spec, update_fault}
+use Rattle.definitions.specs.Defaults.{defaulted}
+use Rattle.definitions.specs.Labels.{labels_of}
+use Rattle.definitions.specs.Reading.{reading}
+use Rattle.definitions.specs.Selectors.{Requirement, meets_all}
+use Rattle.definitions.specs.SelectorValues.{said_by_value}
+use Rattle.definitions.specs.Verbs.{created}
+
+abbrev pub HasTemplate : Kind → Type 0
+HasTemplate k = (k ≡ ReplicaSet) ⊎ (k ≡ Deployment)
+
+-- the labels of an object's template meet its selector
+abbrev pub SelectsItsTemplate : Data → Type 0
+SelectsItsTemplate d =
+    (s t : Data) (rs : List Requirement) → in_spec (codes "selector") d ≡ Some s → in_spec (codes "template") d ≡ Some t → said_by_value s ≡ Ok rs
+    → meets_all rs (labels_of t) ≡ true
+
+-- what is created selects its template
+abbrev pub CreatedSelectTheirTemplates : Type 0
+CreatedSelectTheirTemplates =
+    (k : Kind) (made : List ℕ) (present : ℕ) (d : Data) → HasTemplate k → create_fault k made present d ≡ None → SelectsItsTemplate d
+
+-- and so does what replaces it
+abbrev pub UpdatedSelectTheirTemplates : Type 0
+UpdatedSelectTheirTemplates =
+    (k : Kind) (made : List ℕ) (present : ℕ) (stored d : Data) → HasTemplate k → update_fault k made present stored d ≡ None → SelectsItsTemplate d
+
+-- an object that can be created could be created again as it was stored, with what the server sets, whatever was written since
+abbrev pub StoredPassAgain : Type 0
+StoredPassAgain =
+    (k : Kind) (made : List ℕ) (present later : ℕ) (r : ℕ) (namespace moment : List ℕ) (d : Data) → present ≤ later → create_fault k made present d ≡ None
+    → create_fault k made later (created r namespace moment d) ≡ None
+
+-- a read object with its defaults reads as itself
+abbrev pub DefaultsReadAgain : Type 0
+DefaultsReadAgain = (k : Kind) (d : Data) → reading k d ≡ Ok d → reading k (defaulted k d) ≡ Ok (defaulted k d)

@@ -1,0 +1,7 @@
+use Rattle.std.proofs.Common.{sym, subst}
+use Rattle.serde_json.specs.View.{view}
+use Rattle.meta.proofs.NoFloats.{no_float, get_no_float, found-no_float}
+use Rattle.meta.proofs.objects.Object.member.Goals as goal
+
+pub returns-clause-no_float : goal.returns-clause-no_float
+returns-clause-no_float c = found-no_float c.member.result (subst no_float (sym c.member.ensures) (get_no_float c.args.name.now (view c.self.inside.value) c.self.invariant.0))

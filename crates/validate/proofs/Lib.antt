@@ -1,0 +1,4 @@
+pub mod Changed
+pub mod Digits
+pub mod NoFloats
+pub mod Printed

@@ -1,0 +1,59 @@
+//! The selectors of ReplicaSets and Deployments.
+ghost use Rattle.std.specs.Prelude.{◌≡◌, IfOk, IfErr, List, Some, codes, length, nat_lt, string_bytes, option_map};
+ghost use Rattle.definitions.specs.Checks.{in_spec, is_selector_kept, requirements, text_of};
+ghost use Rattle.definitions.specs.SelectorValues.{passes};
+ghost use Rattle.definitions.specs.Selectors.{Requirement};
+ghost use Rattle.meta.specs.declared.faults.Fault.TheVariants.{NoMemory};
+
+use crate::parts::in_spec;
+use meta::{Fault, Object};
+use selector::Selector;
+use std::alloc::{AllocError, Global};
+
+/// What the selector of an object says, if it is there and says something that is understood. The error is want of memory.
+pub(crate) fn selector_of(alloc: Global, object: &Object) -> Result<Option<Selector>, Fault>
+    ensures said { IfOk result (λ s. s ≡ requirements object.now.value) }
+    ensures refused { IfErr result (λ e. e ≡ NoMemory) }
+{
+    match in_spec(object, "selector") {
+        Some(value) => match Selector::of_value(alloc, value) {
+            Ok(selector) => Ok(Some(selector)),
+            Err(selector::Fault::Malformed) => Ok(None),
+            Err(selector::Fault::Invalid) => Ok(None),
+            Err(selector::Fault::NoMemory) => Err(Fault::NoMemory),
+        },
+        None => Ok(None),
+    }
+}
+
+/// Whether a selector is there and says something.
+pub(crate) fn says_something(selector: &Option<Selector>) -> bool
+    ensures { result ≡ passes (λ (rs : List Requirement). nat_lt 0 (length rs)) selector.now }
+{
+    match selector {
+        Some(found) => !found.is_empty(),
+        None => false,
+    }
+}
+
+fn selector_text(alloc: Global, object: &Object) -> Result<String, AllocError>
+    ensures { IfOk result (λ s. string_bytes s ≡ text_of (in_spec (codes "selector") object.now.value)) }
+{
+    match in_spec(object, "selector") {
+        Some(found) => found.to_string(alloc),
+        None => Ok(String::new(alloc)),
+    }
+}
+
+/// Whether the selector of an object is that of the stored one. The error is want of memory.
+pub(crate) fn is_selector_kept(
+    alloc: Global,
+    stored: &Object,
+    object: &Object,
+) -> Result<bool, AllocError>
+    ensures { IfOk result (λ b. b ≡ is_selector_kept stored.now.value object.now.value) }
+{
+    let before = selector_text(alloc, stored)?;
+    let after = selector_text(alloc, object)?;
+    Ok(before.as_str() == after.as_str())
+}

@@ -1,0 +1,37 @@
+//! Templates of Pods.
+ghost use Rattle.std.specs.Prelude.{◌≡◌, codes, option_map};
+ghost use Rattle.serde_json.specs.View.{view};
+ghost use Rattle.definitions.specs.Checks.{in_spec, is_selected, is_template};
+ghost use Rattle.definitions.specs.Metadata.{metadata};
+
+use crate::labels::are_labels;
+use crate::parts::in_spec;
+use meta::Object;
+use selector::Selector;
+use serde_json::Value;
+
+fn labels(template: &Value) -> Option<&Value>
+    ensures { option_map (λ v. view v.now) result ≡ metadata (codes "labels") (view template.now) }
+{
+    template.get("metadata")?.get("labels")
+}
+
+fn is_selected(selector: &Selector, template: &Value) -> bool
+    ensures { result ≡ is_selected selector.now (view template.now) }
+{
+    let labels = labels(template);
+    are_labels(labels) && selector.matches(labels)
+}
+
+/// Whether an object's template is there, has valid labels, and is matched by the object's selector.
+pub(crate) fn is_template(object: &Object, selector: &Option<Selector>) -> bool
+    ensures { result ≡ is_template selector.now (in_spec (codes "template") object.now.value) }
+{
+    match selector {
+        Some(selector) => match in_spec(object, "template") {
+            Some(template) => is_selected(selector, template),
+            None => false,
+        },
+        None => false,
+    }
+}
