@@ -1,7 +1,9 @@
 -- What is written for what is read: the reply to each line in turn.
-use Rattle.std.specs.Prelude.{◌≡◌, ℕ, ◌==◌, List, [], ◌∷◌, ◌++◌, Option, if◌then◌else◌}
+use Rattle.std.specs.Prelude.{◌≡◌, ◌≢◌, ℕ, ◌==◌, List, [], ◌∷◌, ◌++◌, Option, if◌then◌else◌}
 use Rattle.std.specs.Io.KnownBytes.{Appends}
 use Rattle.std.specs.List.{onto_first}
+use Rattle.line_service.specs.declared.fault.RunFault.{RunFault}
+use Rattle.line_service.specs.declared.fault.RunFault.TheVariants as fault
 
 -- the lines of the bytes, without their newlines; what follows the last newline is a line if it is not empty
 abbrev pub lines_of : List ℕ → List (List ℕ)
@@ -21,3 +23,10 @@ after next s (line ∷ lines) = after next (next s line) lines
 -- a beginning of the text was appended
 abbrev pub AppendsBeginning : Option (List ℕ) → Option (List ℕ) → List ℕ → Type 0
 AppendsBeginning old new text = (written : List ℕ) × (left : List ℕ) × Appends old new written × (written ++ left ≡ text)
+
+-- some of the lines, from the first on, were answered and no others, and a beginning of their replies was appended: all of them, unless writing failed
+abbrev pub EndsEarly : {S : Type 0} → (S → List ℕ → List ℕ) → (S → List ℕ → S) → RunFault → S → S → Option (List ℕ) → Option (List ℕ) → List (List ℕ) → Type 0
+EndsEarly reply next why first last old new lines =
+    (answered : List (List ℕ)) × (left : List (List ℕ)) × (answered ++ left ≡ lines) × (last ≡ after next first answered)
+        × AppendsBeginning old new (replies reply next first answered)
+        × (why ≢ fault.Write → Appends old new (replies reply next first answered))

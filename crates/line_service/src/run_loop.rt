@@ -1,9 +1,9 @@
 //! The loop that runs a service.
-ghost use Rattle.std.specs.Prelude.{◌≡◌, ◌≢◌, ◌≤◌, [], OnOk, OnErr, IfSome, vec_capacity};
+ghost use Rattle.std.specs.Prelude.{◌≡◌, ◌≢◌, ◌≤◌, [], OnOk, OnErr, IfErr, IfSome, vec_capacity};
 ghost use Rattle.std.specs.Io.KnownBytes.{Appends};
 ghost use Rattle.std.specs.Io.BufRead.{strip_last};
 ghost use Rattle.std.specs.IoError.{error_kind};
-ghost use Rattle.line_service.specs.Replies.{lines_of, replies, after, AppendsBeginning};
+ghost use Rattle.line_service.specs.Replies.{lines_of, replies, after, AppendsBeginning, EndsEarly};
 
 use crate::fault::RunFault;
 use crate::service::LineService;
@@ -53,6 +53,7 @@ fn make_ready(line: &mut Vec<u8>)
 fn write_text<W: Write>(writer: &mut W, text: &[u8]) -> Result<(), RunFault>
     ensures ok { OnOk result (Appends (W.contents writer.old) (W.contents writer.new) text.now) }
     ensures err { OnErr result (AppendsBeginning (W.contents writer.old) (W.contents writer.new) text.now) }
+    ensures fault { IfErr result (λ fault. fault ≡ RunFault.Write) }
 {
     let mut rest = text;
     for _ in 0..u64::MAX {
@@ -76,6 +77,7 @@ fn write_text<W: Write>(writer: &mut W, text: &[u8]) -> Result<(), RunFault>
 fn send<W: Write>(writer: &mut W, reply: &[u8]) -> Result<(), RunFault>
     ensures ok { OnOk result (Appends (W.contents writer.old) (W.contents writer.new) reply.now) }
     ensures err { OnErr result (AppendsBeginning (W.contents writer.old) (W.contents writer.new) reply.now) }
+    ensures fault { IfErr result (λ fault. fault ≡ RunFault.Write) }
 {
     if reply.is_empty() {
         return Ok(());
@@ -91,8 +93,8 @@ fn send<W: Write>(writer: &mut W, reply: &[u8]) -> Result<(), RunFault>
 /// empty is flushed before the next line is waited for. One line is held at a time, and its memory is used again
 /// for the next.
 ///
-/// At an error a beginning of all the replies was written; the service has answered some of the lines, and no
-/// line after the one at which the error came.
+/// At an error a beginning of all the replies was written. The service has answered some of the lines, from the first
+/// on, and no others; their replies were written whole, unless it was the writer that failed.
 pub fn run<S: LineService, R: BufRead, W: Write>(
     alloc: Global,
     service: &mut S,
@@ -105,6 +107,8 @@ pub fn run<S: LineService, R: BufRead, W: Write>(
         service.new ≡ after S.next service.old (lines_of input))) }
     ensures err { OnErr result (IfSome (R.remaining reader.old) (λ input.
         AppendsBeginning (W.contents writer.old) (W.contents writer.new) (replies S.reply S.next service.old (lines_of input)))) }
+    ensures ended { IfErr result (λ fault. IfSome (R.remaining reader.old) (λ input.
+        EndsEarly S.reply S.next fault service.old service.new (W.contents writer.old) (W.contents writer.new) (lines_of input))) }
 {
     let mut line = Vec::new(alloc);
     for _ in 0..u64::MAX {

@@ -26,6 +26,20 @@ impl LineService for Echo {
     }
 }
 
+/// Never has memory for a reply.
+#[derive(Drop)]
+struct Poor;
+
+impl LineService for Poor {
+    ghost reply = { λ _ _. [] };
+
+    ghost next = { λ s _. s };
+
+    fn serve(&mut self, _alloc: Global, _line: &[u8]) -> Result<Vec<u8>, AllocError> {
+        Err(AllocError)
+    }
+}
+
 /// What a reader and a writer see of one another. No clause says when a writer is flushed, so that a flush left out
 /// is still proved: the reader fails where a reply lies unflushed, and the tests count the calls.
 #[derive(Drop)]
@@ -184,5 +198,26 @@ fn want_of_memory_at_a_read_is_told_from_a_failing_reader(rt: HostRuntime) -> Re
     let (outcome, held) = outcome_of(rt.alloc(), &THREE_LINES, 2, kind, ROOM, &fails)?;
     assert_eq!(rt; outcome, Err(RunFault::Read));
     assert_eq!(rt; held.as_slice(), b"ab\n".as_slice());
+    Ok(())
+}
+
+#[test]
+fn want_of_memory_for_a_reply_is_told_from_a_failing_reader(rt: HostRuntime) -> Result<(), Fail> {
+    let wire = Wire::new();
+    let source = Lines {
+        lines: &THREE_LINES,
+        bad: NEVER,
+        kind: BROKEN,
+        wire: &wire,
+    };
+    let mut reader = BufReader::new(rt.alloc(), source)?;
+    let mut writer = Narrow {
+        held: Vec::new(rt.alloc()),
+        full: ROOM,
+        wire: &wire,
+    };
+    let outcome = run(rt.alloc(), &mut Poor, &mut reader, &mut writer);
+    assert_eq!(rt; outcome, Err(RunFault::Want));
+    assert_eq!(rt; writer.held.len(), 0);
     Ok(())
 }

@@ -103,8 +103,9 @@ impl Store {
     pub fn apply(&mut self, write: Write) -> Result<(), Fault>
         ensures ok { OnOk result (self.new ≡ self.old ++ history.write (write_of write) ∷ []) }
         ensures room { OnOk result (overflows (members self.old (present self.old)) (present self.old) (write_of write) ≡ false) }
-        ensures refused { IfErr result (λ e. (e ≡ fault.NoMemory) ⊎ ((e ≡ fault.StorageFull)
-            × (overflows (members self.old (present self.old)) (present self.old) (write_of write) ≡ true))) }
+        ensures refused { IfErr result (λ e.
+            ((e ≡ fault.NoMemory) × (overflows (members self.old (present self.old)) (present self.old) (write_of write) ≡ false))
+            ⊎ ((e ≡ fault.StorageFull) × (overflows (members self.old (present self.old)) (present self.old) (write_of write) ≡ true))) }
         ensures err { OnErr result (self.new ≡ self.old) }
     {
         if self.overflows(&write) {
