@@ -99,7 +99,7 @@ tells k c same kept low fits =
 
 -- ---- the change of a write
 
-pub same_kind : (a b : Kind) → ((rank a == rank b) && true) ≡ true → a ≡ b
+pub same_kind : (a b : Kind) → ((rank a == rank b) && true && true && true) ≡ true → a ≡ b
 same_kind ConfigMap ConfigMap h = refl
 same_kind Pod Pod h = refl
 same_kind ReplicaSet ReplicaSet h = refl

@@ -12,9 +12,9 @@ use Rattle.definitions.specs.History.{History, Write, write, writes, last_of, me
 use Rattle.definitions.specs.Lines.{Session, start, Line, ask, at, unreadable, ask_if, cut, target_alone, target_and_body, line_from, line_of, reply_for, watch_reply, history_from, session_after, next, after_lines}
 use Rattle.definitions.specs.Moments.{is_moment}
 use Rattle.definitions.specs.Names.{Name, is_named, is_namespace}
-use Rattle.definitions.specs.Queries.{Query, plain, watching}
+use Rattle.definitions.specs.Queries.{Query}
 use Rattle.definitions.specs.Refusals.{Refusal, bad_request, method_not_allowed, too_large}
-use Rattle.definitions.specs.Targets.{Asked, request, watch, Route, collection, object_at, status_of, route, path_of, decoded, query_for, names_namespace, is_allowed, data_of, asks_with, with_body, asked_of_view, asked, asked_with, asked_at, read_request}
+use Rattle.definitions.specs.Targets.{Asked, request, watch, Route, collection, object_at, status_of, route, path_of, decoded, query_for, names_namespace, is_allowed, data_of, asks_with, with_body, list_or_watch, selected, asked, asked_with, asked_at, read_request}
 use Rattle.definitions.specs.Verbs.{Request, create_object, update_object, update_status, accept, with_write, write_of}
 use Rattle.definitions.specs.History as history
 use Rattle.definitions.specs.SentLaws.{IsKept, AreKept, RunsKeepObjects, history_of}
@@ -51,12 +51,12 @@ filled_namespace : (ns : List ℕ) → is_namespace ns ≡ true → IsFilled ns
 filled_namespace [] h = cc
 filled_namespace (b ∷ bs) h = filled_long (b ∷ bs) (omega arith)
 
-well_view : (v : history.View) (q : Query) → AsksWell (Ok (asked_of_view v q))
-well_view v plain = tt
-well_view v (watching r) = tt
+well_view : (v : history.View) (from : Option ℕ) → AsksWell (Ok (list_or_watch v from))
+well_view v None = tt
+well_view v (Some r) = tt
 
 well_asked : (method : Method) (r : Route) (q : Query) (text : List ℕ) → names_namespace r ≡ true → AsksWell (asked method r q text)
-well_asked Get (collection k ns) q text h = well_view (record { kind = k; namespace = ns }) q
+well_asked Get (collection k ns) q text h = well_view (selected k ns q) q.watch
 well_asked Get (object_at n) q text h = tt
 well_asked Get (status_of n) q text h = tt
 well_asked Post (collection k None) q text h = tt

@@ -1,9 +1,7 @@
 use Rattle.std.proofs.Common.{refl}
-use Rattle.std.specs.Fmt.{digits}
-use Rattle.std.specs.Str.{is_utf8, chars}
-use Rattle.serde_json.proofs.OnLiterals.{serde_json_on_literals}
+use Rattle.definitions.proofs.OnLiterals.{on_literals}
 use Rattle.definitions.proofs.check_examples.defaults_are_filled_in.Goals as goal
 
 pub returns : goal.returns
-unfolding serde_json_on_literals digits is_utf8 chars
+unfolding on_literals
 returns c = (refl, refl, refl, refl, refl, refl, refl)
