@@ -13,7 +13,7 @@ use Rattle.definitions.specs.Uids.{uid_text}
 
 -- ---- texts of objects
 
--- what a field is given and what the rest of an object says, as JSON
+-- a text as JSON
 abbrev pub quoted : List ℕ → List ℕ
 quoted t = codes "\"" ++ (t ++ codes "\"")
 

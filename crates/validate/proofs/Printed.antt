@@ -1,5 +1,5 @@
 -- A uid that this server prints is parsed as the number that it is printed of.
-use Rattle.std.proofs.Common.{◌≡◌, ◌⊎◌, inl, ℕ, zero, suc, ◌+◌, ◌*◌, ◌%◌, ◌/◌, ◌^◌, ◌<◌, List, length, Bool, true, false, cond, ◌&&◌, nat_lt, Option, Some, None, refl, sym, ap, ◌∙◌, arith, get_or}
+use Rattle.std.proofs.Common.{◌≡◌, inl, ℕ, zero, suc, ◌%◌, ◌^◌, ◌<◌, List, length, Bool, true, false, cond, ◌&&◌, nat_lt, Some, None, refl, sym, ap, ◌∙◌, arith, get_or}
 use Rattle.std.proofs.lemmas.Bool.{lt-ltb}
 use Rattle.std.proofs.lemmas.Bool.Decides.{nat_tests}
 use Rattle.std.proofs.lemmas.Slice.Eq.{bytes_eq-Decides}
@@ -9,7 +9,7 @@ use Rattle.std.specs.Str.{bytes_eq}
 use Rattle.definitions.specs.Uids.{uid_text, uid_revision}
 use Rattle.definitions.proofs.Uids.{held}
 use Rattle.stamps.proofs.Hexadecimal.{uid_number, uid-text}
-use Rattle.uuid.specs.Text.{hyphenated_text, lower, parsed}
+use Rattle.uuid.specs.Text.{lower, parsed}
 use Rattle.uuid.proofs.OrderLemmas.{from_be_bytes-to_be_bytes_16}
 use Rattle.uuid.proofs.RoundTrips.{parses_hyphenated}
 

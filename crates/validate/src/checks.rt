@@ -123,12 +123,7 @@ fn refuse(key: &Key, found: Option<Field>) -> Result<(), Fault>
 
 /// Whether an object with its defaults can be created under a key, whose name is the object's or was made for it, after
 /// the present revision. The errors are the first field that is not valid, and want of memory, which the selector takes.
-pub fn check_create(
-    alloc: Global,
-    object: &Object,
-    key: &Key,
-    present: u64,
-) -> Result<(), Fault>
+pub fn check_create(alloc: Global, object: &Object, key: &Key, present: u64) -> Result<(), Fault>
     ensures valid { IfOk result (λ _. create_fault object.now.kind (name_of key.now).name present object.now.value ≡ None) }
     ensures invalid { IfErr result (RefusesField (name_of key.now) (create_fault object.now.kind (name_of key.now).name present object.now.value)) }
 {
@@ -150,6 +145,13 @@ pub fn check_update(
 {
     let adds_none = adds_no_finalizer(stored, object);
     let is_kept = is_selector_kept(alloc, stored, object)?;
-    let found = fault(alloc, object, key.name.as_str(), present, adds_none, is_kept)?;
+    let found = fault(
+        alloc,
+        object,
+        key.name.as_str(),
+        present,
+        adds_none,
+        is_kept,
+    )?;
     refuse(key, found)
 }

@@ -25,10 +25,7 @@ pub(crate) fn is_name_valid(object: &Object) -> bool
 fn is_generating_byte(byte: u8) -> bool
     ensures { result ≡ is_generating_byte byte }
 {
-    (b'a' <= byte && byte <= b'z')
-        || (b'0' <= byte && byte <= b'9')
-        || byte == b'-'
-        || byte == b'.'
+    (b'a' <= byte && byte <= b'z') || (b'0' <= byte && byte <= b'9') || byte == b'-' || byte == b'.'
 }
 
 fn has_generating_bytes(text: &str) -> bool

@@ -10,8 +10,8 @@ ghost use Rattle.meta.specs.Owners.{owner_of};
 ghost use Rattle.selector.specs.Seen.{now};
 
 use crate::uids::is_of_the_future;
-use meta::owners::{OwnerReference, owner};
 use meta::Object;
+use meta::owners::{OwnerReference, owner};
 use serde_json::Value;
 
 /// Whether a text is there and not empty.

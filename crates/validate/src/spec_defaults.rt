@@ -5,8 +5,8 @@ ghost use Rattle.definitions.specs.Defaults.{whole, with_changed, rolling_defaul
 ghost use Rattle.definitions.specs.Values.{with_default};
 
 use definitions::kinds::Kind;
-use meta::members::{into_members, take};
 use meta::Object;
+use meta::members::{into_members, take};
 use meta::values::{with_member, with_object, with_text};
 use serde_json::{Value, json};
 use std::alloc::{AllocError, Global};

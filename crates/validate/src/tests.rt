@@ -41,10 +41,20 @@ fn a_deployment_is_filled_in_and_accepted(rt: HostRuntime) -> Result<(), Fail> {
     )?;
     let key = key(alloc, Kind::Deployment, "nginx-deployment")?;
     assert_eq!(rt; refused(check_create(alloc, &deployment, &key, 1))?, None);
-    assert_eq!(rt; refused(check_update(alloc, &deployment, &deployment, &key, 1))?, None);
+    assert_eq!(rt;
+        refused(check_update(alloc, &deployment, &deployment, &key, 1))?,
+        None
+    );
     let text = deployment.text(alloc)?;
-    assert!(rt; text.as_str().contains(r#""replicas":1,"revisionHistoryLimit":10,"#));
-    assert!(rt; text.as_str().contains(r#""strategy":{"rollingUpdate":{"maxSurge":"25%","maxUnavailable":"25%"},"type":"RollingUpdate"}"#));
+    assert!(rt;
+        text.as_str()
+            .contains(r#""replicas":1,"revisionHistoryLimit":10,"#)
+    );
+    assert!(rt;
+        text.as_str().contains(
+            r#""strategy":{"rollingUpdate":{"maxSurge":"25%","maxUnavailable":"25%"},"type":"RollingUpdate"}"#
+        )
+    );
     Ok(())
 }
 
@@ -70,9 +80,15 @@ fn selectors_bind(rt: HostRuntime) -> Result<(), Fail> {
         r#"{"metadata":{"name":"frontend"},"spec":{"selector":{"matchLabels":{"tier":"backend"}},"template":{"metadata":{"labels":{"tier":"backend"}}}}}"#,
     )?;
     assert_eq!(rt; refused(check_create(alloc, &stored, &key, 1))?, None);
-    assert_eq!(rt; refused(check_create(alloc, &unmatched, &key, 1))?, Some(Field::Template));
+    assert_eq!(rt;
+        refused(check_create(alloc, &unmatched, &key, 1))?,
+        Some(Field::Template)
+    );
     assert_eq!(rt; refused(check_create(alloc, &changed, &key, 1))?, None);
-    assert_eq!(rt; refused(check_update(alloc, &stored, &changed, &key, 1))?, Some(Field::Selector));
+    assert_eq!(rt;
+        refused(check_update(alloc, &stored, &changed, &key, 1))?,
+        Some(Field::Selector)
+    );
     Ok(())
 }
 
@@ -87,6 +103,9 @@ fn owners_are_known(rt: HostRuntime) -> Result<(), Fail> {
         r#"{"metadata":{"generateName":"frontend-","ownerReferences":[{"apiVersion":"apps/v1","kind":"ReplicaSet","name":"frontend","uid":"00000000-0000-8000-8000-000000000006","controller":true}]}}"#,
     )?;
     assert_eq!(rt; refused(check_create(alloc, &pod, &key, 6))?, None);
-    assert_eq!(rt; refused(check_create(alloc, &pod, &key, 5))?, Some(Field::OwnerReferences));
+    assert_eq!(rt;
+        refused(check_create(alloc, &pod, &key, 5))?,
+        Some(Field::OwnerReferences)
+    );
     Ok(())
 }

@@ -1,7 +1,7 @@
 use Rattle.std.proofs.Common.{◌≡◌, false, rules, arith}
 use Rattle.std.specs.List.{list_any}
 use Rattle.definitions.specs.Checks.{is_percent_sign}
-use Rattle.names.proofs.Splits.{found, not-found}
+use Rattle.names.proofs.Splits.{not-found}
 use Rattle.validate.proofs.strategies.percentage.Goals as goal
 
 pub returns-in-None : goal.returns-in-None
