@@ -1,5 +1,5 @@
 -- The step of a bookmark that was written.
-use Rattle.std.proofs.Common.{◌≡◌, ◌≤◌, ◌<◌, ◌+◌, ◌%◌, ◌^◌, ◌&&◌, ◌||◌, ◌==◌, not, ℕ, zero, suc, nat_lt, nat_le, List, [], ◌∷◌, ◌++◌, length, get_or, slice_index, Bool, true, false, Some, None, option_and_then, option_map, Ok, decimal, refl, ap, ◌∙◌, arith, if◌then◌else◌}
+use Rattle.std.proofs.Common.{◌≡◌, ◌≤◌, ◌<◌, ◌^◌, ℕ, nat_le, true, false, Some, option_and_then, option_map, Ok, decimal, refl, ap, ◌∙◌, arith}
 use Rattle.definitions.specs.declared.kinds.Kind.{Kind}
 use Rattle.definitions.specs.declared.kinds.Kind.TheVariants.{ConfigMap, Pod, ReplicaSet, Deployment}
 use Rattle.definitions.specs.Revisions.{revision_of}

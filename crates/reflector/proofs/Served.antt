@@ -1,14 +1,13 @@
 -- What a server sends can be read and taken in.
-use Rattle.std.proofs.Common.{◌≡◌, ◌≤◌, ◌<◌, ◌+◌, ℕ, List, [], ◌∷◌, ◌++◌, length, flat_map, codes, Some, false, refl, sym, ap, ◌∙◌, subst, arith, length-append}
+use Rattle.std.proofs.Common.{◌≡◌, ◌≤◌, ◌+◌, ℕ, List, [], ◌∷◌, ◌++◌, length, flat_map, codes, Some, false, refl, sym, ap, ◌∙◌, subst, arith, length-append}
 use Rattle.std.specs.List.{AllByRecursion}
-use Rattle.serde_json.specs.Data.{Data}
 use Rattle.serde_json.specs.Written.{compact_text}
 use Rattle.definitions.specs.declared.kinds.Kind.{Kind}
 use Rattle.definitions.specs.declared.frames.FrameKind.{FrameKind}
 use Rattle.definitions.specs.declared.frames.FrameKind.TheVariants.{Added, Modified, Deleted, Bookmark, Error}
 use Rattle.definitions.specs.Changes.{Change, changes}
 use Rattle.definitions.specs.Frames.{kind_text, frame_kind}
-use Rattle.definitions.specs.History.{History, list, present}
+use Rattle.definitions.specs.History.{list, present}
 use Rattle.definitions.specs.Reflectors.{Reflector, with_list, all_fed, play_deltas}
 use Rattle.definitions.specs.SentLaws.{whole, IsShort, history_of, listed_at}
 use Rattle.definitions.specs.Streams.{Line, change, bookmark, initial, initial_end, Goes, change_event, text_of}

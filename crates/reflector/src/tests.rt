@@ -156,3 +156,37 @@ fn lists_are_refused(rt: HostRuntime) -> Result<(), Fail> {
     assert!(rt; matches!(&refused, Err(ListFault::Unreadable)));
     Ok(())
 }
+
+/// The revision of a list that was taken in, and how many objects it had.
+fn replaced(delta: &Delta) -> Option<(u64, usize)> {
+    match delta {
+        Delta::Replace(revision, objects) => Some((*revision, objects.len())),
+        _ => None,
+    }
+}
+
+/// What is refused for want of memory changes nothing, and gives the same when it is tried again. With ample memory
+/// nothing is tried again: this is for runs in which an allocation is refused.
+#[test]
+fn refused_memory_changes_nothing(rt: HostRuntime) -> Result<(), Fail> {
+    let mut reflector = Reflector::new(rt.alloc(), Kind::ConfigMap);
+    let list = match reflector.on_list(rt.alloc(), LIST.as_bytes()) {
+        Ok(list) => list,
+        Err(fault) => {
+            assert_eq!(rt; fault, ListFault::Want);
+            assert_eq!(rt; reflector.next(), Ask::List);
+            reflector.on_list(rt.alloc(), LIST.as_bytes())?
+        }
+    };
+    assert_eq!(rt; replaced(&list), Some((2, 1)));
+    let fed = match reflector.feed(rt.alloc(), MODIFIED.as_bytes()) {
+        Ok(fed) => fed,
+        Err(_) => {
+            assert_eq!(rt; reflector.next(), Ask::Watch(2));
+            reflector.feed(rt.alloc(), MODIFIED.as_bytes())?
+        }
+    };
+    assert_eq!(rt; puts(&fed), 1);
+    assert_eq!(rt; reflector.revision(), 3);
+    Ok(())
+}
