@@ -107,11 +107,7 @@ fn has_any(alloc: Global, query: &[u8], names: Names) -> Result<bool, AllocError
 }
 
 /// The value of a member: of those with its name the first counts.
-fn member<'q>(
-    alloc: Global,
-    query: &'q [u8],
-    name: &str,
-) -> Result<Option<CowStr<'q>>, AllocError>
+fn member<'q>(alloc: Global, query: &'q [u8], name: &str) -> Result<Option<CowStr<'q>>, AllocError>
     ensures { IfOk result (λ o. option_map cow_str_bytes o ≡ member name.now (raw_pairs query.now)) }
 {
     for pair in parse(alloc, query) {

@@ -56,6 +56,8 @@ impl View {
         self.kind == key.kind
             && self.has_namespace(key.namespace.as_str())
             && self.labels.selects(object)
-            && self.fields.matches(key.name.as_str(), key.namespace.as_str())
+            && self
+                .fields
+                .matches(key.name.as_str(), key.namespace.as_str())
     }
 }
