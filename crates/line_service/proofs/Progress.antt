@@ -1,5 +1,5 @@
 -- What has been written, and what is still to come.
-use Rattle.std.proofs.Common.{◌≡◌, ◌≢◌, ℕ, ◌<◌, List, [], ◌∷◌, ◌++◌, length, Option, Some, None, IfSome, refl, sym, ap, subst, ◌∙◌, append_assoc}
+use Rattle.std.proofs.Common.{◌≡◌, ℕ, ◌<◌, List, [], ◌∷◌, ◌++◌, length, Option, Some, None, IfSome, refl, sym, ap, subst, ◌∙◌, append_assoc}
 use Rattle.std.proofs.lemmas.List.{append-nil}
 use Rattle.std.specs.Option.{IsSomeAnd}
 use Rattle.std.specs.Io.KnownBytes.{Appends, Keeps}
@@ -59,8 +59,8 @@ module _ {S : Type 0} (reply : S → List ℕ → List ℕ) (next : S → List �
         append_assoc h.0 (line ∷ []) (lines_of (drop_through 10 rest)) ∙ ap (λ ls. h.0 ++ ls) (sym at.0) ∙ h.1,
         n ∙ ap (λ z. next z line) h.2 ∙ sym (after-append first h.0 (line ∷ [])),
         subst (λ z. Appends old new z)
-          (ap (λ z. replies reply next first h.0 ++ z) (t ∙ ap (λ z. reply z line) h.2 ∙ sym (append-nil (reply (after next first h.0) line))) ∙ sym (replies-append first h.0 (line ∷ [])))
-          (Appends-more old mid new (replies reply next first h.0) text h.3 w),
+            (ap (λ z. replies reply next first h.0 ++ z) (t ∙ ap (λ z. reply z line) h.2 ∙ sym (append-nil (reply (after next first h.0) line))) ∙ sym (replies-append first h.0 (line ∷ [])))
+            (Appends-more old mid new (replies reply next first h.0) text h.3 w),
       )
 
   -- a run that ends before its input does
@@ -89,8 +89,8 @@ module _ {S : Type 0} (reply : S → List ℕ → List ℕ) (next : S → List �
       w.1,
       Appends-more old mid new (replies reply next first h.0) w.0 h.3 w.2,
       append_assoc (replies reply next first h.0) w.0 w.1
-        ∙ ap (λ z. replies reply next first h.0 ++ z) (w.3 ∙ t ∙ ap (λ z. reply z line) h.2 ∙ sym (append-nil (reply (after next first h.0) line)))
-        ∙ sym (replies-append first h.0 (line ∷ [])),
+          ∙ ap (λ z. replies reply next first h.0 ++ z) (w.3 ∙ t ∙ ap (λ z. reply z line) h.2 ∙ sym (append-nil (reply (after next first h.0) line)))
+          ∙ sym (replies-append first h.0 (line ∷ [])),
     ),
     λ other. absurd (other refl),
   )
@@ -105,7 +105,7 @@ module _ {S : Type 0} (reply : S → List ℕ → List ℕ) (next : S → List �
     h.4.1 ++ replies reply next (after next first h.0) h.1,
     h.4.2,
     sym (append_assoc h.4.0 h.4.1 (replies reply next (after next first h.0) h.1))
-      ∙ ap (λ z. z ++ replies reply next (after next first h.0) h.1) h.4.3
-      ∙ sym (replies-append first h.0 h.1)
-      ∙ ap (replies reply next first) h.2,
+        ∙ ap (λ z. z ++ replies reply next (after next first h.0) h.1) h.4.3
+        ∙ sym (replies-append first h.0 h.1)
+        ∙ ap (replies reply next first) h.2,
   )

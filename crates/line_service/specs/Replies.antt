@@ -28,5 +28,5 @@ AppendsBeginning old new text = (written : List ℕ) × (left : List ℕ) × App
 abbrev pub EndsEarly : {S : Type 0} → (S → List ℕ → List ℕ) → (S → List ℕ → S) → RunFault → S → S → Option (List ℕ) → Option (List ℕ) → List (List ℕ) → Type 0
 EndsEarly reply next why first last old new lines =
     (answered : List (List ℕ)) × (left : List (List ℕ)) × (answered ++ left ≡ lines) × (last ≡ after next first answered)
-        × AppendsBeginning old new (replies reply next first answered)
-        × (why ≢ fault.Write → Appends old new (replies reply next first answered))
+    × AppendsBeginning old new (replies reply next first answered)
+    × (why ≢ fault.Write → Appends old new (replies reply next first answered))
