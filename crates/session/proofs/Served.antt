@@ -1,6 +1,5 @@
 -- What a served request says of its outcome.
-use Rattle.std.proofs.Common.{◌≡◌, ℕ, List, [], ◌∷◌, ◌++◌, Bool, false, Option, Result, Ok, Err, IfSome, decimal, option_map, string_bytes, ap, ap₂, sym, subst}
-use Rattle.serde_json.specs.Written.{compact_text}
+use Rattle.std.proofs.Common.{◌≡◌, ℕ, List, [], ◌∷◌, ◌++◌, false, Option, Ok, IfSome, decimal, option_map, string_bytes, ap, ap₂, sym, subst}
 use Rattle.definitions.proofs.Limits.{room}
 use Rattle.definitions.specs.History.{History, members, present}
 use Rattle.definitions.specs.Lines.{outcome, reply_text}
@@ -9,7 +8,7 @@ use Rattle.definitions.specs.Verbs.{Answer, Outcome, Request, answered, refused,
 use Rattle.meta.specs.Writes.{write_of}
 use Rattle.meta.specs.declared.writes.Write.{Write}
 use Rattle.reply.specs.declared.reply.Reply.{Reply}
-use Rattle.verbs.specs.Requests.{Answers, Serves}
+use Rattle.verbs.specs.Requests.{Serves}
 
 pub served-write : (o : Outcome) (r : Reply) (w : Option Write) → Serves o (Ok (r, w)) → option_map write_of w ≡ verbs.write_of o
 served-write (answered a) r w is = is.write

@@ -1,5 +1,5 @@
 -- What a watch from a revision to come is refused.
-use Rattle.std.proofs.Common.{◌≡◌, ◌≤◌, ◌<◌, ◌⊎◌, ℕ, inl, inr, cond, nat_lt, true, Ok, Err, ap, ap₂, sym, ◌∙◌}
+use Rattle.std.proofs.Common.{◌≡◌, ◌≤◌, ◌<◌, ◌⊎◌, ℕ, inl, inr, cond, nat_lt, true, Ok, Err, ap, sym, ◌∙◌}
 use Rattle.std.proofs.lemmas.Bool.{lt-ltb}
 use Rattle.definitions.specs.Changes.{changes, changes_since}
 use Rattle.definitions.specs.History.{History, View, present}
