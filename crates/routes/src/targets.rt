@@ -1,6 +1,6 @@
 //! What a path names.
 ghost use Rattle.std.specs.Prelude.{◌≡◌, option_map, option_and_then};
-ghost use Rattle.definitions.specs.Targets.{served_named, collection, route_of, object_form, status_form};
+ghost use Rattle.definitions.specs.Targets.{served_named, collection, status_of, with_status, route_of, object_form, status_form};
 ghost use Rattle.routes.specs.Seen.{now, route_seen, assembled};
 
 use crate::entries::{Entry, Layout};
@@ -63,7 +63,14 @@ fn object<'p>(group: Group, resource: &str, namespace: &'p str, name: &'p str) -
 fn status<'p>(group: Group, resource: &str, namespace: &'p str, name: &'p str) -> Option<Target<'p>>
     ensures { option_map route_seen result ≡ route_of (status_form group namespace.now resource.now name.now) }
 {
-    let kind = served_named(group, resource)?;
+    status_of(served_named(group, resource)?, namespace, name)
+}
+
+/// The status of an object, where its kind has one: said for each kind, also for those that are not served yet.
+fn status_of<'p>(kind: Kind, namespace: &'p str, name: &'p str) -> Option<Target<'p>>
+    ensures { option_map route_seen result
+        ≡ option_map (λ k. status_of (record { kind = k; namespace = namespace.now; name = name.now })) (with_status kind) }
+{
     if !kind.has_status() {
         return None;
     }
