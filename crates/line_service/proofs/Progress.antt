@@ -1,5 +1,5 @@
 -- What has been written, and what is still to come.
-use Rattle.std.proofs.Common.{◌≡◌, ℕ, ◌<◌, List, [], ◌∷◌, ◌++◌, length, Option, Some, None, IfSome, refl, sym, ap, subst, ◌∙◌, append_assoc}
+use Rattle.std.proofs.Common.{◌≡◌, ◌≢◌, ℕ, ◌<◌, List, [], ◌∷◌, ◌++◌, length, Option, Some, None, IfSome, refl, sym, ap, subst, ◌∙◌, append_assoc}
 use Rattle.std.proofs.lemmas.List.{append-nil}
 use Rattle.std.specs.Option.{IsSomeAnd}
 use Rattle.std.specs.Io.KnownBytes.{Appends, Keeps}
@@ -8,6 +8,13 @@ use Rattle.line_service.specs.Replies.{lines_of, replies, after, AppendsBeginnin
 use Rattle.line_service.specs.declared.fault.RunFault.{RunFault}
 use Rattle.line_service.specs.declared.fault.RunFault.TheVariants as fault
 use Rattle.line_service.proofs.Cutting.{first_read}
+
+-- want of memory and a failing reader are no failing writer
+pub want-other : fault.Want ≢ fault.Write
+want-other e = cc
+
+pub read-other : fault.Read ≢ fault.Write
+read-other e = cc
 
 -- one text after another
 pub Appends-more : (old mid new : Option (List ℕ)) (xs ys : List ℕ) → Appends old mid xs → Appends mid new ys → Appends old new (xs ++ ys)
@@ -64,12 +71,12 @@ module _ {S : Type 0} (reply : S → List ℕ → List ℕ) (next : S → List �
       )
 
   -- a run that ends before its input does
-  pub IsUnderWay-stopped : (first : S) (read left old new : Option (List ℕ)) (s : S) (why : RunFault) → IsUnderWay first read left old new s
+  pub IsUnderWay-stopped : (first : S) (read left old new : Option (List ℕ)) (s : S) (why : RunFault) → why ≢ fault.Write → IsUnderWay first read left old new s
       → IfSome read (λ input. EndsEarly reply next why first s old new (lines_of input))
-  IsUnderWay-stopped first None left old new s why h = tt
-  IsUnderWay-stopped first (Some input) None old new s why h = absurd h
-  IsUnderWay-stopped first (Some input) (Some rest) old new s why h =
-      (h.0, lines_of rest, h.1, h.2, (replies reply next first h.0, [], h.3, append-nil (replies reply next first h.0)), λ _. h.3)
+  IsUnderWay-stopped first None left old new s why other h = tt
+  IsUnderWay-stopped first (Some input) None old new s why other h = absurd h
+  IsUnderWay-stopped first (Some input) (Some rest) old new s why other h =
+      (h.0, lines_of rest, h.1, h.2, (replies reply next first h.0, [], h.3, append-nil (replies reply next first h.0)), λ _. h.3, λ e. absurd (other e))
 
   -- a run in which a reply was not written whole
   pub IsUnderWay-cut : (first : S) (read left left' old mid new : Option (List ℕ)) (s s' : S) (line text : List ℕ)
@@ -93,6 +100,15 @@ module _ {S : Type 0} (reply : S → List ℕ → List ℕ) (next : S → List �
           ∙ sym (replies-append first h.0 (line ∷ [])),
     ),
     λ other. absurd (other refl),
+    λ _. (
+      h.0,
+      line,
+      w.0,
+      w.1,
+      refl,
+      Appends-more old mid new (replies reply next first h.0) w.0 h.3 w.2,
+      w.3 ∙ t ∙ ap (λ z. reply z line) h.2,
+    ),
   )
 
   -- of such a run a beginning of all the replies was written

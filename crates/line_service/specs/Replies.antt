@@ -24,9 +24,17 @@ after next s (line ∷ lines) = after next (next s line) lines
 abbrev pub AppendsBeginning : Option (List ℕ) → Option (List ℕ) → List ℕ → Type 0
 AppendsBeginning old new text = (written : List ℕ) × (left : List ℕ) × Appends old new written × (written ++ left ≡ text)
 
--- some of the lines, from the first on, were answered and no others, and a beginning of their replies was appended: all of them, unless writing failed
+-- the replies to all but the last of these lines were written whole, and a beginning of the last one's
+abbrev pub IsCutAtLast : {S : Type 0} → (S → List ℕ → List ℕ) → (S → List ℕ → S) → S → Option (List ℕ) → Option (List ℕ) → List (List ℕ) → Type 0
+IsCutAtLast reply next first old new answered =
+    (before : List (List ℕ)) × (line : List ℕ) × (written : List ℕ) × (left : List ℕ) × (answered ≡ before ++ (line ∷ []))
+    × Appends old new (replies reply next first before ++ written) × (written ++ left ≡ reply (after next first before) line)
+
+-- some of the lines, from the first on, were answered and no others, and a beginning of their replies was appended: all of them, unless writing failed;
+-- then all but the last one's were written whole
 abbrev pub EndsEarly : {S : Type 0} → (S → List ℕ → List ℕ) → (S → List ℕ → S) → RunFault → S → S → Option (List ℕ) → Option (List ℕ) → List (List ℕ) → Type 0
 EndsEarly reply next why first last old new lines =
     (answered : List (List ℕ)) × (left : List (List ℕ)) × (answered ++ left ≡ lines) × (last ≡ after next first answered)
     × AppendsBeginning old new (replies reply next first answered)
     × (why ≢ fault.Write → Appends old new (replies reply next first answered))
+    × (why ≡ fault.Write → IsCutAtLast reply next first old new answered)

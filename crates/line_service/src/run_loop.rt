@@ -30,6 +30,7 @@ fn without_newline(line: &[u8]) -> &[u8]
 fn unread(error: &io::Error) -> RunFault
     ensures want { error_kind error.now ≡ ErrorKind.OutOfMemory → result ≡ RunFault.Want }
     ensures read { error_kind error.now ≢ ErrorKind.OutOfMemory → result ≡ RunFault.Read }
+    ensures reader { result ≢ RunFault.Write }
 {
     if error.kind() == ErrorKind::OutOfMemory {
         RunFault::Want
@@ -94,7 +95,8 @@ fn send<W: Write>(writer: &mut W, reply: &[u8]) -> Result<(), RunFault>
 /// for the next.
 ///
 /// At an error a beginning of all the replies was written. The service has answered some of the lines, from the first
-/// on, and no others; their replies were written whole, unless it was the writer that failed.
+/// on, and no others; their replies were written whole, unless it was the writer that failed: then those of all but the
+/// last were.
 pub fn run<S: LineService, R: BufRead, W: Write>(
     alloc: Global,
     service: &mut S,

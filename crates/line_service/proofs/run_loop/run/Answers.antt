@@ -1,6 +1,6 @@
 use Rattle.std.proofs.Common.{◌≡◌, ◌<◌, length, IfSome, arith, rules}
 use Rattle.std.specs.Io.BufRead.{take_through, strip_last}
-use Rattle.line_service.proofs.Progress.{IsUnderWay-step, IsUnderWay-stopped, IsUnderWay-cut, EndsEarly-begun, first_line_read}
+use Rattle.line_service.proofs.Progress.{IsUnderWay-step, IsUnderWay-stopped, IsUnderWay-cut, EndsEarly-begun, first_line_read, want-other, read-other}
 use Rattle.std.proofs.lemmas.Result.{err_from_is_err_and}
 use Rattle.line_service.proofs.run_loop.run.Goals as goal
 
@@ -18,7 +18,7 @@ loop-preserved g c =
 
 pub returns-in-Err-clause-ended : goal.returns-in-Err-clause-ended
 returns-in-Err-clause-ended g c =
-    IsUnderWay-stopped g.S.LineService.reply g.S.LineService.next _ _ (g.R.Read.remaining c.loop.reader) _ _ c.loop.service _ c.loop.invariant
+    IsUnderWay-stopped g.S.LineService.reply g.S.LineService.next _ _ (g.R.Read.remaining c.loop.reader) _ _ c.loop.service _ c.unread.ensures.reader c.loop.invariant
 
 pub returns-in-Err-clause-err : goal.returns-in-Err-clause-err
 returns-in-Err-clause-err g c =
@@ -26,7 +26,7 @@ returns-in-Err-clause-err g c =
 
 pub returns-in-Err-serve-clause-ended : goal.returns-in-Err-serve-clause-ended
 returns-in-Err-serve-clause-ended g c =
-    rw c.in-Err-serve.ensures.err (IsUnderWay-stopped g.S.LineService.reply g.S.LineService.next _ _ (g.R.Read.remaining c.loop.reader) _ _ c.loop.service _ c.loop.invariant)
+    rw c.in-Err-serve.ensures.err (IsUnderWay-stopped g.S.LineService.reply g.S.LineService.next _ _ (g.R.Read.remaining c.loop.reader) _ _ c.loop.service _ want-other c.loop.invariant)
 
 pub returns-in-Err-serve-clause-err : goal.returns-in-Err-serve-clause-err
 returns-in-Err-serve-clause-err g c =
@@ -55,7 +55,7 @@ returns-in_err-send-clause-err g c =
 
 pub returns-clause-ended : goal.returns-clause-ended
 returns-clause-ended g c =
-    IsUnderWay-stopped g.S.LineService.reply g.S.LineService.next _ _ (g.R.Read.remaining c.loop.reader) _ _ c.loop.service _ c.loop.invariant
+    IsUnderWay-stopped g.S.LineService.reply g.S.LineService.next _ _ (g.R.Read.remaining c.loop.reader) _ _ c.loop.service _ read-other c.loop.invariant
 
 pub returns-clause-err : goal.returns-clause-err
 returns-clause-err g c =
