@@ -1,25 +1,30 @@
 -- What follows where no check finds a fault.
-use Rattle.std.proofs.Common.{◌≡◌, inl, inr, ◌≤◌, ◌^◌, ℕ, List, [], ◌∷◌, Bool, true, false, cond, not, ◌&&◌, ◌||◌, length, nat_le, nat_lt, Option, Some, None, is_some, unwrap_or, option_and_then, codes, refl, sym, ap, ◌∙◌, arith}
+use Rattle.std.proofs.Common.{◌≡◌, IfSome, subst, inl, inr, ◌≤◌, ◌^◌, ℕ, List, [], ◌∷◌, Bool, true, false, cond, not, ◌&&◌, ◌||◌, length, nat_le, nat_lt, Option, Some, None, is_some, unwrap_or, option_and_then, codes, refl, sym, ap, ◌∙◌, arith}
 use Rattle.std.proofs.lemmas.Bool.Decides.{nat_tests}
 use Rattle.std.specs.Prelude.{decimal}
 use Rattle.std.specs.List.{list_all}
 use Rattle.std.specs.Str.{bytes_eq}
-use Rattle.serde_json.specs.Data.{Data, null, boolean, number, string, array, object, put, no_items}
+use Rattle.serde_json.specs.Data.{Data, null, boolean, number, string, array, object, Members, put, no_items}
 use Rattle.serde_json.specs.Find.{get, get_member, as_str, as_array}
-use Rattle.serde_json.proofs.Views.{get_member-put_other}
+use Rattle.serde_json.proofs.Views.{get_member-put, get_member-put_other}
 use Rattle.definitions.specs.declared.kinds.Kind.{Kind}
 use Rattle.definitions.specs.declared.kinds.Kind.TheVariants.{ConfigMap, Pod, ReplicaSet, Deployment}
 use Rattle.definitions.specs.declared.refusals.Field.{Field}
 use Rattle.definitions.specs.CheckLaws.{HasTemplate, SelectsItsTemplate, CreatedSelectTheirTemplates, UpdatedSelectTheirTemplates, StoredPassAgain}
-use Rattle.definitions.specs.Checks.{Check, first_fault, checks, checks_of, in_spec, requirements, if_ok, is_template, is_template_valid, are_labels, are_labels_valid, is_selector_valid, adds_no_finalizer, is_selector_kept, is_known_uid, is_not_empty, is_owner, are_owners_valid, controllers, generate_name, is_name, is_name_valid, generates, passes_if_there, is_generate_name_valid, are_finalizers_valid, is_finalizer, text_is, is_status_valid, is_not_negative, counts, is_strategy}
+use Rattle.definitions.specs.Checks.{is_generating_byte, Check, first_fault, checks, checks_of, in_spec, requirements, if_ok, is_template, is_template_valid, are_labels, are_labels_valid, is_selector_valid, adds_no_finalizer, is_selector_kept, is_known_uid, is_not_empty, is_owner, are_owners_valid, controllers, generate_name, is_name, is_name_valid, generates, passes_if_there, is_generate_name_valid, are_finalizers_valid, is_finalizer, text_is, is_status_valid, is_not_negative, counts, is_strategy}
 use Rattle.definitions.specs.Labels.{labels_of}
 use Rattle.definitions.specs.Metadata.{Owner, metadata, metadata_of, name, owners, owners_in}
 use Rattle.definitions.specs.Selectors.{Requirement, meets_all}
 use Rattle.definitions.specs.SelectorValues.{all_items, items_in, passes, said_by_value}
 use Rattle.definitions.specs.Uids.{uid_text, uid_revision, cluster_word}
 use Rattle.definitions.specs.Values.{inner_of, members_of, without}
-use Rattle.definitions.specs.Verbs.{created}
+use Rattle.definitions.specs.NewObjects.{created, first_status, new_metadata, with_generation, with_status}
+use Rattle.definitions.specs.Defaults.{whole}
+use Rattle.definitions.specs.Kinds.{has_generation}
+use Rattle.definitions.specs.Names.{is_subdomain}
+use Rattle.definitions.proofs.HeldMembers.{text-at_revision, name-new_metadata}
 use Rattle.definitions.proofs.JsonMembers.{apart, get_member-without_other, metadata_of-with}
+use Rattle.definitions.proofs.WholeObjects.{get-members_of}
 
 abbrev pub AllMet : List Check → Type 0
 AllMet [] = Unit {0}
@@ -119,65 +124,78 @@ module _ (present later : ℕ) (le : present ≤ later) where
   owned_later : (d : Data) → are_owners_valid present d ≡ true → are_owners_valid later d ≡ true
   owned_later d h = and_first (list_all (is_owner present) (owners d)) (list_all (is_owner later) (owners d)) (nat_le (controllers (owners d)) 1) (owners_later (owners d)) h
 
-get-members_of : (k : List ℕ) (d : Data) → get_member k (members_of d) ≡ get k d
-get-members_of k null = refl
-get-members_of k (boolean b) = refl
-get-members_of k (number n) = refl
-get-members_of k (string s) = refl
-get-members_of k (array ds) = refl
-get-members_of k (object ms) = refl
+-- the name under which it is created is valid
+by_generated : (under : List ℕ) (g : Option (List ℕ)) → is_some g ≡ true → passes_if_there (generates under) g ≡ true → is_subdomain under ≡ true
+by_generated under None h p = cc
+by_generated under (Some t) h p = and-second (list_all is_generating_byte t) (is_subdomain under) p
 
-is_name_alike : (o : Option (List ℕ)) (d e : Data) → generate_name d ≡ generate_name e → is_name o d ≡ is_name o e
-is_name_alike None d e h = ap is_some h
-is_name_alike (Some n) d e h = refl
+by_name : (under : List ℕ) (o : Option (List ℕ)) (d : Data) → IfSome o (λ n. n ≡ under) → is_name o d ≡ true → (is_some o || passes_if_there (generates under) (generate_name d)) ≡ true
+    → is_subdomain under ≡ true
+by_name under None d is valid made = by_generated under (generate_name d) valid made
+by_name under (Some n) d is valid made = subst (λ t. is_subdomain t ≡ true) is valid
 
-module _ (r : ℕ) (ns moment : List ℕ) (d : Data) where
+get-generation : (q : List ℕ) (b : Bool) (ms : Members) → bytes_eq q (codes "generation") ≡ false → get_member q (cond b (put (codes "generation") (whole 1) ms) ms) ≡ get_member q ms
+get-generation q true ms other = get_member-put_other q (codes "generation") (whole 1) ms (apart q (codes "generation") other)
+get-generation q false ms other = refl
+
+get-status : (q : List ℕ) (s : Option Data) (ms : Members) → bytes_eq q (codes "status") ≡ false → get_member q (with_status s ms) ≡ get_member q ms
+get-status q None ms other = refl
+get-status q (Some s) ms other = get_member-put_other q (codes "status") s ms (apart q (codes "status") other)
+
+module _ (k : Kind) (r : ℕ) (ns under moment : List ℕ) (d : Data) where
   abbrev made_of : Data
-  made_of = created r ns moment d
+  made_of = created k r ns under moment d
 
   -- a member of the metadata that the server does not set
   same : (q : List ℕ) → bytes_eq q (codes "resourceVersion") ≡ false → bytes_eq q (codes "uid") ≡ false → bytes_eq q (codes "creationTimestamp") ≡ false
-      → bytes_eq q (codes "namespace") ≡ false → bytes_eq q (codes "deletionTimestamp") ≡ false → metadata q made_of ≡ metadata q d
-  same q a b c e f =
+      → bytes_eq q (codes "namespace") ≡ false → bytes_eq q (codes "name") ≡ false → bytes_eq q (codes "generation") ≡ false → bytes_eq q (codes "deletionTimestamp") ≡ false
+      → metadata q made_of ≡ metadata q d
+  same q a b c e f g h =
       let m1 = without (codes "deletionTimestamp") (metadata_of d) in
-      let m2 = put (codes "namespace") (string ns) m1 in
-      let m3 = put (codes "creationTimestamp") (string moment) m2 in
-      let m4 = put (codes "uid") (string (uid_text cluster_word r)) m3 in
-      let m5 = put (codes "resourceVersion") (string (decimal r)) m4 in
-      ap (get_member q) (metadata_of-with m5 d)
-      ∙ get_member-put_other q (codes "resourceVersion") (string (decimal r)) m4 (apart q (codes "resourceVersion") a)
-      ∙ get_member-put_other q (codes "uid") (string (uid_text cluster_word r)) m3 (apart q (codes "uid") b)
-      ∙ get_member-put_other q (codes "creationTimestamp") (string moment) m2 (apart q (codes "creationTimestamp") c)
-      ∙ get_member-put_other q (codes "namespace") (string ns) m1 (apart q (codes "namespace") e)
-      ∙ get_member-without_other q (codes "deletionTimestamp") (metadata_of d) f
+      let m2 = with_generation k m1 in
+      let m3 = put (codes "name") (string under) m2 in
+      let m4 = put (codes "namespace") (string ns) m3 in
+      let m5 = put (codes "creationTimestamp") (string moment) m4 in
+      let m6 = put (codes "uid") (string (uid_text cluster_word r)) m5 in
+      let m7 = put (codes "resourceVersion") (string (decimal r)) m6 in
+      ap (get_member q) (metadata_of-with m7 (object (with_status (first_status k) (members_of d))))
+      ∙ get_member-put_other q (codes "resourceVersion") (string (decimal r)) m6 (apart q (codes "resourceVersion") a)
+      ∙ get_member-put_other q (codes "uid") (string (uid_text cluster_word r)) m5 (apart q (codes "uid") b)
+      ∙ get_member-put_other q (codes "creationTimestamp") (string moment) m4 (apart q (codes "creationTimestamp") c)
+      ∙ get_member-put_other q (codes "namespace") (string ns) m3 (apart q (codes "namespace") e) ∙ get_member-put_other q (codes "name") (string under) m2 (apart q (codes "name") f)
+      ∙ get-generation q (has_generation k) m1 g ∙ get_member-without_other q (codes "deletionTimestamp") (metadata_of d) h
 
-  -- what is not metadata
-  same_part : (q : List ℕ) → bytes_eq q (codes "metadata") ≡ false → get q made_of ≡ get q d
-  same_part q a = get_member-put_other q (codes "metadata") _ (members_of d) (apart q (codes "metadata") a) ∙ get-members_of q d
+  -- the name that is set
+  name_is : name made_of ≡ Some under
+  name_is =
+      text-at_revision (codes "name") r (new_metadata k r ns under moment (metadata_of d)) (object (with_status (first_status k) (members_of d))) refl
+      ∙ name-new_metadata k r ns under moment (metadata_of d)
 
-  names : is_name_valid made_of ≡ is_name_valid d
-  names =
-      ap (λ m. is_name (option_and_then as_str m) made_of) (same (codes "name") refl refl refl refl refl)
-      ∙ is_name_alike (name d) made_of d (ap (option_and_then as_str) (same (codes "generateName") refl refl refl refl refl))
+  -- what is not metadata, nor a status
+  same_part : (q : List ℕ) → bytes_eq q (codes "metadata") ≡ false → bytes_eq q (codes "status") ≡ false → get q made_of ≡ get q d
+  same_part q a b =
+      get_member-put_other q (codes "metadata") _ (with_status (first_status k) (members_of d)) (apart q (codes "metadata") a) ∙ get-status q (first_status k) (members_of d) b
+      ∙ sym (get-members_of q d)
 
-  generated : (made : List ℕ) → is_generate_name_valid made made_of ≡ is_generate_name_valid made d
-  generated made =
-      ap (λ m. is_some (option_and_then as_str m) || passes_if_there (generates made) (generate_name made_of)) (same (codes "name") refl refl refl refl refl)
-      ∙ ap (λ m. is_some (name d) || passes_if_there (generates made) (option_and_then as_str m)) (same (codes "generateName") refl refl refl refl refl)
+  names : is_subdomain under ≡ true → is_name_valid made_of ≡ true
+  names valid = ap (λ o. is_name o made_of) name_is ∙ valid
+
+  generated : is_generate_name_valid under made_of ≡ true
+  generated = ap (λ o. is_some o || passes_if_there (generates under) (generate_name made_of)) name_is
 
   labels : are_labels_valid made_of ≡ are_labels_valid d
-  labels = ap (λ m. are_labels (inner_of m)) (same (codes "labels") refl refl refl refl refl)
+  labels = ap (λ m. are_labels (inner_of m)) (same (codes "labels") refl refl refl refl refl refl refl)
 
   ends : (are_finalizers_valid made_of && true) ≡ (are_finalizers_valid d && true)
-  ends = ap (λ m. all_items (text_is is_finalizer) (items_in m) && true) (same (codes "finalizers") refl refl refl refl refl)
+  ends = ap (λ m. all_items (text_is is_finalizer) (items_in m) && true) (same (codes "finalizers") refl refl refl refl refl refl refl)
 
   owned : (present : ℕ) → are_owners_valid present made_of ≡ are_owners_valid present d
   owned present =
       ap (λ m. let os = owners_in (unwrap_or (option_and_then as_array m) no_items) in list_all (is_owner present) os && nat_le (controllers os) 1)
-      (same (codes "ownerReferences") refl refl refl refl refl)
+      (same (codes "ownerReferences") refl refl refl refl refl refl refl)
 
   in_spec_same : (q : List ℕ) → in_spec q made_of ≡ in_spec q d
-  in_spec_same q = ap (option_and_then (get q)) (same_part (codes "spec") refl)
+  in_spec_same q = ap (option_and_then (get q)) (same_part (codes "spec") refl refl)
 
   said_same : requirements made_of ≡ requirements d
   said_same = ap (option_and_then (λ s. if_ok (said_by_value s))) (in_spec_same (codes "selector"))
@@ -188,43 +206,49 @@ module _ (r : ℕ) (ns moment : List ℕ) (d : Data) where
   template : is_template_valid made_of ≡ is_template_valid d
   template = ap (λ o. is_template o (in_spec (codes "template") made_of)) said_same ∙ ap (is_template (requirements d)) (in_spec_same (codes "template"))
 
-  status : (k : Kind) → is_status_valid k made_of ≡ is_status_valid k d
-  status k = ap (λ m. list_all (λ count. is_not_negative (option_and_then (get count) m)) (counts k)) (same_part (codes "status") refl)
+-- the status of a new object counts nothing below 0
+status_is : (k : Kind) (s : Data) (r : ℕ) (ns under moment : List ℕ) (d : Data) → first_status k ≡ Some s → get (codes "status") (created k r ns under moment d) ≡ Some s
+status_is k s r ns under moment d is =
+    get_member-put_other (codes "status") (codes "metadata") _ (with_status (first_status k) (members_of d)) (apart (codes "status") (codes "metadata") refl)
+    ∙ ap (λ o. get_member (codes "status") (with_status o (members_of d))) is ∙ get_member-put (codes "status") s (members_of d)
 
-  kind_met : (k : Kind) → AllMet (checks_of k true d) → AllMet (checks_of k true made_of)
-  kind_met ConfigMap m = tt
-  kind_met Pod m = tt
-  kind_met ReplicaSet m =
-      (ap is_not_negative (in_spec_same (codes "replicas")) ∙ m.0, (selector ∙ m.1.0, (template ∙ m.1.1.0, (status ReplicaSet ∙ m.1.1.1.0, tt))))
-  kind_met Deployment m = (
-    ap is_not_negative (in_spec_same (codes "replicas")) ∙ m.0,
-    (
-      selector ∙ m.1.0,
+kind_met : (k : Kind) (r : ℕ) (ns under moment : List ℕ) (d : Data) → AllMet (checks_of k true d) → AllMet (checks_of k true (created k r ns under moment d))
+kind_met ConfigMap r ns under moment d m = tt
+kind_met Pod r ns under moment d m = tt
+kind_met ReplicaSet r ns under moment d m =
+    let status = ap (λ o. list_all (λ count. is_not_negative (option_and_then (get count) o)) (counts ReplicaSet)) (status_is ReplicaSet _ r ns under moment d refl) in (
+      ap is_not_negative (in_spec_same ReplicaSet r ns under moment d (codes "replicas")) ∙ m.0,
+      (selector ReplicaSet r ns under moment d ∙ m.1.0, (template ReplicaSet r ns under moment d ∙ m.1.1.0, (status, tt))),
+    )
+kind_met Deployment r ns under moment d m =
+    let status = ap (λ o. list_all (λ count. is_not_negative (option_and_then (get count) o)) (counts Deployment)) (status_is Deployment _ r ns under moment d refl) in
+    let in_made = in_spec_same Deployment r ns under moment d in (
+      ap is_not_negative (in_made (codes "replicas")) ∙ m.0,
       (
-        template ∙ m.1.1.0,
+        selector Deployment r ns under moment d ∙ m.1.0,
         (
-          ap (passes is_strategy) (in_spec_same (codes "strategy")) ∙ m.1.1.1.0,
+          template Deployment r ns under moment d ∙ m.1.1.0,
           (
-            ap is_not_negative (in_spec_same (codes "revisionHistoryLimit")) ∙ m.1.1.1.1.0,
-            (status Deployment ∙ m.1.1.1.1.1.0, tt),
+            ap (passes is_strategy) (in_made (codes "strategy")) ∙ m.1.1.1.0,
+            (ap is_not_negative (in_made (codes "revisionHistoryLimit")) ∙ m.1.1.1.1.0, (status, tt)),
           ),
         ),
       ),
-    ),
-  )
+    )
 
 pub stored_pass : StoredPassAgain
-stored_pass k made present later r ns moment d le h =
-    let m = all_met (checks k made present true true d) h in
-    no_fault (checks k made later true true (created r ns moment d)) (
-      names r ns moment d ∙ m.0,
+stored_pass k under present later r ns moment d le is h =
+    let m = all_met (checks k under present true true d) h in
+    let valid = by_name under (name d) d is m.0 m.1.0 in
+    no_fault (checks k under later true true (created k r ns under moment d)) (
+      names k r ns under moment d valid,
       (
-        generated r ns moment d made ∙ m.1.0,
+        generated k r ns under moment d,
         (
-          labels r ns moment d ∙ m.1.1.0,
+          labels k r ns under moment d ∙ m.1.1.0,
           (
-            ends r ns moment d ∙ m.1.1.1.0,
-            (owned r ns moment d later ∙ owned_later present later le d m.1.1.1.1.0, kind_met r ns moment d k m.1.1.1.1.1),
+            ends k r ns under moment d ∙ m.1.1.1.0,
+            (owned k r ns under moment d later ∙ owned_later present later le d m.1.1.1.1.0, kind_met k r ns under moment d m.1.1.1.1.1),
           ),
         ),
       ),

@@ -6,6 +6,8 @@ pub mod DefaultsRead
 pub mod Due
 pub mod Expected
 pub mod Falling
+pub mod Guards
+pub mod HeldMembers
 pub mod JsonMembers
 pub mod JsonOrder
 pub mod Limits
@@ -33,3 +35,4 @@ pub mod TaskOrder
 pub mod TextLengths
 pub mod Uids
 pub mod VerbLaws
+pub mod WholeObjects

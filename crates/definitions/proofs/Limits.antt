@@ -9,15 +9,15 @@ use Rattle.definitions.specs.Laws.{BodiesFit, RunsStayWithinLimits, WritesHaveRo
 use Rattle.definitions.specs.Lines.{start}
 use Rattle.definitions.specs.Names.{Name, name_cmp}
 use Rattle.definitions.specs.History.{History, Write, write, writes, up_to, Members, after, after_all, put_or_remove, members, found, present}
-use Rattle.definitions.specs.Reading.{reading}
 use Rattle.definitions.specs.Refusals.{too_large}
 use Rattle.definitions.specs.Targets.{Asked, asks_with, data_of}
-use Rattle.definitions.specs.Verbs.{Request, get_object, list_objects, create_object, update_object, update_status, patch_object, delete_object, accept, shown, new_name, created, updated, with_write, write_of, overflows, most_objects, is_past_greatest}
-use Rattle.definitions.proofs.Cases.{there, of_create, of_update}
+use Rattle.definitions.specs.Verbs.{Request, accept, new_name, with_write, write_of, overflows, most_objects, is_past_greatest}
+use Rattle.definitions.proofs.Cases.{of_accept}
 use Rattle.definitions.proofs.Past.{writes-append, whole}
 use Rattle.definitions.proofs.PutLaws.{IsAscending, IsAbove-below, none_above, name_cmp_total, IsAscending-after_all}
 use Rattle.definitions.proofs.Runs.{by_lines}
-use Rattle.definitions.proofs.VerbLaws.{present-write, at_most}
+use Rattle.definitions.proofs.HeldMembers.{at_most}
+use Rattle.definitions.proofs.VerbLaws.{present-write}
 
 body_at : (b : Bool) (f : Data → Request) (text : List ℕ) (q : Asked) → nat_lt 1048576 (length text) ≡ b → cond b (Err too_large) (asks_with f (data_of text)) ≡ Ok q → length text ≤ 1048576
 body_at true f text q at is = cc
@@ -128,22 +128,22 @@ held_room a b None d is low = cc
 held_room true b (Some e) d is low = low
 held_room false b (Some e) d is low = low
 
+room_of : (a b c : Bool) → (a || b) ≡ false → ((a && true && not c) || b) ≡ false
+room_of true b c h = cc
+room_of false b c h = h
+
+gone_room : (a b c : Bool) → b ≡ false → ((a && false && c) || b) ≡ false
+gone_room true b c h = h
+gone_room false b c h = h
+
 pub room : WritesHaveRoom
-room (get_object k) h moment = there (λ o. IfSome (write_of o) (λ w. overflows (members h (present h)) (present h) w ≡ false)) (λ f. tt) k shown (found k (members h (present h))) (λ d is. tt)
-room (list_objects v) h moment = tt
-room (create_object kind ns d) h moment =
-    of_create (λ o. IfSome (write_of o) (λ w. overflows (members h (present h)) (present h) w ≡ false)) (λ f. tt) kind ns (reading kind d) (members h (present h)) (present h) moment
-    (λ o fits free left. room_of (nat_le most_objects (length (members h (present h)))) (is_past_greatest (present h + 1)) (is_some (found (new_name kind ns o) (members h (present h)))) left)
-  where
-    room_of : (a b c : Bool) → (a || b) ≡ false → ((a && true && not c) || b) ≡ false
-    room_of true b c h = cc
-    room_of false b c h = h
-room (update_object k d) h moment =
-    of_update (λ o. IfSome (write_of o) (λ w. overflows (members h (present h)) (present h) w ≡ false)) (λ f. tt) k (reading k.kind d) (members h (present h)) (present h)
-    (λ o held is at equal fits low. held_room (nat_le most_objects (length (members h (present h))) && true) (is_past_greatest (present h + 1)) (found k (members h (present h))) held at low)
-room (update_status k d) h moment = tt
-room (patch_object k d) h moment = tt
-room (delete_object k d) h moment = tt
+room q h moment =
+    let ms = members h (present h) in
+    let full = nat_le most_objects (length ms) in
+    let last = is_past_greatest (present h + 1) in
+    of_accept (λ o. IfSome (write_of o) (λ w. overflows (members h (present h)) (present h) w ≡ false)) (λ f. tt) (λ code body. tt) q h moment
+    (λ kind ns o fits free left. room_of full last (is_some (found (new_name kind ns o ms (present h)) ms)) left) (λ k o held at fits low. held_room (full && true) last (found k ms) held at low)
+    (λ k d low. gone_room full last (not (is_some (found k ms))) low) (λ k o held at fits low. held_room (full && true) last (found k ms) held at low)
 
 each_outcome : (h : History) (o : Option Write) → IfSome o (λ w. overflows (members h (present h)) (present h) w ≡ false) → Within h → Within (with_write h o)
 each_outcome h None r w = w

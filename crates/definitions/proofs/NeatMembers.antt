@@ -11,13 +11,13 @@ use Rattle.definitions.specs.declared.kinds.Kind.TheVariants.{ConfigMap, Pod, Re
 use Rattle.definitions.specs.declared.schemas.Shape.TheVariants.{Object}
 use Rattle.definitions.specs.declared.schemas.Schema.{Schema}
 use Rattle.definitions.specs.declared.schemas.Schema.TheVariants.{Root, Metadata}
-use Rattle.definitions.specs.Metadata.{metadata_of, with_metadata}
+use Rattle.definitions.specs.Metadata.{metadata_of}
 use Rattle.definitions.specs.Reading.{fits, members_fit, is_absent, reading, tidied, tidied_members, is_body, filled}
 use Rattle.definitions.specs.Schemas.{member_at}
 use Rattle.definitions.specs.Values.{members_of, inner_of, without, is_null}
-use Rattle.definitions.specs.Verbs.{as_held, keeping}
+use Rattle.definitions.specs.Replacements.{as_held, keeping}
 use Rattle.definitions.proofs.NoFloatsRead.{has_float-tidied, has_float-filled, has_float-is_body, both_true}
-use Rattle.definitions.proofs.ReadAgain.{IsTidy, MembersTidy, MembersTidy-tidied, members_fit-tidied, members_depth-tidied, Good, Good-of, Good-filled, Has-put, Filled, HasSpec, filled_members, filled-object, opened, same_name, settled}
+use Rattle.definitions.proofs.ReadAgain.{IsTidy, MembersTidy, MembersTidy-tidied, members_fit-tidied, members_depth-tidied, Good, Good-of, Good-filled, Has-put, Filled, HasSpec, filled_members, filled-object, opened, same_name}
 
 -- a member that may stand, nested no deeper than n
 abbrev pub One : ℕ → Schema → List ℕ → Data → Type 0
@@ -144,7 +144,7 @@ in_metadata k ms (Some d) is g = of_one k d (Neat-get 99 (Root k) (codes "metada
 pub Neat-metadata : (k : Kind) (ms : Members) → Neat 99 (Root k) ms → Neat 98 Metadata (metadata_of (object ms))
 Neat-metadata k ms g = in_metadata k ms (get_member (codes "metadata") ms) refl g
 
-one_metadata : (k : Kind) (meta : Members) → Neat 98 Metadata meta → One 99 (Root k) (codes "metadata") (object meta)
+pub one_metadata : (k : Kind) (meta : Members) → Neat 98 Metadata meta → One 99 (Root k) (codes "metadata") (object meta)
 one_metadata ConfigMap meta g = let deep : members_depth meta ≤ 98 = Neat-depth 98 Metadata meta g in (Neat-fits 98 Metadata meta g, refl, Neat-tidy 98 Metadata meta g, omega arith, Neat-whole 98 Metadata meta g)
 one_metadata Pod meta g = let deep : members_depth meta ≤ 98 = Neat-depth 98 Metadata meta g in (Neat-fits 98 Metadata meta g, refl, Neat-tidy 98 Metadata meta g, omega arith, Neat-whole 98 Metadata meta g)
 one_metadata ReplicaSet meta g = let deep : members_depth meta ≤ 98 = Neat-depth 98 Metadata meta g in (Neat-fits 98 Metadata meta g, refl, Neat-tidy 98 Metadata meta g, omega arith, Neat-whole 98 Metadata meta g)
@@ -156,14 +156,8 @@ spec_put Pod q d ms h = Has-put (codes "spec") q d ms h
 spec_put ReplicaSet q d ms h = tt
 spec_put Deployment q d ms h = tt
 
-Filled-put : (k : Kind) (q : List ℕ) (d : Data) (ms : Members) → Filled k ms → Filled k (put q d ms)
+pub Filled-put : (k : Kind) (q : List ℕ) (d : Data) (ms : Members) → Filled k ms → Filled k (put q d ms)
 Filled-put k q d ms h = (Has-put (codes "metadata") q d ms h.0, spec_put k q d ms h.1, Has-put (codes "kind") q d ms h.2, Has-put (codes "apiVersion") q d ms h.3)
-
--- an object that was read, with other metadata that may stand, reads as itself
-pub reads_with : (k : Kind) (ms meta : Members) → Neat 99 (Root k) ms → Filled k ms → Neat 98 Metadata meta → reading k (with_metadata meta (object ms)) ≡ Ok (with_metadata meta (object ms))
-reads_with k ms meta g f m =
-    let whole : Neat 99 (Root k) (put (codes "metadata") (object meta) ms) = Neat-put 99 (Root k) (codes "metadata") (object meta) ms (one_metadata k meta m) g in
-    settled k (put (codes "metadata") (object meta) ms) (Neat-good (Root k) _ whole) (Filled-put k (codes "metadata") (object meta) ms f) (Neat-whole 99 (Root k) _ whole)
 
 -- a text of the metadata that is not empty
 abbrev pub IsFilled : List ℕ → Type 0

@@ -6,9 +6,9 @@ use Rattle.definitions.specs.declared.kinds.Kind.{Kind}
 use Rattle.definitions.specs.declared.kinds.Kind.TheVariants.{ConfigMap, Pod, ReplicaSet, Deployment}
 use Rattle.definitions.specs.declared.kinds.Group.{Group}
 use Rattle.definitions.specs.declared.kinds.Group.TheVariants.{Core, Apps}
-use Rattle.definitions.specs.Kinds.{group, plural, has_status}
+use Rattle.definitions.specs.Kinds.{group, plural, has_status, kind_named}
 use Rattle.definitions.specs.Laws.{PathsAreRoutes}
-use Rattle.definitions.specs.Targets.{Route, collection, object_at, status_of, prefix, collection_text, path_text, segments, Form, all_form, namespace_form, object_form, status_form, below, below_apps, below_either, after_words, by_prefix, is_filled, form_of, is_served, served, served_named, with_status, route_of}
+use Rattle.definitions.specs.Targets.{Route, collection, object_at, status_of, prefix, collection_text, path_text, segments, Form, all_form, namespace_form, object_form, status_form, below, below_apps, below_either, after_words, by_prefix, is_filled, form_of, with_status, route_of}
 
 -- the parts with a `/` before each
 rest_text : List (List ℕ) → List ℕ
@@ -129,22 +129,22 @@ joined-form [] f is = cc
 joined-form ([] ∷ segs) f is = filled_form (list_all is_filled segs) segs f is
 joined-form ((x ∷ s) ∷ segs) f is = cc
 
-served_is : (b : Bool) (k j : Kind) → cond b (Some k) None ≡ Some j → k ≡ j
-served_is true k j is = cc
-served_is false k j is = cc
+some_is : (b : Bool) (k j : Kind) → cond b (Some k) None ≡ Some j → k ≡ j
+some_is true k j is = cc
+some_is false k j is = cc
 
 -- the plural that was read is that of the kind, and its group the one that was asked
 named_at : (b c : Bool) (g : Group) (p w v : List ℕ) (a d k : Kind) → bytes_eq p w ≡ b → bytes_eq p v ≡ c → (group a ≡ g) × (plural a ≡ w) → (group d ≡ g) × (plural d ≡ v)
-    → option_and_then served (cond b (Some a) (cond c (Some d) None)) ≡ Some k → (group k ≡ g) × (p ≡ plural k)
+    → cond b (Some a) (cond c (Some d) None) ≡ Some k → (group k ≡ g) × (p ≡ plural k)
 named_at true c g p w v a d k here there first second is =
-    let one = served_is (is_served a) a k is in
+    let one : a ≡ k = cc in
     (sym (ap group one) ∙ first.0, (bytes_eq-Decides p w).0 here ∙ sym first.1 ∙ ap plural one)
 named_at false true g p w v a d k here there first second is =
-    let one = served_is (is_served d) d k is in
+    let one : d ≡ k = cc in
     (sym (ap group one) ∙ second.0, (bytes_eq-Decides p v).0 there ∙ sym second.1 ∙ ap plural one)
 named_at false false g p w v a d k here there first second is = cc
 
-named : (g : Group) (p : List ℕ) (k : Kind) → served_named g p ≡ Some k → (group k ≡ g) × (p ≡ plural k)
+named : (g : Group) (p : List ℕ) (k : Kind) → kind_named g p ≡ Some k → (group k ≡ g) × (p ≡ plural k)
 named Core p k is = named_at (bytes_eq p (codes "configmaps")) (bytes_eq p (codes "pods")) Core p (codes "configmaps") (codes "pods") ConfigMap Pod k refl refl (refl, refl) (refl, refl) is
 named Apps p k is = named_at (bytes_eq p (codes "replicasets")) (bytes_eq p (codes "deployments")) Apps p (codes "replicasets") (codes "deployments") ReplicaSet Deployment k refl refl (refl, refl) (refl, refl) is
 
@@ -154,7 +154,7 @@ one_route f (Some k) r is = (k, refl, cc)
 
 with_status_is : (o : Option Kind) (k : Kind) → option_and_then with_status o ≡ Some k → o ≡ Some k
 with_status_is None k is = cc
-with_status_is (Some j) k is = ap (λ i. Some i) (served_is (has_status j) j k is)
+with_status_is (Some j) k is = ap (λ i. Some i) (some_is (has_status j) j k is)
 
 in_kind : (k : Kind) (ns : List ℕ) (more : List (List ℕ))
     → collection_text k (Some ns) ++ rest_text more ≡ prefix (group k) ++ rest_text (codes "namespaces" ∷ ns ∷ plural k ∷ more)
@@ -170,22 +170,22 @@ moved g h p q F a b = λ i. F (a i) (b i)
 route-text : (f : Form) (r : Route) → route_of f ≡ Some r → path_text r ≡ form_text f
 unfolding form_text rest_text
 route-text (all_form g p) r is =
-    let one = one_route (λ k. collection k None) (served_named g p) r is in
+    let one = one_route (λ k. collection k None) (kind_named g p) r is in
     let same = named g p one.0 one.1 in
     ap path_text (sym one.2) ∙ ap (λ l. prefix (group one.0) ++ (47 ∷ l)) (sym (to_end (plural one.0))) ∙ moved (group one.0) g (plural one.0) p (λ h q. prefix h ++ rest_text (q ∷ [])) same.0 (sym same.1)
 route-text (namespace_form g n p) r is =
-    let one = one_route (λ k. collection k (Some n)) (served_named g p) r is in
+    let one = one_route (λ k. collection k (Some n)) (kind_named g p) r is in
     let same = named g p one.0 one.1 in
     ap path_text (sym one.2) ∙ sym (to_end _) ∙ in_kind one.0 n []
     ∙ moved (group one.0) g (plural one.0) p (λ h q. prefix h ++ rest_text (codes "namespaces" ∷ n ∷ q ∷ [])) same.0 (sym same.1)
 route-text (object_form g n p o) r is =
-    let one = one_route (λ k. object_at (record { kind = k; namespace = n; name = o })) (served_named g p) r is in
+    let one = one_route (λ k. object_at (record { kind = k; namespace = n; name = o })) (kind_named g p) r is in
     let same = named g p one.0 one.1 in
     ap path_text (sym one.2) ∙ ap (λ l. collection_text one.0 (Some n) ++ (47 ∷ l)) (sym (to_end o)) ∙ in_kind one.0 n (o ∷ [])
     ∙ moved (group one.0) g (plural one.0) p (λ h q. prefix h ++ rest_text (codes "namespaces" ∷ n ∷ q ∷ o ∷ [])) same.0 (sym same.1)
 route-text (status_form g n p o) r is =
-    let one = one_route (λ k. status_of (record { kind = k; namespace = n; name = o })) (option_and_then with_status (served_named g p)) r is in
-    let same = named g p one.0 (with_status_is (served_named g p) one.0 one.1) in
+    let one = one_route (λ k. status_of (record { kind = k; namespace = n; name = o })) (option_and_then with_status (kind_named g p)) r is in
+    let same = named g p one.0 (with_status_is (kind_named g p) one.0 one.1) in
     ap path_text (sym one.2) ∙ append_assoc (collection_text one.0 (Some n)) (47 ∷ o) (codes "/status") ∙ in_kind one.0 n (o ∷ codes "status" ∷ [])
     ∙ moved (group one.0) g (plural one.0) p (λ h q. prefix h ++ rest_text (codes "namespaces" ∷ n ∷ q ∷ o ∷ codes "status" ∷ [])) same.0 (sym same.1)
 

@@ -21,17 +21,18 @@ use Rattle.definitions.specs.Reading.{reading, is_body, fits, tidied, filled, wh
 use Rattle.definitions.specs.Reflectors.{shown, shown_read, has_identity, revision, name_in}
 use Rattle.definitions.specs.Revisions.{revision_of}
 use Rattle.definitions.specs.SentLaws.{IsKept, IsTold, IsShort, ChangesAreTold, WatchesAreStreams, whole, history_of}
+use Rattle.definitions.specs.Values.{members_of}
+use Rattle.definitions.proofs.HeldMembers.{version-at_revision}
 use Rattle.definitions.proofs.JsonMembers.{text_in-put_other, metadata_text-with}
 use Rattle.definitions.proofs.Limits.{limits}
-use Rattle.definitions.proofs.NeatMembers.{opens}
 use Rattle.definitions.proofs.NoFloatsRead.{both_true}
 use Rattle.definitions.proofs.Played.{up_to-split}
 use Rattle.definitions.proofs.ReadAgain.{opened}
 use Rattle.definitions.proofs.RevisionTexts.{revision_is}
-use Rattle.definitions.proofs.SentObjects.{IsStored, IsHeld, reads_at, neat_of}
+use Rattle.definitions.proofs.SentObjects.{IsStored, IsHeld, filled_decimal, whole_stored}
 use Rattle.definitions.proofs.SentRuns.{AreStored, AreStored-split, AreStored-up_to, last_held, all_stored}
 use Rattle.definitions.proofs.TextLengths.{fits_at}
-use Rattle.definitions.proofs.VerbLaws.{version-at_revision}
+use Rattle.definitions.proofs.WholeObjects.{neat_metadata, reads_whole, whole_at}
 
 -- ---- an object that is gone
 
@@ -41,9 +42,9 @@ gone_text q r d other =
 
 gone_kept : (k : Name) (s r : ℕ) (d : Data) → IsStored k s d → r ≤ 9007199254740991 → IsKept k r (gone_at r d)
 gone_kept k s r d was low =
-    let opening = opens k.kind d d was.kept.reads in
+    let w = whole_stored k s d was in
     record {
-      reads = reads_at k.kind d d (metadata_of d) r opening (neat_of k.kind d d opening) low;
+      reads = reads_whole k.kind (members_of (gone_at r d)) (whole_at k.kind r (metadata_of d) d (filled_decimal r low) (neat_metadata k.kind d w) w);
       name = gone_text (codes "name") r d refl ∙ was.kept.name;
       namespace = gone_text (codes "namespace") r d refl ∙ was.kept.namespace;
       uid = ap is_some (gone_text (codes "uid") r d refl) ∙ was.kept.uid;

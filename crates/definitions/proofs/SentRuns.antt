@@ -15,7 +15,7 @@ use Rattle.definitions.specs.Names.{Name, is_named, is_namespace}
 use Rattle.definitions.specs.Queries.{Query}
 use Rattle.definitions.specs.Refusals.{Refusal, bad_request, method_not_allowed, too_large}
 use Rattle.definitions.specs.Targets.{Asked, request, watch, Route, collection, object_at, status_of, route, path_of, decoded, query_for, names_namespace, is_allowed, data_of, asks_with, with_body, list_or_watch, selected, asked, asked_with, asked_at, read_request}
-use Rattle.definitions.specs.Verbs.{Request, create_object, update_object, update_status, accept, with_write, write_of}
+use Rattle.definitions.specs.Verbs.{Request, create_object, update_object, update_status, patch_object, accept, with_write, write_of}
 use Rattle.definitions.specs.History as history
 use Rattle.definitions.specs.SentLaws.{IsKept, AreKept, RunsKeepObjects, history_of}
 use Rattle.definitions.proofs.JsonOrder.{IsOrdered, HasOrder, ordered_read}
@@ -66,7 +66,9 @@ well_asked Post (status_of n) q text h = tt
 well_asked Put (collection k ns) q text h = tt
 well_asked Put (object_at n) q text h = well_body (update_object n) text (λ d a. a)
 well_asked Put (status_of n) q text h = well_body (update_status n) text (λ d a. a)
-well_asked Patch r q text h = tt
+well_asked Patch (collection k ns) q text h = tt
+well_asked Patch (object_at n) q text h = well_body (patch_object n) text (λ d a. a)
+well_asked Patch (status_of n) q text h = tt
 well_asked Delete r q text h = tt
 
 well_query : (method : Method) (r : Route) (text : List ℕ) (o : Option Query) → names_namespace r ≡ true → AsksWell (asked_with method r text o)

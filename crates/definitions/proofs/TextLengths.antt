@@ -9,7 +9,7 @@ use Rattle.json.specs.Print.{quoted, escape, escape_byte, escape_letter}
 use Rattle.serde_json.specs.Data.{Data, string, object, Members, no_members, member, put}
 use Rattle.serde_json.specs.Written.{comma_if, compact_text, members_text}
 use Rattle.definitions.specs.Values.{members_of}
-use Rattle.definitions.specs.Verbs.{at_revision}
+use Rattle.definitions.specs.Metadata.{at_revision}
 
 length-member : (later : Bool) (k : List ℕ) (d : Data) (ms : Members)
     → length (members_text later (member k d ms)) ≡ length (comma_if later) + (length (quoted k) + (length (compact_text d) + length (members_text true ms)) + 1)

@@ -1,47 +1,44 @@
 -- The laws of the verbs, each by their cases.
-use Rattle.std.proofs.Common.{option_and_then, IfSome, Result, Ok, ◌≤◌, ◌≡◌, ℕ, ◌+◌, List, [], length, Bool, true, false, true≢false, cond, not, nat_lt, Option, Some, None, is_some, is_eq, ◌++◌, ◌∷◌, codes, bytes_eq, decimal, arith, refl, sym, ap, ◌∙◌}
+use Rattle.std.proofs.Common.{option_and_then, IfSome, Result, Ok, ◌≤◌, ◌≡◌, ℕ, ◌+◌, List, [], length, Bool, true, false, true≢false, cond, not, nat_lt, Option, Some, None, is_some, is_eq, ◌++◌, ◌∷◌, codes, bytes_eq, decimal, arith, refl, sym, ap, subst, ◌∙◌}
 use Rattle.std.proofs.lemmas.Slice.Eq.{bytes_eq-Decides}
 use Rattle.std.proofs.lemmas.Cmp.{tied_itself}
 use Rattle.std.proofs.lemmas.List.{length-append}
-use Rattle.serde_json.specs.Find.{get_member, as_str}
+use Rattle.serde_json.specs.Find.{get, get_member, as_str}
 use Rattle.serde_json.specs.Data.{Data, null, boolean, number, string, array, object, Members, put}
+use Rattle.serde_json.proofs.Views.{get_member-put_other}
+use Rattle.definitions.specs.declared.kinds.Kind.{Kind}
+use Rattle.definitions.specs.declared.kinds.Kind.TheVariants.{ConfigMap, Pod, ReplicaSet, Deployment}
 use Rattle.definitions.specs.declared.refusals.Part.{Part}
 use Rattle.serde_json.specs.Written.{compact_text}
+use Rattle.definitions.specs.Defaults.{defaulted, with_found, replica_set_defaults, deployment_defaults}
+use Rattle.definitions.specs.Kinds.{has_generation}
 use Rattle.definitions.specs.Names.{Name}
 use Rattle.definitions.specs.History.{History, Write, write, writes, up_to, members, found, present, state}
-use Rattle.definitions.specs.Laws.{OfStored, KeepsText, WritesCarryTheirRevision, CreatesAreNew, NamedVersionsAreReplaced, RefusalsWriteNothing, AnswersAreRead, WritesFit, UpdatesKeepIdentity}
-use Rattle.definitions.specs.Metadata.{metadata_of, metadata_text, uid, version}
+use Rattle.definitions.specs.Laws.{OfStored, KeepsText, WritesCarryTheirRevision, CreatesAreNew, NamedVersionsAreReplaced, RefusalsWriteNothing, AnswersAreRead, WritesFit, WritesKeepIdentity}
+use Rattle.definitions.specs.Metadata.{metadata_of, metadata_text, uid, version, at_revision}
+use Rattle.definitions.specs.NewObjects.{new_metadata, created, first_status, with_generation, with_status}
 use Rattle.definitions.specs.Reading.{reading}
+use Rattle.definitions.specs.Replacements.{keeping, kept, updated, as_held, in_place, said_status, with_said_status, with_next_generation, is_new_generation, next_generation, generation}
+use Rattle.definitions.specs.Defaults as defaults
 use Rattle.definitions.specs.Uids.{uid_text, cluster_word}
-use Rattle.definitions.specs.Verbs.{get_object, list_objects, create_object, update_object, update_status, patch_object, delete_object, outcome_body, history_after, shown, at_revision, new_metadata, created, keeping, kept, differs, updated, as_held}
-use Rattle.definitions.specs.Values.{without}
-use Rattle.definitions.proofs.Cases.{there, of_create, of_update}
-use Rattle.definitions.proofs.JsonMembers.{text_in, text_in-put, text_in-put_other, text_in-without_other, metadata_text-with}
+use Rattle.definitions.specs.Verbs.{Outcome, outcome_body, history_after, new_name, said, with_defaults, differs}
+use Rattle.definitions.specs.Values.{members_of, inner_of, with_member, without}
+use Rattle.definitions.proofs.Cases.{of_accept, of_create, of_update}
+use Rattle.definitions.proofs.JsonMembers.{apart, text_in, text_in-put, text_in-put_other, text_in-without_other, metadata_text-with, metadata_of-with}
+use Rattle.definitions.proofs.HeldMembers.{at_most, version-at_revision, text-at_revision, uid-created, moved, uid-in_place, creation-in_place, text-updated}
 use Rattle.definitions.proofs.Past.{set, writes-append}
+use Rattle.definitions.proofs.WholeObjects.{get-members_of}
 use Rattle.definitions.proofs.PutLaws.{found-after_all, name_cmp_total}
 
-pub version-at_revision : (r : ℕ) (meta : Members) (d : Data) → version (at_revision r meta d) ≡ Some (decimal r)
-version-at_revision r meta d =
-    metadata_text-with (codes "resourceVersion") (put (codes "resourceVersion") (string (decimal r)) meta) d ∙ text_in-put (codes "resourceVersion") (decimal r) meta
-
 pub versions : WritesCarryTheirRevision
-versions (get_object k) h moment = there (λ o. OfStored o (λ k d. version d ≡ Some (decimal (present h + 1)))) (λ f. tt) k shown (found k (members h (present h))) (λ d is. tt)
-versions (list_objects v) h moment = tt
-versions (create_object kind ns d) h moment =
-    of_create (λ o. OfStored o (λ k d. version d ≡ Some (decimal (present h + 1)))) (λ f. tt) kind ns (reading kind d) (members h (present h)) (present h) moment
-    (λ o fits free room. version-at_revision (present h + 1) (new_metadata (present h + 1) ns moment (metadata_of o)) o)
-versions (update_object k d) h moment =
-    of_update (λ o. OfStored o (λ k d. version d ≡ Some (decimal (present h + 1)))) (λ f. tt) k (reading k.kind d) (members h (present h)) (present h)
-    (λ o held is at equal fits room. version-at_revision (present h + 1) (keeping kept (metadata_of held) (metadata_of o)) o)
-versions (update_status k d) h moment = tt
-versions (patch_object k d) h moment = tt
-versions (delete_object k d) h moment = tt
-
-pub uid-created : (r : ℕ) (ns moment : List ℕ) (o : Data) → uid (created r ns moment o) ≡ Some (uid_text cluster_word r)
-uid-created r ns moment o =
-    metadata_text-with (codes "uid") (put (codes "resourceVersion") (string (decimal r)) (new_metadata r ns moment (metadata_of o))) o
-    ∙ text_in-put_other (codes "uid") (codes "resourceVersion") (string (decimal r)) (new_metadata r ns moment (metadata_of o)) refl
-    ∙ text_in-put (codes "uid") (uid_text cluster_word r) (put (codes "creationTimestamp") (string moment) (put (codes "namespace") (string ns) (without (codes "deletionTimestamp") (metadata_of o))))
+versions q h moment =
+    of_accept (λ o. OfStored o (λ k d. version d ≡ Some (decimal (present h + 1)))) (λ f. tt) (λ code body. tt) q h moment
+    (λ kind ns o fits free room.
+    let k = new_name kind ns o (members h (present h)) (present h) in
+    version-at_revision (present h + 1) (new_metadata kind (present h + 1) ns k.name moment (metadata_of o)) (object (with_status (first_status kind) (members_of o))))
+    (λ k o held at fits low.
+    let d = in_place k.kind held o in version-at_revision (present h + 1) (with_next_generation (is_new_generation k.kind held d) held (metadata_of d)) d)
+    (λ k d low. tt) (λ k o held at fits low. let d = with_said_status k.kind held o in version-at_revision (present h + 1) (metadata_of d) d)
 
 none_from : (o : Option Data) → is_some o ≡ false → o ≡ None
 none_from None h = refl
@@ -52,8 +49,8 @@ found-state h k = found-after_all k [] (up_to (present h) h) tt
 
 pub creates : CreatesAreNew
 creates kind ns d h moment =
-    of_create (λ o. OfStored o (λ k new. (state h (present h) k ≡ None) × (uid new ≡ Some (uid_text cluster_word (present h + 1))))) (λ f. tt) kind ns (reading kind d) (members h (present h)) (present h) moment
-    (λ o fits free room. (sym (found-state h _) ∙ none_from _ free, uid-created (present h + 1) ns moment o))
+    of_create (λ o. OfStored o (λ k new. (state h (present h) k ≡ None) × (uid new ≡ Some (uid_text cluster_word (present h + 1))))) (λ f. tt) kind ns (said kind d) (members h (present h)) (present h) moment
+    (λ o fits free room. (sym (found-state h _) ∙ none_from _ free, uid-created kind (present h + 1) ns (new_name kind ns o (members h (present h)) (present h)).name moment o))
 
 same_at : (b : Bool) (s t : List ℕ) → bytes_eq s t ≡ b → not b ≡ false → t ≡ s
 same_at true s t is h = sym ((bytes_eq-Decides s t).0 is)
@@ -67,12 +64,37 @@ same s (Some t) h = ap (λ u. Some u) (same_at (bytes_eq s t) s t refl h)
 one_object : (r : Result Data Part) (a b : Data) → r ≡ Ok a → r ≡ Ok b → a ≡ b
 one_object r a b is as_well = cc
 
+-- ---- what defaults leave as it is
+
+metadata_of-member : (q : List ℕ) (e d : Data) → bytes_eq (codes "metadata") q ≡ false → metadata_of (with_member q e d) ≡ metadata_of d
+metadata_of-member q e null other = refl
+metadata_of-member q e (boolean b) other = refl
+metadata_of-member q e (number n) other = refl
+metadata_of-member q e (string s) other = refl
+metadata_of-member q e (array ds) other = refl
+metadata_of-member q e (object ms) other = ap inner_of (get_member-put_other (codes "metadata") q e ms (apart (codes "metadata") q other))
+
+metadata_of-found : (change : Data → Data) (o : Option Data) (d : Data) → metadata_of (with_found (codes "spec") change o d) ≡ metadata_of d
+metadata_of-found change None d = refl
+metadata_of-found change (Some e) d = metadata_of-member (codes "spec") (change e) d refl
+
+pub metadata_of-defaulted : (k : Kind) (d : Data) → metadata_of (defaulted k d) ≡ metadata_of d
+metadata_of-defaulted ConfigMap d = refl
+metadata_of-defaulted Pod d = refl
+metadata_of-defaulted ReplicaSet d = metadata_of-found replica_set_defaults (get (codes "spec") d) d
+metadata_of-defaulted Deployment d = metadata_of-found deployment_defaults (get (codes "spec") d) d
+
+version-defaulted : (k : Kind) (d : Data) → version (defaulted k d) ≡ version d
+version-defaulted k d = ap (text_in (codes "resourceVersion")) (metadata_of-defaulted k d)
+
 pub replaced : NamedVersionsAreReplaced
 replaced k d o named h moment read names =
-    of_update (λ u. OfStored u (λ written new. (held : Data) × (written ≡ k) × (state h (present h) k ≡ Some held) × (version held ≡ Some named))) (λ f. tt) k (reading k.kind d) (members h (present h)) (present h)
+    of_update (λ u. OfStored u (λ written new. (held : Data) × (written ≡ k) × (state h (present h) k ≡ Some held) × (version held ≡ Some named))) (λ f. tt) (λ shown. tt) k (said k.kind d) (members h (present h)) (present h)
     (λ p held is at equal fits room.
-    let one : p ≡ o = one_object (reading k.kind d) p o is read in
-    (held, refl, sym (found-state h k) ∙ at, same named (version held) (ap (λ v. differs v (version held)) (sym names ∙ ap version (sym one)) ∙ equal)))
+    let one : p ≡ defaulted k.kind o = one_object (said k.kind d) p (defaulted k.kind o) is (ap (with_defaults k.kind) read) in
+    let says : version p ≡ Some named = ap version one ∙ version-defaulted k.kind o ∙ names in
+    (held, refl, sym (found-state h k) ∙ at, same named (version held) (ap (λ v. differs v (version held)) (sym says) ∙ equal)))
+    (λ p held low. tt)
 
 pub refusals : RefusalsWriteNothing
 refusals q h moment f is = ap (history_after h) is
@@ -86,90 +108,62 @@ reads_write h k d =
     ap (λ r. state (h ++ write w ∷ []) r k) (present-write h w) ∙ set h w k ∙ ap (λ o. cond (is_eq o) (Some d) (state h (present h) k)) (tied_itself name_cmp_total k)
 
 pub reads : AnswersAreRead
-reads (get_object k) h moment =
-    there (λ o. OfStored o (λ k d. (outcome_body o ≡ d) × (state (history_after h o) (present (history_after h o)) k ≡ Some d))) (λ f. tt) k shown (found k (members h (present h))) (λ d is. tt)
-reads (list_objects v) h moment = tt
-reads (create_object kind ns d) h moment =
-    of_create (λ o. OfStored o (λ k d. (outcome_body o ≡ d) × (state (history_after h o) (present (history_after h o)) k ≡ Some d))) (λ f. tt) kind ns (reading kind d) (members h (present h)) (present h) moment
-    (λ o fits free room. (refl, reads_write h _ _))
-reads (update_object k d) h moment =
-    of_update (λ o. OfStored o (λ k d. (outcome_body o ≡ d) × (state (history_after h o) (present (history_after h o)) k ≡ Some d))) (λ f. tt) k (reading k.kind d) (members h (present h)) (present h)
-    (λ o held is at equal fits room. (refl, reads_write h k _))
-reads (update_status k d) h moment = tt
-reads (patch_object k d) h moment = tt
-reads (delete_object k d) h moment = tt
-
-pub at_most : (limit n : ℕ) → nat_lt limit n ≡ false → n ≤ limit
-at_most limit n h = grind arith
+reads q h moment =
+    of_accept (λ o. OfStored o (λ k d. (outcome_body o ≡ d) × (state (history_after h o) (present (history_after h o)) k ≡ Some d))) (λ f. tt) (λ code body. tt) q h moment
+    (λ kind ns o fits free room. (refl, reads_write h _ _)) (λ k o held at fits low. (refl, reads_write h k _)) (λ k d low. tt) (λ k o held at fits low. (refl, reads_write h k _))
 
 pub writes_fit : WritesFit
-writes_fit (get_object k) h moment = there (λ o. OfStored o (λ k d. length (compact_text d) ≤ 1572864)) (λ f. tt) k shown (found k (members h (present h))) (λ d is. tt)
-writes_fit (list_objects v) h moment = tt
-writes_fit (create_object kind ns d) h moment =
-    of_create (λ o. OfStored o (λ k d. length (compact_text d) ≤ 1572864)) (λ f. tt) kind ns (reading kind d) (members h (present h)) (present h) moment
-    (λ o fits free room. at_most 1572864 (length (compact_text (created (present h + 1) ns moment o))) fits)
-writes_fit (update_object k d) h moment =
-    of_update (λ o. OfStored o (λ k d. length (compact_text d) ≤ 1572864)) (λ f. tt) k (reading k.kind d) (members h (present h)) (present h)
-    (λ o held is at equal fits room. at_most 1572864 (length (compact_text (updated (present h + 1) held o))) fits)
-writes_fit (update_status k d) h moment = tt
-writes_fit (patch_object k d) h moment = tt
-writes_fit (delete_object k d) h moment = tt
+writes_fit q h moment =
+    of_accept (λ o. OfStored o (λ k d. length (compact_text d) ≤ 1572864)) (λ f. tt) (λ code body. tt) q h moment (λ kind ns o fits free room. at_most 1572864 _ fits)
+    (λ k o held at fits low. at_most 1572864 _ fits) (λ k d low. tt) (λ k o held at fits low. at_most 1572864 _ fits)
 
-pub text-as_held_other : (q k : List ℕ) (o : Option Data) (ms : Members) → bytes_eq q k ≡ false → text_in q (as_held k o ms) ≡ text_in q ms
-text-as_held_other q k None ms other = text_in-without_other q k ms other
-text-as_held_other q k (Some d) ms other = text_in-put_other q k d ms other
+-- ---- what a write leaves as it is
 
--- what is held at a member is there after, if it is a text
-pub held_text : (k : List ℕ) (o : Option Data) (ms : Members) → IfSome (option_and_then as_str o) (λ t. text_in k (as_held k o ms) ≡ Some t)
-held_text k None ms = tt
-held_text k (Some null) ms = tt
-held_text k (Some (boolean b)) ms = tt
-held_text k (Some (number n)) ms = tt
-held_text k (Some (string s)) ms = text_in-put k s ms
-held_text k (Some (array ds)) ms = tt
-held_text k (Some (object os)) ms = tt
+stays : (o : Option (List ℕ)) → IfSome o (λ t. o ≡ Some t)
+stays None = tt
+stays (Some t) = refl
 
-pub moved : (o a b : Option (List ℕ)) → a ≡ b → IfSome o (λ t. b ≡ Some t) → IfSome o (λ t. a ≡ Some t)
-moved None a b is h = tt
-moved (Some t) a b is h = is ∙ h
+-- a status is no metadata
+pub metadata_of-status : (s : Option Data) (d : Data) → metadata_of (object (with_status s (members_of d))) ≡ metadata_of d
+metadata_of-status None d = ap inner_of (sym (get-members_of (codes "metadata") d))
+metadata_of-status (Some s) d =
+    ap inner_of (get_member-put_other (codes "metadata") (codes "status") s (members_of d) (apart (codes "metadata") (codes "status") refl) ∙ sym (get-members_of (codes "metadata") d))
 
-module _ (r : ℕ) (held o : Data) where
-  pub text-updated : (q : List ℕ) → bytes_eq q (codes "resourceVersion") ≡ false
-      → metadata_text q (updated r held o) ≡ text_in q (keeping kept (metadata_of held) (metadata_of o))
-  text-updated q other =
-      metadata_text-with q (put (codes "resourceVersion") (string (decimal r)) (keeping kept (metadata_of held) (metadata_of o))) o
-      ∙ text_in-put_other q (codes "resourceVersion") (string (decimal r)) (keeping kept (metadata_of held) (metadata_of o)) other
+pub text-restated : (q : List ℕ) (k : Kind) (r : ℕ) (held o : Data) → bytes_eq q (codes "resourceVersion") ≡ false
+    → KeepsText q held (at_revision r (metadata_of (with_said_status k held o)) (with_said_status k held o))
+text-restated q k r held o other =
+    let d = with_said_status k held o in
+    moved (metadata_text q held) (metadata_text q (at_revision r (metadata_of d) d)) (metadata_text q held) (text-at_revision q r (metadata_of d) d other ∙ ap (text_in q) (metadata_of-status (said_status k (get (codes "status") o)) held)) (stays (metadata_text q held))
 
-  pub uid-updated : KeepsText (codes "uid") held (updated r held o)
-  uid-updated =
-      let meta = metadata_of held in
-      let m1 = as_held (codes "namespace") (get_member (codes "namespace") meta) (metadata_of o) in
-      let m2 = as_held (codes "uid") (get_member (codes "uid") meta) m1 in
-      let m3 = as_held (codes "creationTimestamp") (get_member (codes "creationTimestamp") meta) m2 in
-      let m4 = as_held (codes "deletionTimestamp") (get_member (codes "deletionTimestamp") meta) m3 in
-      moved (metadata_text (codes "uid") held) _ _
-      (text-updated (codes "uid") refl
-      ∙ text-as_held_other (codes "uid") (codes "generation") (get_member (codes "generation") meta) m4 refl
-      ∙ text-as_held_other (codes "uid") (codes "deletionTimestamp") (get_member (codes "deletionTimestamp") meta) m3 refl
-      ∙ text-as_held_other (codes "uid") (codes "creationTimestamp") (get_member (codes "creationTimestamp") meta) m2 refl)
-      (held_text (codes "uid") (get_member (codes "uid") meta) m1)
+abbrev KeepsBoth : Data → Data → Type 0
+KeepsBoth new held = KeepsText (codes "uid") held new × KeepsText (codes "creationTimestamp") held new
 
-  pub creation-updated : KeepsText (codes "creationTimestamp") held (updated r held o)
-  creation-updated =
-      let meta = metadata_of held in
-      let m1 = as_held (codes "namespace") (get_member (codes "namespace") meta) (metadata_of o) in
-      let m2 = as_held (codes "uid") (get_member (codes "uid") meta) m1 in
-      let m3 = as_held (codes "creationTimestamp") (get_member (codes "creationTimestamp") meta) m2 in
-      let m4 = as_held (codes "deletionTimestamp") (get_member (codes "deletionTimestamp") meta) m3 in
-      moved (metadata_text (codes "creationTimestamp") held) _ _
-      (text-updated (codes "creationTimestamp") refl
-      ∙ text-as_held_other (codes "creationTimestamp") (codes "generation") (get_member (codes "generation") meta) m4 refl
-      ∙ text-as_held_other (codes "creationTimestamp") (codes "deletionTimestamp") (get_member (codes "deletionTimestamp") meta) m3 refl)
-      (held_text (codes "creationTimestamp") (get_member (codes "creationTimestamp") meta) m2)
+-- what holds of the object that is there, and of none
+of_held : (P : Data → Type 0) (now : Option Data) (held : Data) → now ≡ Some held → P held → IfSome now P
+of_held P now held is p = subst (λ o. IfSome o P) (sym is) p
 
-pub identity : UpdatesKeepIdentity
-identity k d h moment =
-    of_update
-    (λ u. OfStored u (λ written new. (held : Data) × (state h (present h) k ≡ Some held) × KeepsText (codes "uid") held new × KeepsText (codes "creationTimestamp") held new))
-    (λ f. tt) k (reading k.kind d) (members h (present h)) (present h)
-    (λ o held is at equal fits room. (held, sym (found-state h k) ∙ at, uid-updated (present h + 1) held o, creation-updated (present h + 1) held o))
+of_none : (P : Data → Type 0) (now : Option Data) → now ≡ None → IfSome now P
+of_none P now is = subst (λ o. IfSome o P) (sym is) tt
+
+kept_in_place : (k : Kind) (r : ℕ) (held o : Data) → KeepsBoth (updated k r held (in_place k held o)) held
+kept_in_place k r held o =
+    let d = in_place k held o in
+    let new = updated k r held d in (
+      moved (metadata_text (codes "uid") held) (metadata_text (codes "uid") new) (metadata_text (codes "uid") d) (text-updated k (codes "uid") r held d refl refl) (uid-in_place k held o),
+      moved (metadata_text (codes "creationTimestamp") held) (metadata_text (codes "creationTimestamp") new) (metadata_text (codes "creationTimestamp") d)
+          (text-updated k (codes "creationTimestamp") r held d refl refl) (creation-in_place k held o),
+    )
+
+pub identity : WritesKeepIdentity
+identity q h moment =
+    let r = present h + 1 in
+    of_accept (λ u. OfStored u (λ k new. IfSome (state h (present h) k) (KeepsBoth new))) (λ f. tt) (λ code body. tt) q h moment
+    (λ kind ns o fits free room.
+    let k = new_name kind ns o (members h (present h)) (present h) in
+    of_none (KeepsBoth (created kind r ns k.name moment o)) (state h (present h) k) (sym (found-state h k) ∙ none_from (found k (members h (present h))) free))
+    (λ k o held at fits low. of_held (KeepsBoth (updated k.kind r held (in_place k.kind held o))) (state h (present h) k) held (sym (found-state h k) ∙ at) (kept_in_place k.kind r held o))
+    (λ k d low. tt)
+    (λ k o held at fits low.
+    let d = with_said_status k.kind held o in
+    of_held (KeepsBoth (at_revision r (metadata_of d) d)) (state h (present h) k) held (sym (found-state h k) ∙ at)
+    (text-restated (codes "uid") k.kind r held o refl, text-restated (codes "creationTimestamp") k.kind r held o refl))

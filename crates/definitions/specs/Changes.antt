@@ -3,9 +3,8 @@ use Rattle.std.specs.Prelude.{ℕ, ◌+◌, ◌-◌, List, [], ◌∷◌, ◌++�
 use Rattle.serde_json.specs.Data.{Data}
 use Rattle.definitions.specs.Names.{Name}
 use Rattle.definitions.specs.History.{History, Write, View, Members, up_to, last_of, put_or_remove, seen, present}
-use Rattle.definitions.specs.Metadata.{metadata_of}
+use Rattle.definitions.specs.Metadata.{metadata_of, at_revision}
 use Rattle.definitions.specs.Refusals.{Refusal, too_new}
-use Rattle.definitions.specs.Verbs.{at_revision}
 use Rattle.definitions.specs.declared.frames.ChangeKind.{ChangeKind}
 use Rattle.definitions.specs.declared.frames.ChangeKind.TheVariants.{Added, Modified, Deleted}
 

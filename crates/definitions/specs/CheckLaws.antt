@@ -1,15 +1,16 @@
 -- Laws of defaults and checks.
-use Rattle.std.specs.Prelude.{◌≡◌, ◌⊎◌, ◌≤◌, ℕ, List, true, None, Some, Ok, codes}
+use Rattle.std.specs.Prelude.{◌≡◌, ◌⊎◌, ◌≤◌, ℕ, List, true, None, Some, Ok, IfSome, codes}
 use Rattle.serde_json.specs.Data.{Data}
 use Rattle.definitions.specs.declared.kinds.Kind.{Kind}
 use Rattle.definitions.specs.declared.kinds.Kind.TheVariants.{ReplicaSet, Deployment}
 use Rattle.definitions.specs.Checks.{create_fault, in_spec, update_fault}
 use Rattle.definitions.specs.Defaults.{defaulted}
 use Rattle.definitions.specs.Labels.{labels_of}
+use Rattle.definitions.specs.Metadata.{name}
 use Rattle.definitions.specs.Reading.{reading}
 use Rattle.definitions.specs.Selectors.{Requirement, meets_all}
 use Rattle.definitions.specs.SelectorValues.{said_by_value}
-use Rattle.definitions.specs.Verbs.{created}
+use Rattle.definitions.specs.NewObjects.{created}
 
 abbrev pub HasTemplate : Kind → Type 0
 HasTemplate k = (k ≡ ReplicaSet) ⊎ (k ≡ Deployment)
@@ -30,11 +31,11 @@ abbrev pub UpdatedSelectTheirTemplates : Type 0
 UpdatedSelectTheirTemplates =
     (k : Kind) (made : List ℕ) (present : ℕ) (stored d : Data) → HasTemplate k → update_fault k made present stored d ≡ None → SelectsItsTemplate d
 
--- an object that can be created could be created again as it was stored, with what the server sets, whatever was written since
+-- an object that can be created under a name, its own if it has one, could be created again as it was stored, with what the server sets, whatever was written since
 abbrev pub StoredPassAgain : Type 0
 StoredPassAgain =
-    (k : Kind) (made : List ℕ) (present later : ℕ) (r : ℕ) (namespace moment : List ℕ) (d : Data) → present ≤ later → create_fault k made present d ≡ None
-    → create_fault k made later (created r namespace moment d) ≡ None
+    (k : Kind) (under : List ℕ) (present later : ℕ) (r : ℕ) (namespace moment : List ℕ) (d : Data) → present ≤ later → IfSome (name d) (λ n. n ≡ under)
+    → create_fault k under present d ≡ None → create_fault k under later (created k r namespace under moment d) ≡ None
 
 -- a read object with its defaults reads as itself
 abbrev pub DefaultsReadAgain : Type 0

@@ -107,7 +107,7 @@ ServerSetsMetadata =
 abbrev pub PathsComeFirst : Type 0
 PathsComeFirst =
     replay
-    (codes "GET /api/v1/pods\n"
+    (codes "GET /api/v1/nodes\n"
     ++ codes "GET /api/v1/namespaces/A/configmaps\n"
     ++ codes "DELETE /api/v1/namespaces/default/configmaps?dryRun=All\n"
     ++ codes "GET /api/v1/namespaces/default/configmaps?dryRun=All\n"
@@ -287,9 +287,9 @@ MembersAreTyped =
 abbrev pub MembersAreKept : Type 0
 MembersAreKept =
     replay
-    (codes "POST /api/v1/namespaces/default/configmaps {\"apiVersion\":\"v1\",\"kind\":\"ConfigMap\",\"metadata\":{\"name\":\"a\",\"namespace\":\"default\",\"resourceVersion\":\"\",\"annotations\":{\"x\":\"1\"},\"labels\":{\"x\":\"1\"},\"finalizers\":[\"f\"],\"ownerReferences\":[{\"controller\":true,\"blockOwnerDeletion\":false}]},\"data\":{\"k\":\"\"},\"z\":[-1,18446744073709551615,true,{\"a\":null,\"b\":[]}]}\n"
+    (codes "POST /api/v1/namespaces/default/configmaps {\"apiVersion\":\"v1\",\"kind\":\"ConfigMap\",\"metadata\":{\"name\":\"a\",\"namespace\":\"default\",\"resourceVersion\":\"\",\"annotations\":{\"x\":\"1\"},\"labels\":{\"x\":\"1\"},\"finalizers\":[\"f\"],\"ownerReferences\":[{\"apiVersion\":\"v1\",\"kind\":\"Pod\",\"name\":\"p\",\"uid\":\"u\",\"controller\":true,\"blockOwnerDeletion\":false}]},\"data\":{\"k\":\"\"},\"z\":[-1,18446744073709551615,true,{\"a\":null,\"b\":[]}]}\n"
     ++ codes "POST /api/v1/namespaces/default/configmaps {\"metadata\":{\"name\":\"b\",\"generateName\":\"\",\"namespace\":\"\",\"uid\":\"\",\"creationTimestamp\":\"\",\"deletionTimestamp\":\"\",\"labels\":{},\"annotations\":{},\"finalizers\":[],\"ownerReferences\":[]},\"data\":{}}\n")
-    ≡ codes "201 {\"apiVersion\":\"v1\",\"data\":{\"k\":\"\"},\"kind\":\"ConfigMap\",\"metadata\":{\"annotations\":{\"x\":\"1\"},\"creationTimestamp\":\"2026-01-01T00:00:00Z\",\"finalizers\":[\"f\"],\"labels\":{\"x\":\"1\"},\"name\":\"a\",\"namespace\":\"default\",\"ownerReferences\":[{\"blockOwnerDeletion\":false,\"controller\":true}],\"resourceVersion\":\"2\",\"uid\":\"00000000-0000-8000-8000-000000000002\"},\"z\":[-1,18446744073709551615,true,{\"b\":[]}]}\n"
+    ≡ codes "201 {\"apiVersion\":\"v1\",\"data\":{\"k\":\"\"},\"kind\":\"ConfigMap\",\"metadata\":{\"annotations\":{\"x\":\"1\"},\"creationTimestamp\":\"2026-01-01T00:00:00Z\",\"finalizers\":[\"f\"],\"labels\":{\"x\":\"1\"},\"name\":\"a\",\"namespace\":\"default\",\"ownerReferences\":[{\"apiVersion\":\"v1\",\"blockOwnerDeletion\":false,\"controller\":true,\"kind\":\"Pod\",\"name\":\"p\",\"uid\":\"u\"}],\"resourceVersion\":\"2\",\"uid\":\"00000000-0000-8000-8000-000000000002\"},\"z\":[-1,18446744073709551615,true,{\"b\":[]}]}\n"
     ++ codes "201 {\"apiVersion\":\"v1\",\"data\":{},\"kind\":\"ConfigMap\",\"metadata\":{\"creationTimestamp\":\"2026-01-01T00:00:00Z\",\"name\":\"b\",\"namespace\":\"default\",\"resourceVersion\":\"3\",\"uid\":\"00000000-0000-8000-8000-000000000003\"}}\n"
 
 -- lines of another form, other methods and other paths are refused, and an empty line is skipped
@@ -306,7 +306,7 @@ LinesAreRead =
     ++ codes "POST /api/v1/configmaps? {}\n"
     ++ codes "PUT /api/v1/namespaces/default/configmaps {}\n"
     ++ codes "POST /api/v1/namespaces/default/configmaps/a {}\n"
-    ++ codes "PATCH /api/v1/namespaces/default/configmaps/a? {}\n"
+    ++ codes "PATCH /api/v1/namespaces/default/configmaps? {}\n"
     ++ codes "DELETE /api/v1/namespaces/default/configmaps/a\n"
     ++ codes "PUT /api/v1/namespaces/default/configmaps/a/status {}\n"
     ++ codes "GET /api/v1/namespaces/default/configmaps/\n"

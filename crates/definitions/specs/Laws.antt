@@ -68,13 +68,11 @@ NamedVersionsAreReplaced =
 abbrev pub KeepsText : List ℕ → Data → Data → Type 0
 KeepsText k held new = IfSome (metadata_text k held) (λ t. metadata_text k new ≡ Some t)
 
--- an update keeps the uid and the time of creation that an object has (Kubernetes API Conventions, Metadata)
-abbrev pub UpdatesKeepIdentity : Type 0
-UpdatesKeepIdentity =
-    (k : Name) (d : Data) (h : History) (moment : List ℕ)
-    → OfStored (accept (update_object k d) h moment)
-    (λ written new.
-    (held : Data) × (state h (present h) k ≡ Some held) × KeepsText (codes "uid") held new × KeepsText (codes "creationTimestamp") held new)
+-- whatever is written in the place of an object keeps the uid and the time of creation that it has (Kubernetes API Conventions, Metadata)
+abbrev pub WritesKeepIdentity : Type 0
+WritesKeepIdentity =
+    (q : Request) (h : History) (moment : List ℕ)
+    → OfStored (accept q h moment) (λ k new. IfSome (state h (present h) k) (λ held. KeepsText (codes "uid") held new × KeepsText (codes "creationTimestamp") held new))
 
 -- no object is longer than an object may be
 abbrev pub WritesFit : Type 0

@@ -10,6 +10,7 @@ pub mod Examples
 pub mod ExpectationLaws
 pub mod Expectations
 pub mod Frames
+pub mod GeneratedNames
 pub mod History
 pub mod HistoryCodes
 pub mod Kinds
@@ -19,6 +20,7 @@ pub mod Lines
 pub mod Metadata
 pub mod Moments
 pub mod Names
+pub mod NewObjects
 pub mod Objects
 pub mod Queries
 pub mod Reading
@@ -26,6 +28,7 @@ pub mod ReflectorCodes
 pub mod ReflectorExamples
 pub mod Reflectors
 pub mod Refusals
+pub mod Replacements
 pub mod Revisions
 pub mod Schemas
 pub mod SelectorCodes
@@ -41,6 +44,7 @@ pub mod Streams
 pub mod Targets
 pub mod Uids
 pub mod Values
+pub mod VerbExamples
 pub mod Verbs
 pub mod WatchExamples
 pub mod WatchLaws

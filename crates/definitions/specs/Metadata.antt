@@ -1,6 +1,6 @@
 -- What an object's metadata says (Kubernetes API Conventions, Metadata).
-use Rattle.std.specs.Prelude.{ℕ, List, [], Bool, false, Option, is_some, option_and_then, unwrap_or, codes, ◌∷◌}
-use Rattle.serde_json.specs.Data.{Data, object, Members, put, Items, no_items, item}
+use Rattle.std.specs.Prelude.{ℕ, List, [], Bool, false, Option, is_some, option_and_then, unwrap_or, codes, decimal, ◌∷◌}
+use Rattle.serde_json.specs.Data.{Data, string, object, Members, put, Items, no_items, item}
 use Rattle.serde_json.specs.Find.{get, get_member, as_str, as_bool, as_array}
 use Rattle.definitions.specs.Values.{members_of, inner_of}
 
@@ -11,6 +11,10 @@ metadata_of d = inner_of (get (codes "metadata") d)
 -- the object with this metadata
 abbrev pub with_metadata : Members → Data → Data
 with_metadata meta d = object (put (codes "metadata") (object meta) (members_of d))
+
+-- the object with this metadata, at a revision (Kubernetes API Concepts, Resource versions)
+abbrev pub at_revision : ℕ → Members → Data → Data
+at_revision r meta d = with_metadata (put (codes "resourceVersion") (string (decimal r)) meta) d
 
 -- a member of the metadata
 abbrev pub metadata : List ℕ → Data → Option Data

@@ -10,3 +10,7 @@ is_revision t = nat_lt 0 (length t) && list_all is_digit t && ((length t == 1) |
 -- the revision that a text writes
 abbrev pub revision_of : List ℕ → Option ℕ
 revision_of t = if is_revision t then Some (digits_value 10 t) else None
+
+-- the greatest number that every JSON reader holds exactly (RFC 8259, Numbers)
+abbrev pub greatest_revision : ℕ
+greatest_revision = 9007199254740991

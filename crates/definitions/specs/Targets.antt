@@ -1,6 +1,6 @@
 -- What a method, a target and a body ask for.
 use Rattle.std.specs.Prelude.{ℕ, List, [], ◌∷◌, ◌++◌, Bool, true, false, not, ◌&&◌, length, Option, Some, None, Result, Ok, Err, codes, nat_lt, if◌then◌else◌, option_and_then, option_map, ◌==◌}
-use Rattle.std.specs.List.{slice_split, list_any, list_all, before_first}
+use Rattle.std.specs.List.{slice_split, list_all, before_first}
 use Rattle.std.specs.Str.{bytes_eq, is_utf8}
 use Rattle.std.specs.Str.Lossy.{utf8_lossy}
 use Rattle.serde_json.specs.Data.{Data}
@@ -8,7 +8,6 @@ use Rattle.serde_json.specs.Read.{read}
 use Rattle.definitions.specs.declared.kinds.Group.{Group}
 use Rattle.definitions.specs.declared.kinds.Group.TheVariants.{Core, Apps}
 use Rattle.definitions.specs.declared.kinds.Kind.{Kind}
-use Rattle.definitions.specs.declared.kinds.Kind.TheVariants.{ConfigMap, Pod, ReplicaSet, Deployment}
 use Rattle.definitions.specs.declared.methods.Method.{Method}
 use Rattle.definitions.specs.declared.methods.Method.TheVariants.{Get, Post, Put, Patch, Delete}
 use Rattle.definitions.specs.declared.refusals.Part.TheVariants as part
@@ -17,7 +16,7 @@ use Rattle.definitions.specs.Names.{Name, is_namespace}
 use Rattle.definitions.specs.History.{View}
 use Rattle.definitions.specs.Queries.{Query, pairs_of, collection_query, other_query}
 use Rattle.definitions.specs.Refusals.{Refusal, bad_request, no_such_path, method_not_allowed, too_large}
-use Rattle.definitions.specs.Verbs.{Request, get_object, list_objects, create_object, update_object, update_status}
+use Rattle.definitions.specs.Verbs.{Request, get_object, list_objects, create_object, update_object, update_status, patch_object}
 
 -- a collection of a kind, in one namespace or in all; an object; the status of an object (Kubernetes API Concepts, Resource URIs)
 pub data Route : Type 0 where
@@ -93,27 +92,14 @@ abbrev pub form_of : List (List ℕ) → Option Form
 form_of ([] ∷ segs) = if list_all is_filled segs then by_prefix segs else None
 form_of _ = None
 
--- the kinds that are served so far
-abbrev pub is_served : Kind → Bool
-is_served ConfigMap = true
-is_served Pod = false
-is_served ReplicaSet = false
-is_served Deployment = false
-
-abbrev pub served : Kind → Option Kind
-served k = if is_served k then Some k else None
-
-abbrev pub served_named : Group → List ℕ → Option Kind
-served_named g resource = option_and_then served (kind_named g resource)
-
 abbrev pub with_status : Kind → Option Kind
 with_status k = if has_status k then Some k else None
 
 abbrev pub route_of : Form → Option Route
-route_of (all_form g resource) = option_map (λ k. collection k None) (served_named g resource)
-route_of (namespace_form g n resource) = option_map (λ k. collection k (Some n)) (served_named g resource)
-route_of (object_form g n resource name) = option_map (λ k. object_at (record { kind = k; namespace = n; name = name })) (served_named g resource)
-route_of (status_form g n resource name) = option_map (λ k. status_of (record { kind = k; namespace = n; name = name })) (option_and_then with_status (served_named g resource))
+route_of (all_form g resource) = option_map (λ k. collection k None) (kind_named g resource)
+route_of (namespace_form g n resource) = option_map (λ k. collection k (Some n)) (kind_named g resource)
+route_of (object_form g n resource name) = option_map (λ k. object_at (record { kind = k; namespace = n; name = name })) (kind_named g resource)
+route_of (status_form g n resource name) = option_map (λ k. status_of (record { kind = k; namespace = n; name = name })) (option_and_then with_status (kind_named g resource))
 
 -- the route with this path (Kubernetes API Concepts, Resource URIs)
 abbrev pub route : List ℕ → Option Route
@@ -138,7 +124,9 @@ is_allowed Post (status_of n) = false
 is_allowed Put (collection k ns) = false
 is_allowed Put (object_at n) = true
 is_allowed Put (status_of n) = true
-is_allowed Patch r = false
+is_allowed Patch (collection k ns) = false
+is_allowed Patch (object_at n) = true
+is_allowed Patch (status_of n) = false
 is_allowed Delete r = false
 
 -- a target is a path, and a query after a `?` (RFC 3986, Path)
@@ -189,7 +177,9 @@ asked Post (status_of n) q text = Err method_not_allowed
 asked Put (collection k ns) q text = Err method_not_allowed
 asked Put (object_at n) q text = with_body (update_object n) text
 asked Put (status_of n) q text = with_body (update_status n) text
-asked Patch r q text = Err method_not_allowed
+asked Patch (collection k ns) q text = Err method_not_allowed
+asked Patch (object_at n) q text = with_body (patch_object n) text
+asked Patch (status_of n) q text = Err method_not_allowed
 asked Delete r q text = Err method_not_allowed
 
 abbrev pub asked_with : Method → Route → List ℕ → Option Query → Result Asked Refusal

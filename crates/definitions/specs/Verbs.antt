@@ -1,24 +1,29 @@
 -- What each request is answered, and what it writes, by cases over what is there at the present revision.
-use Rattle.std.specs.Prelude.{ℕ, ◌+◌, List, [], ◌∷◌, ◌++◌, Bool, true, false, not, ◌||◌, length, map, Option, Some, None, Result, Ok, Err, codes, decimal, nat_le, nat_lt, is_some, unwrap_or, ◌&&◌, if◌then◌else◌}
+use Rattle.std.specs.Prelude.{ℕ, ◌+◌, List, [], ◌∷◌, ◌++◌, Bool, true, false, not, ◌||◌, length, map, Option, Some, None, Result, Ok, Err, codes, decimal, nat_le, nat_lt, is_some, ◌&&◌, if◌then◌else◌}
 use Rattle.std.specs.Str.{bytes_eq}
-use Rattle.serde_json.specs.Data.{Data, string, array, object, Members, no_members, member, put}
-use Rattle.serde_json.specs.Find.{get_member}
+use Rattle.serde_json.specs.Data.{Data, string, array, object, no_members, member}
 use Rattle.serde_json.specs.View.{items_of}
 use Rattle.serde_json.specs.Written.{compact_text}
 use Rattle.definitions.specs.declared.kinds.Kind.{Kind}
 use Rattle.definitions.specs.declared.refusals.Part.{Part}
 use Rattle.definitions.specs.declared.refusals.Part.TheVariants as part
 use Rattle.definitions.specs.declared.refusals.Mismatch.TheVariants as mismatch
+use Rattle.definitions.specs.declared.refusals.Field.{Field}
 use Rattle.definitions.specs.declared.refusals.Field.TheVariants as field
+use Rattle.definitions.specs.Checks.{generate_name, create_fault, update_fault, is_status_valid}
+use Rattle.definitions.specs.Defaults.{defaulted}
+use Rattle.definitions.specs.GeneratedNames.{name_from}
 use Rattle.definitions.specs.Kinds.{api_version, kind_text}
-use Rattle.definitions.specs.Names.{Name, is_subdomain}
+use Rattle.definitions.specs.Names.{Name}
 use Rattle.definitions.specs.History as history
 use Rattle.definitions.specs.History.{History, Write, write, View, viewed, members, found, present}
-use Rattle.definitions.specs.Metadata.{metadata_of, with_metadata, name, namespace, uid, version}
-use Rattle.definitions.specs.Reading.{reading}
-use Rattle.definitions.specs.Refusals.{Refusal, bad_request, not_found, no_such_path, method_not_allowed, already_exists, conflict, invalid, too_large, storage_full, code, status_body}
-use Rattle.definitions.specs.Uids.{uid_text, cluster_word}
-use Rattle.definitions.specs.Values.{members_of, without}
+use Rattle.definitions.specs.Metadata.{metadata_of, at_revision, name, namespace, uid, version}
+use Rattle.definitions.specs.Reading.{is_body, reading}
+use Rattle.definitions.specs.Refusals.{Refusal, bad_request, not_found, method_not_allowed, already_exists, conflict, invalid, too_large, storage_full, code, status_body}
+use Rattle.definitions.specs.NewObjects.{created}
+use Rattle.definitions.specs.Replacements.{in_place, is_let_go, says_the_same, updated, with_said_status}
+use Rattle.definitions.specs.Revisions.{greatest_revision}
+use Rattle.definitions.specs.Values.{members_of, merged, without}
 
 -- ---- requests and outcomes
 
@@ -68,10 +73,6 @@ history_after h o = with_write h (write_of o)
 abbrev pub most_objects : ℕ
 most_objects = 65536
 
--- the greatest number that every JSON reader holds exactly (RFC 8259, Numbers)
-abbrev pub greatest_revision : ℕ
-greatest_revision = 9007199254740991
-
 abbrev pub longest_object : ℕ
 longest_object = 1572864
 
@@ -80,13 +81,18 @@ longest_object = 1572864
 abbrev pub refuse_if : Bool → Refusal → Outcome → Outcome
 refuse_if b f o = if b then refused f else o
 
+-- a field of an object is at fault, or none is
+abbrev pub refuse_field : Name → Option Field → Outcome → Outcome
+refuse_field k None o = o
+refuse_field k (Some f) o = refused (invalid k f)
+
 -- an object is written under its key, and answered
 abbrev pub stored : ℕ → Name → Data → Outcome
 stored code k d = answered (record { code = code; body = d; write = Some (record { key = k; put = Some d }) })
 
--- the object with this metadata, at a revision (Kubernetes API Concepts, Resource versions)
-abbrev pub at_revision : ℕ → Members → Data → Data
-at_revision r meta d = with_metadata (put (codes "resourceVersion") (string (decimal r)) meta) d
+-- an object is removed, and answered
+abbrev pub removed : Name → Data → Outcome
+removed k d = answered (record { code = 200; body = d; write = Some (record { key = k; put = None }) })
 
 abbrev pub is_too_large : Data → Bool
 is_too_large d = nat_lt longest_object (length (compact_text d))
@@ -108,6 +114,14 @@ abbrev pub differs : Option (List ℕ) → Option (List ℕ) → Bool
 differs None held = false
 differs (Some s) None = true
 differs (Some s) (Some t) = not (bytes_eq s t)
+
+-- what a body says, with what is filled in where its spec leaves it out
+abbrev pub with_defaults : Kind → Result Data Part → Result Data Part
+with_defaults k (Err p) = Err p
+with_defaults k (Ok o) = Ok (defaulted k o)
+
+abbrev pub said : Kind → Data → Result Data Part
+said k d = with_defaults k (reading k d)
 
 -- ---- get and list
 
@@ -136,78 +150,100 @@ listed v ms r = answered (record { code = 200; body = list_body v.kind r (viewed
 
 -- ---- create
 
--- what the server sets in the metadata of a new object (Kubernetes API Conventions, Metadata)
-abbrev pub new_metadata : ℕ → List ℕ → List ℕ → Members → Members
-new_metadata r ns moment meta =
-    put (codes "uid") (string (uid_text cluster_word r))
-    (put (codes "creationTimestamp") (string moment) (put (codes "namespace") (string ns) (without (codes "deletionTimestamp") meta)))
-
--- a new object, of what a body says
-abbrev pub created : ℕ → List ℕ → List ℕ → Data → Data
-created r ns moment o = at_revision r (new_metadata r ns moment (metadata_of o)) o
-
 -- an object is put where none is, in the first case that there is (Kubernetes API Concepts, POST)
 abbrev pub create_as : Name → Data → history.Members → ℕ → Outcome
 create_as k d ms r =
-    refuse_if (not (is_subdomain k.name)) (invalid k field.Name)
-    (refuse_if (is_too_large d) too_large
-    (refuse_if (is_some (found k ms)) (already_exists k) (refuse_if (nat_le most_objects (length ms) || is_past_greatest (r + 1)) storage_full (stored 201 k d))))
+    refuse_if (is_too_large d) too_large
+    (refuse_if (is_some (found k ms)) (already_exists k) (refuse_if (nat_le most_objects (length ms) || is_past_greatest (r + 1)) storage_full (stored 201 k d)))
 
-abbrev pub new_name : Kind → List ℕ → Data → Name
-new_name kind ns o = record { kind = kind; namespace = ns; name = unwrap_or (name o) [] }
+abbrev pub is_free : Kind → List ℕ → history.Members → List ℕ → Bool
+is_free kind ns ms name = not (is_some (found (record { kind = kind; namespace = ns; name = name }) ms))
+
+-- the name of a new object: the one that it says, or one that is made
+abbrev pub new_name : Kind → List ℕ → Data → history.Members → ℕ → Name
+new_name kind ns o ms r = record { kind = kind; namespace = ns; name = name_from (is_free kind ns ms) (name o) (generate_name o) (r + 1) }
+
+-- each field of a new object is as it has to be
+abbrev pub create_checked : Name → Data → history.Members → ℕ → List ℕ → Outcome
+create_checked k o ms r moment = refuse_field k (create_fault k.kind k.name r o) (create_as k (created k.kind (r + 1) k.namespace k.name moment o) ms r)
 
 -- a new object names no other namespace than its path, and no version
 abbrev pub create_read : Kind → List ℕ → Result Data Part → history.Members → ℕ → List ℕ → Outcome
 create_read kind ns (Err p) ms r moment = refused (bad_request p)
 create_read kind ns (Ok o) ms r moment =
-    refuse_if (is_other (namespace o) ns || is_some (version o)) (bad_request part.Object) (create_as (new_name kind ns o) (created (r + 1) ns moment o) ms r)
+    refuse_if (is_other (namespace o) ns || is_some (version o)) (bad_request part.Object) (create_checked (new_name kind ns o ms r) o ms r moment)
 
 -- ---- update
 
-abbrev pub as_held : List ℕ → Option Data → Members → Members
-as_held k None ms = without k ms
-as_held k (Some d) ms = put k d ms
+-- an object is put in the place of another
+abbrev pub put_in_place : Name → Data → ℕ → Outcome
+put_in_place k d r = refuse_if (is_too_large d) too_large (refuse_if (is_past_greatest (r + 1)) storage_full (stored 200 k d))
 
--- these members as they are held, whatever else stands there
-abbrev pub keeping : List (List ℕ) → Members → Members → Members
-keeping [] held ms = ms
-keeping (k ∷ ks) held ms = keeping ks held (as_held k (get_member k held) ms)
+-- what nothing keeps any more is removed, and answered at the revision of its removal (Kubernetes, Finalizers)
+abbrev pub let_go : Name → Data → ℕ → Outcome
+let_go k d r = refuse_if (is_past_greatest (r + 1)) storage_full (removed k d)
 
--- what an update leaves as it is, whatever the body says (Kubernetes API Conventions, Metadata)
-abbrev pub kept : List (List ℕ)
-kept = codes "namespace" ∷ codes "uid" ∷ codes "creationTimestamp" ∷ codes "deletionTimestamp" ∷ codes "generation" ∷ []
+-- an object in the place of the one that is held: where it says the same nothing is written
+abbrev pub replace_changed : Name → Data → Data → ℕ → Outcome
+replace_changed k held d r =
+    if says_the_same held d then shown held
+    else (let new = updated k.kind (r + 1) held d in if is_let_go held d then let_go k new r else put_in_place k new r)
 
--- an object as a body says it, in the place of the one that is held
-abbrev pub updated : ℕ → Data → Data → Data
-updated r held o = at_revision r (keeping kept (metadata_of held) (metadata_of o)) o
+-- each field of what replaces an object is as it has to be
+abbrev pub replace_with : Name → Data → Data → ℕ → Outcome
+replace_with k held d r = refuse_field k (update_fault k.kind k.name r held d) (replace_changed k held d r)
 
-abbrev pub replace_with : Name → Data → ℕ → Outcome
-replace_with k d r =
-    refuse_if (not (is_subdomain k.name)) (invalid k field.Name) (refuse_if (is_too_large d) too_large (refuse_if (is_past_greatest (r + 1)) storage_full (stored 200 k d)))
-
--- the object that is there is replaced, if it has the uid and the version that are named (Kubernetes API Conventions, Concurrency Control and Consistency)
-abbrev pub replace : Name → Data → ℕ → Data → Outcome
-replace k o r held =
-    refuse_if (differs (uid o) (uid held)) (conflict k mismatch.Uid)
-    (refuse_if (differs (version o) (version held)) (conflict k mismatch.Modified) (replace_with k (updated (r + 1) held o) r))
+-- what is there has the uid and the version that are named (Kubernetes API Conventions, Concurrency Control and Consistency)
+abbrev pub if_same : Name → Data → Data → Outcome → Outcome
+if_same k o held next =
+    refuse_if (differs (uid o) (uid held)) (conflict k mismatch.Uid) (refuse_if (differs (version o) (version held)) (conflict k mismatch.Modified) next)
 
 -- an update names the object of its path, and no other namespace
 abbrev pub names_path : Name → Data → Bool
 names_path k o = not (is_other (namespace o) k.namespace) && not (differs (Some k.name) (name o))
 
+abbrev pub replace : Name → Data → ℕ → Data → Outcome
+replace k o r held = if_same k o held (replace_with k held (in_place k.kind held o) r)
+
+-- the object that is there is replaced (Kubernetes API Concepts, PUT)
 abbrev pub update_read : Name → Result Data Part → history.Members → ℕ → Outcome
 update_read k (Err p) ms r = refused (bad_request p)
 update_read k (Ok o) ms r = refuse_if (not (names_path k o)) (bad_request part.Object) (or_absent k (replace k o r) (found k ms))
+
+-- ---- update of the status
+
+-- a status that says the same is not written, and no count is below 0
+abbrev pub restate : Name → Data → Data → ℕ → Outcome
+restate k held d r =
+    refuse_if (not (is_status_valid k.kind d)) (invalid k field.Status) (if says_the_same held d then shown held else put_in_place k (at_revision (r + 1) (metadata_of d) d) r)
+
+abbrev pub restate_with : Name → Data → ℕ → Data → Outcome
+restate_with k o r held = if_same k o held (restate k held (with_said_status k.kind held o) r)
+
+-- of the object that is there the status is replaced, and nothing else (Kubernetes API Conventions, Spec and Status)
+abbrev pub status_read : Name → Result Data Part → history.Members → ℕ → Outcome
+status_read k (Err p) ms r = refused (bad_request p)
+status_read k (Ok o) ms r = refuse_if (not (names_path k o)) (bad_request part.Object) (or_absent k (restate_with k o r) (found k ms))
+
+-- ---- patch
+
+abbrev pub patch_read : Name → ℕ → Data → Result Data Part → Outcome
+patch_read k r held (Err p) = refused (bad_request p)
+patch_read k r held (Ok o) = refuse_if (not (names_path k o)) (bad_request part.Object) (replace k o r held)
+
+-- a merge patch (RFC 7396) of the object that is there says what an update of it says (Kubernetes API Concepts, PATCH)
+abbrev pub patch : Name → Data → history.Members → ℕ → Outcome
+patch k d ms r = refuse_if (not (is_body d)) (bad_request part.Body) (or_absent k (λ held. patch_read k r held (said k.kind (merged held d))) (found k ms))
 
 -- ---- the verbs
 
 abbrev pub accept_at : Request → history.Members → ℕ → List ℕ → Outcome
 accept_at (get_object k) ms r moment = or_absent k shown (found k ms)
 accept_at (list_objects v) ms r moment = listed v ms r
-accept_at (create_object kind ns d) ms r moment = create_read kind ns (reading kind d) ms r moment
-accept_at (update_object k d) ms r moment = update_read k (reading k.kind d) ms r
-accept_at (update_status k d) ms r moment = refused no_such_path
-accept_at (patch_object k d) ms r moment = refused method_not_allowed
+accept_at (create_object kind ns d) ms r moment = create_read kind ns (said kind d) ms r moment
+accept_at (update_object k d) ms r moment = update_read k (said k.kind d) ms r
+accept_at (update_status k d) ms r moment = status_read k (reading k.kind d) ms r
+accept_at (patch_object k d) ms r moment = patch k d ms r
 accept_at (delete_object k d) ms r moment = refused method_not_allowed
 
 -- the answer to a request at a moment, after all that has happened

@@ -1,5 +1,5 @@
 //! Laws of the definitions.
-ghost use Rattle.definitions.specs.Laws.{MembersAreState, MembersAreInOrder, ListsShowTheState, ListsAreInOrder, PastStands, WritesSetState, WritesCarryTheirRevision, CreatesAreNew, NamedVersionsAreReplaced, UpdatesKeepIdentity, WritesFit, WritesHaveRoom, RefusalsWriteNothing, AnswersAreRead, UidsHoldRevisions, PathsAreRoutes, BodiesFit, RunsOnlyAdd, RunsCanHappen, RunsCarryRevisions, RunsStayWithinLimits, ReadsAgain};
+ghost use Rattle.definitions.specs.Laws.{MembersAreState, MembersAreInOrder, ListsShowTheState, ListsAreInOrder, PastStands, WritesSetState, WritesCarryTheirRevision, CreatesAreNew, NamedVersionsAreReplaced, WritesKeepIdentity, WritesFit, WritesHaveRoom, RefusalsWriteNothing, AnswersAreRead, UidsHoldRevisions, PathsAreRoutes, BodiesFit, RunsOnlyAdd, RunsCanHappen, RunsCarryRevisions, RunsStayWithinLimits, ReadsAgain};
 
 /// What is there under a key at a revision is what the last write to that key put there.
 pub fn members_are_state()
@@ -46,9 +46,9 @@ pub fn named_versions_are_replaced()
     ensures { NamedVersionsAreReplaced }
 {}
 
-/// An update leaves the identity of the object as it is.
-pub fn updates_keep_identity()
-    ensures { UpdatesKeepIdentity }
+/// Whatever is written in the place of an object leaves its identity as it is.
+pub fn writes_keep_identity()
+    ensures { WritesKeepIdentity }
 {}
 
 /// No object that is stored is longer than an object may be.

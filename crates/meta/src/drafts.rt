@@ -2,12 +2,14 @@
 ghost use Rattle.std.specs.Prelude.{◌≡◌, IfOk, OnOk, OnErr};
 ghost use Rattle.serde_json.specs.Data.{Members, string, put};
 ghost use Rattle.serde_json.specs.Find.{get_member};
+ghost use Rattle.definitions.specs.Defaults.{whole};
 ghost use Rattle.definitions.specs.Metadata.{metadata_of, with_metadata};
 ghost use Rattle.definitions.specs.Values.{without};
-ghost use Rattle.definitions.specs.Verbs.{as_held};
+ghost use Rattle.definitions.specs.Replacements.{as_held};
 
 use crate::members::{into_members, remove, take};
 use crate::objects::Object;
+use crate::values::whole_number;
 use definitions::kinds::Kind;
 use serde_json::{Map, Value};
 use std::alloc::{AllocError, Global};
@@ -79,6 +81,17 @@ impl Draft {
         ensures err { OnErr result (self.new ≡ self.old) }
     {
         let value = Value::try_from_str(alloc, text)?;
+        serde_json::put(&mut self.metadata, alloc, name, value)
+    }
+
+    /// Sets the member `name` of the metadata to a whole number. The error, want of memory, leaves the draft as it was.
+    pub fn set_count(&mut self, alloc: Global, name: &str, count: u64) -> Result<(), AllocError>
+        ensures metadata { OnOk result (self.new.metadata ≡ put name.now (whole count) self.old.metadata) }
+        ensures rest { self.new.rest ≡ self.old.rest }
+        ensures kind { self.new.kind ≡ self.old.kind }
+        ensures err { OnErr result (self.new ≡ self.old) }
+    {
+        let value = whole_number(alloc, count)?;
         serde_json::put(&mut self.metadata, alloc, name, value)
     }
 

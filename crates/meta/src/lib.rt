@@ -7,6 +7,7 @@ pub(crate) mod items;
 pub mod keys;
 pub mod members;
 pub mod merging;
+pub mod object_members;
 pub mod objects;
 pub mod owners;
 pub mod reading;

@@ -5,8 +5,10 @@ ghost use Rattle.serde_json.specs.Data.{depth};
 ghost use Rattle.serde_json.specs.Read.{read, max_depth};
 ghost use Rattle.serde_json.specs.View.{view, items_view, members_view};
 ghost use Rattle.serde_json.specs.Written.{has_float, compact_text, IsInOrder};
+ghost use Rattle.definitions.specs.Checks.{generate_name};
 ghost use Rattle.definitions.specs.Metadata.{name, namespace, uid, version, is_being_deleted, label, owners, metadata, metadata_text};
 ghost use Rattle.definitions.specs.Reading.{reading};
+ghost use Rattle.definitions.specs.Replacements.{generation};
 ghost use Rattle.definitions.specs.Verbs.{as_item};
 ghost use Rattle.meta.specs.Faults.{RefusesReading};
 ghost use Rattle.meta.specs.Owners.{owner_of};
@@ -139,6 +141,13 @@ impl Object {
         metadata_text(&self.value, "name")
     }
 
+    /// What the object's name is made of, where the server is to make one.
+    pub fn generate_name(&self) -> Option<&str>
+        ensures { option_map (λ s. s.now) result ≡ generate_name self.now.value }
+    {
+        metadata_text(&self.value, "generateName")
+    }
+
     /// The namespace that the object is in.
     pub fn namespace(&self) -> Option<&str>
         ensures { option_map (λ s. s.now) result ≡ namespace self.now.value }
@@ -158,6 +167,16 @@ impl Object {
         ensures { option_map (λ s. s.now) result ≡ version self.now.value }
     {
         metadata_text(&self.value, "resourceVersion")
+    }
+
+    /// How many specs the object has had, as its metadata says; 0 where it says none.
+    pub fn generation(&self) -> u64
+        ensures { result ≡ generation self.now.value }
+    {
+        match metadata_member(&self.value, "generation") {
+            Some(found) => found.as_u64().unwrap_or(0),
+            None => 0,
+        }
     }
 
     /// Whether the object is marked for deletion.

@@ -3,10 +3,18 @@ ghost use Rattle.std.specs.Prelude.{◌≡◌, ◌≤◌, ◌↔◌, IfOk, IsTru
 ghost use Rattle.serde_json.specs.Data.{string, object, no_members, depth, items_depth, members_depth};
 ghost use Rattle.serde_json.specs.View.{view, items_view, members_view};
 ghost use Rattle.serde_json.specs.Written.{has_float, items_have_float, members_have_float};
+ghost use Rattle.definitions.specs.Defaults.{whole};
 ghost use Rattle.definitions.specs.Values.{with_member, with_default};
 
-use serde_json::{Map, Value};
+use serde_json::{Map, Value, json};
 use std::alloc::{AllocError, Global};
+
+/// A whole number as a value.
+pub fn whole_number(alloc: Global, number: u64) -> Result<Value, AllocError>
+    ensures { IfOk result (λ v. view v ≡ whole number) }
+{
+    json!(in alloc; number)
+}
 
 /// The value with `inner` at the member `name`, where it is an object; another value stays.
 pub fn with_member(

@@ -7,7 +7,7 @@ use Rattle.definitions.specs.History.{History, Members, list, present}
 use Rattle.definitions.specs.Changes.{changes}
 use Rattle.definitions.specs.Frames.{frame_text}
 use Rattle.definitions.specs.Streams.{Line, IsStream, event_of, text_of}
-use Rattle.definitions.specs.Verbs.{greatest_revision}
+use Rattle.definitions.specs.Revisions.{greatest_revision}
 use Rattle.definitions.specs.Reflectors.{Reflector, Fed, Listed, list_of, list_delta, with_list, play_deltas, fed, all_fed}
 use Rattle.definitions.specs.SentLaws.{whole, IsTold, IsListText, history_of}
 use Rattle.framing.specs.Texts.{ReadsAs, IsWithin}

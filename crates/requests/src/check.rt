@@ -42,6 +42,7 @@ fn is_allowed(method: Method, target: Target<'_>) -> bool
         (Method::Get, _) => true,
         (Method::Post, Target::Collection(_, Some(_))) => true,
         (Method::Put, Target::Object(_, _, _) | Target::Status(_, _, _)) => true,
+        (Method::Patch, Target::Object(_, _, _)) => true,
         _ => false,
     }
 }

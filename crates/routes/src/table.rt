@@ -52,7 +52,7 @@ impl Routes {
         Ok(Routes { router })
     }
 
-    /// What a path names; nothing, where it has no route or its kind is not served. No part of the path is decoded,
+    /// What a path names; nothing, where it has no route. No part of the path is decoded,
     /// and the namespace may be any text: see `Target::names_namespace`.
     pub fn read<'p>(&self, path: &'p str) -> Option<Target<'p>>
         ensures { option_map route_seen result ≡ route path.now }

@@ -1,6 +1,7 @@
 //! What a path names.
 ghost use Rattle.std.specs.Prelude.{◌≡◌, option_map, option_and_then};
-ghost use Rattle.definitions.specs.Targets.{served_named, collection, status_of, with_status, route_of, object_form, status_form};
+ghost use Rattle.definitions.specs.Kinds.{kind_named};
+ghost use Rattle.definitions.specs.Targets.{collection, status_of, with_status, route_of, object_form, status_form};
 ghost use Rattle.routes.specs.Seen.{now, route_seen, assembled};
 
 use crate::entries::{Entry, Layout};
@@ -36,37 +37,27 @@ impl Target<'_> {
     }
 }
 
-/// The kind of a resource, where it is served so far.
-fn served_named(group: Group, resource: &str) -> Option<Kind>
-    ensures { result ≡ served_named group resource.now }
-{
-    match group.kind_named(resource)? {
-        Kind::ConfigMap => Some(Kind::ConfigMap),
-        Kind::Pod | Kind::ReplicaSet | Kind::Deployment => None,
-    }
-}
-
 fn collection<'p>(group: Group, resource: &str, namespace: Option<&'p str>) -> Option<Target<'p>>
-    ensures { option_map route_seen result ≡ option_map (λ k. collection k (option_map now namespace.entry)) (served_named group resource.now) }
+    ensures { option_map route_seen result ≡ option_map (λ k. collection k (option_map now namespace.entry)) (kind_named group resource.now) }
 {
-    let kind = served_named(group, resource)?;
+    let kind = group.kind_named(resource)?;
     Some(Target::Collection(kind, namespace))
 }
 
 fn object<'p>(group: Group, resource: &str, namespace: &'p str, name: &'p str) -> Option<Target<'p>>
     ensures { option_map route_seen result ≡ route_of (object_form group namespace.now resource.now name.now) }
 {
-    let kind = served_named(group, resource)?;
+    let kind = group.kind_named(resource)?;
     Some(Target::Object(kind, namespace, name))
 }
 
 fn status<'p>(group: Group, resource: &str, namespace: &'p str, name: &'p str) -> Option<Target<'p>>
     ensures { option_map route_seen result ≡ route_of (status_form group namespace.now resource.now name.now) }
 {
-    status_of(served_named(group, resource)?, namespace, name)
+    status_of(group.kind_named(resource)?, namespace, name)
 }
 
-/// The status of an object, where its kind has one: said for each kind, also for those that are not served yet.
+/// The status of an object, where its kind has one.
 fn status_of<'p>(kind: Kind, namespace: &'p str, name: &'p str) -> Option<Target<'p>>
     ensures { option_map route_seen result
         ≡ option_map (λ k. status_of (record { kind = k; namespace = namespace.now; name = name.now })) (with_status kind) }

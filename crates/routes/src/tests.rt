@@ -22,6 +22,13 @@ fn reads_each_layout(rt: HostRuntime) -> Result<(), Fail> {
             Some(Target::Object(Kind::ConfigMap, "default", "a.b"))
         )
     );
+    let status = routes.read("/apis/apps/v1/namespaces/default/deployments/d/status");
+    assert!(rt;
+        matches!(
+            status,
+            Some(Target::Status(Kind::Deployment, "default", "d"))
+        )
+    );
     Ok(())
 }
 

@@ -87,13 +87,15 @@ fn ask(
         }
         (Method::Put, Target::Object(kind, namespace, name)) => {
             let value = read(alloc, body)?;
-            let key = key(alloc, kind, namespace, name)?;
-            Ok(Asked::Request(Request::Update(key, value)))
+            Ok(Asked::Request(Request::Update(key(alloc, kind, namespace, name)?, value)))
         }
         (Method::Put, Target::Status(kind, namespace, name)) => {
             let value = read(alloc, body)?;
-            let key = key(alloc, kind, namespace, name)?;
-            Ok(Asked::Request(Request::UpdateStatus(key, value)))
+            Ok(Asked::Request(Request::UpdateStatus(key(alloc, kind, namespace, name)?, value)))
+        }
+        (Method::Patch, Target::Object(kind, namespace, name)) => {
+            let value = read(alloc, body)?;
+            Ok(Asked::Request(Request::Patch(key(alloc, kind, namespace, name)?, value)))
         }
         _ => Err(Fault::MethodNotAllowed),
     }

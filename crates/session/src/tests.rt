@@ -126,8 +126,7 @@ const NO_BODY: &str =
 fn a_create_without_a_name_is_not_valid(rt: HostRuntime) -> Result<(), Fail> {
     let alloc = rt.alloc();
     let mut session = Session::new(alloc)?;
-    let line =
-        b"POST /api/v1/namespaces/default/configmaps {\"metadata\":{\"generateName\":\"web-\"}}";
+    let line = b"POST /api/v1/namespaces/default/configmaps {\"metadata\":{\"generateName\":\"\"}}";
     assert!(rt; answers(alloc, &mut session, line, NO_NAME)?);
     assert!(rt; answers(alloc, &mut session, LIST, EMPTY)?);
     Ok(())

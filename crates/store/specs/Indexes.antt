@@ -4,7 +4,8 @@ use Rattle.std.specs.List.{AllByRecursion}
 use Rattle.serde_json.specs.Data.{Data, null}
 use Rattle.definitions.specs.History as history
 use Rattle.definitions.specs.History.{History, Members, present, put_at}
-use Rattle.definitions.specs.Verbs.{most_objects, greatest_revision}
+use Rattle.definitions.specs.Verbs.{most_objects}
+use Rattle.definitions.specs.Revisions.{greatest_revision}
 use Rattle.meta.specs.Keys.{name_of}
 use Rattle.meta.specs.declared.keys.Key.{Key}
 

@@ -49,7 +49,8 @@ impl Store {
     ghost use Rattle.selector.specs.Views.{view_of};
     ghost use Rattle.definitions.specs.History as history;
     ghost use Rattle.definitions.specs.History.{present, members, found, viewed};
-    ghost use Rattle.definitions.specs.Verbs.{overflows, greatest_revision};
+    ghost use Rattle.definitions.specs.Verbs.{overflows};
+    ghost use Rattle.definitions.specs.Revisions.{greatest_revision};
     ghost use Rattle.definitions.specs.Changes.{changes};
     ghost use Rattle.revisions.specs.Events.{change_seen};
 

@@ -5,6 +5,7 @@ ghost use Rattle.definitions.specs.declared.kinds.Kind.TheVariants.{ReplicaSet, 
 ghost use Rattle.definitions.specs.Checks.{in_status, is_not_negative, are_replicas_valid, is_history_limit_valid, is_status_valid};
 
 use crate::parts::{in_spec, in_status};
+use definitions::kinds::Kind;
 use meta::Object;
 use serde_json::Value;
 
@@ -83,4 +84,16 @@ pub(crate) fn is_deployment_status_valid(object: &Object) -> bool
         return false;
     }
     true
+}
+
+/// Whether no count in the status of an object, as one of a kind, is negative.
+pub fn is_status_valid(kind: Kind, object: &Object) -> bool
+    ensures { result ≡ is_status_valid kind object.now.value }
+{
+    match kind {
+        Kind::ConfigMap => true,
+        Kind::Pod => true,
+        Kind::ReplicaSet => is_replica_set_status_valid(object),
+        Kind::Deployment => is_deployment_status_valid(object),
+    }
 }

@@ -16,6 +16,7 @@ mod templates;
 mod uids;
 
 pub use checks::{check_create, check_update};
+pub use counts::is_status_valid;
 pub use spec_defaults::defaults;
 
 #[cfg(test)]

@@ -1,24 +1,17 @@
 //! Names, given and made.
-ghost use Rattle.std.specs.Prelude.{◌≡◌, codes, option_map};
+ghost use Rattle.std.specs.Prelude.{◌≡◌};
 ghost use Rattle.std.specs.List.{list_all};
-ghost use Rattle.definitions.specs.Checks.{generate_name, generates, is_generating_byte, is_generate_name_valid, is_name_valid};
+ghost use Rattle.definitions.specs.Checks.{generates, is_generating_byte, is_generate_name_valid, is_name_valid};
 
 use meta::Object;
 use names::is_subdomain;
-
-/// What the name is made of, where none is given.
-fn generate_name(object: &Object) -> Option<&str>
-    ensures { option_map (λ s. s.now) result ≡ generate_name object.now.value }
-{
-    object.metadata_member("generateName")?.as_str()
-}
 
 pub(crate) fn is_name_valid(object: &Object) -> bool
     ensures { result ≡ is_name_valid object.now.value }
 {
     match object.name() {
         Some(name) => is_subdomain(name),
-        None => generate_name(object).is_some(),
+        None => object.generate_name().is_some(),
     }
 }
 
@@ -47,7 +40,7 @@ pub(crate) fn is_generate_name_valid(object: &Object, made: &str) -> bool
     if object.name().is_some() {
         return true;
     }
-    match generate_name(object) {
+    match object.generate_name() {
         Some(text) => generates(made, text),
         None => true,
     }

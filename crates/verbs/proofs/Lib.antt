@@ -1,2 +1,4 @@
 pub mod Creates
 pub mod ListTexts
+pub mod MadeNames
+pub mod Replacing

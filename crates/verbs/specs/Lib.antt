@@ -1,2 +1,4 @@
+pub mod Bodies
 pub mod Lists
+pub mod Naming
 pub mod Requests

@@ -5,8 +5,10 @@ ghost use Rattle.definitions.specs.Verbs.{accept_at};
 ghost use Rattle.verbs.specs.Requests.{Serves, request_of};
 
 use crate::create::create;
+use crate::patch::patch;
 use crate::read::{get, list};
 use crate::requests::Request;
+use crate::status::update_status;
 use crate::update::update;
 use meta::{Fault, Write};
 use reply::Reply;
@@ -31,7 +33,8 @@ pub fn accept(
             create(alloc, store, kind, namespace.as_str(), body, moment)
         }
         Request::Update(key, body) => update(alloc, store, key, body),
-        Request::UpdateStatus(_, _) => Err(Fault::NoSuchPath),
-        Request::Patch(_, _) | Request::Delete(_, _) => Err(Fault::MethodNotAllowed),
+        Request::UpdateStatus(key, body) => update_status(alloc, store, key, body),
+        Request::Patch(key, body) => patch(alloc, store, key, body),
+        Request::Delete(_, _) => Err(Fault::MethodNotAllowed),
     }
 }

@@ -2,10 +2,18 @@
 #![tactic(auto)]
 
 pub mod accepting;
+mod bodies;
 mod create;
+mod first_status;
+mod generations;
 mod limits;
+mod made_names;
+mod names_given;
+mod patch;
+mod placing;
 mod read;
 pub mod requests;
+mod status;
 mod update;
 
 pub use crate::accepting::accept;
@@ -13,3 +21,5 @@ pub use crate::requests::Request;
 
 #[cfg(test)]
 mod tests;
+#[cfg(test)]
+mod update_tests;

@@ -23,16 +23,20 @@ fn key(alloc: Global, name: &str) -> Result<Key, AllocError> {
     })
 }
 
-fn body(alloc: Global, text: &str) -> Result<Value, AllocError> {
+pub(crate) fn body(alloc: Global, text: &str) -> Result<Value, AllocError> {
     match Value::from_str(alloc, text) {
         Ok(value) => Ok(value),
         Err(_) => Err(AllocError),
     }
 }
 
-fn create(alloc: Global, text: &str) -> Result<Request, AllocError> {
+fn create_of(alloc: Global, kind: Kind, text: &str) -> Result<Request, AllocError> {
     let namespace = String::from_str(alloc, "default")?;
-    Ok(Request::Create(Kind::ConfigMap, namespace, body(alloc, text)?))
+    Ok(Request::Create(kind, namespace, body(alloc, text)?))
+}
+
+fn create(alloc: Global, text: &str) -> Result<Request, AllocError> {
+    create_of(alloc, Kind::ConfigMap, text)
 }
 
 fn get(alloc: Global, name: &str) -> Result<Request, AllocError> {
@@ -44,7 +48,7 @@ fn update(alloc: Global, name: &str, text: &str) -> Result<Request, AllocError> 
 }
 
 /// What a client is sent, a code and a body, once the store has taken what the request writes.
-fn sent(alloc: Global, store: &mut Store, request: Request) -> Result<String, Fail> {
+pub(crate) fn sent(alloc: Global, store: &mut Store, request: Request) -> Result<String, Fail> {
     let reply = match accept(alloc, store, request, Moment::start()) {
         Ok((reply, write)) => {
             if let Some(write) = write {
@@ -91,15 +95,8 @@ fn verbs_that_are_not_served_are_refused(rt: HostRuntime) -> Result<(), Fail> {
     let alloc = rt.alloc();
     let mut store = Store::new(alloc);
     sent(alloc, &mut store, create(alloc, BODY)?)?;
-    let status = Request::UpdateStatus(key(alloc, "a")?, body(alloc, BODY)?);
-    assert_eq!(rt;
-        sent(alloc, &mut store, status)?.as_str(),
-        r#"404 {"apiVersion":"v1","code":404,"kind":"Status","message":"the server could not find the requested resource","metadata":{},"reason":"NotFound","status":"Failure"}"#
-    );
     let not_allowed =
         r#"405 {"apiVersion":"v1","code":405,"kind":"Status","message":"the server does not allow this method on the requested resource","metadata":{},"reason":"MethodNotAllowed","status":"Failure"}"#;
-    let patch = Request::Patch(key(alloc, "a")?, body(alloc, BODY)?);
-    assert_eq!(rt; sent(alloc, &mut store, patch)?.as_str(), not_allowed);
     let delete = Request::Delete(key(alloc, "a")?, body(alloc, "{}")?);
     assert_eq!(rt; sent(alloc, &mut store, delete)?.as_str(), not_allowed);
     assert_eq!(rt; store.revision(), 2);
@@ -129,6 +126,66 @@ fn what_cannot_be_done_is_refused(rt: HostRuntime) -> Result<(), Fail> {
         r#"409 {"apiVersion":"v1","code":409,"details":{"kind":"configmaps","name":"a"},"kind":"Status","message":"Operation cannot be fulfilled on configmaps \"a\": the object has been modified; please apply your changes to the latest version and try again","metadata":{},"reason":"Conflict","status":"Failure"}"#
     );
     assert_eq!(rt; store.revision(), 2);
+    Ok(())
+}
+
+/// A body of which the server makes the name.
+const UNNAMED: &str = r#"{"metadata":{"generateName":"web-"}}"#;
+
+#[test]
+fn a_name_is_made_of_the_next_revision(rt: HostRuntime) -> Result<(), Fail> {
+    let alloc = rt.alloc();
+    let mut store = Store::new(alloc);
+    assert_eq!(rt;
+        sent(alloc, &mut store, create(alloc, UNNAMED)?)?.as_str(),
+        r#"201 {"apiVersion":"v1","kind":"ConfigMap","metadata":{"creationTimestamp":"2026-01-01T00:00:00Z","generateName":"web-","name":"web-bbbbd","namespace":"default","resourceVersion":"2","uid":"00000000-0000-8000-8000-000000000002"}}"#
+    );
+    Ok(())
+}
+
+#[test]
+fn a_made_name_that_is_there_is_left(rt: HostRuntime) -> Result<(), Fail> {
+    let alloc = rt.alloc();
+    let mut store = Store::new(alloc);
+    sent(
+        alloc,
+        &mut store,
+        create(alloc, r#"{"metadata":{"name":"web-bbbbf"}}"#)?,
+    )?;
+    assert_eq!(rt;
+        sent(alloc, &mut store, create(alloc, UNNAMED)?)?.as_str(),
+        r#"201 {"apiVersion":"v1","kind":"ConfigMap","metadata":{"creationTimestamp":"2026-01-01T00:00:00Z","generateName":"web-","name":"web-bbbbg","namespace":"default","resourceVersion":"3","uid":"00000000-0000-8000-8000-000000000003"}}"#
+    );
+    Ok(())
+}
+
+#[test]
+fn a_deployment_has_its_defaults(rt: HostRuntime) -> Result<(), Fail> {
+    let alloc = rt.alloc();
+    let mut store = Store::new(alloc);
+    let text =
+        r#"{"metadata":{"name":"d"},"spec":{"selector":{"matchLabels":{"app":"d"}},"template":{"metadata":{"labels":{"app":"d"}},"spec":{}}}}"#;
+    let request = create_of(alloc, Kind::Deployment, text)?;
+    assert_eq!(rt;
+        sent(alloc, &mut store, request)?.as_str(),
+        r#"201 {"apiVersion":"apps/v1","kind":"Deployment","metadata":{"creationTimestamp":"2026-01-01T00:00:00Z","generation":1,"name":"d","namespace":"default","resourceVersion":"2","uid":"00000000-0000-8000-8000-000000000002"},"spec":{"replicas":1,"revisionHistoryLimit":10,"selector":{"matchLabels":{"app":"d"}},"strategy":{"rollingUpdate":{"maxSurge":"25%","maxUnavailable":"25%"},"type":"RollingUpdate"},"template":{"metadata":{"labels":{"app":"d"}},"spec":{}}},"status":{}}"#
+    );
+    Ok(())
+}
+
+#[test]
+fn a_pod_is_pending(rt: HostRuntime) -> Result<(), Fail> {
+    let alloc = rt.alloc();
+    let mut store = Store::new(alloc);
+    let request = create_of(
+        alloc,
+        Kind::Pod,
+        r#"{"metadata":{"name":"p"},"status":{"phase":"Running"}}"#,
+    )?;
+    assert_eq!(rt;
+        sent(alloc, &mut store, request)?.as_str(),
+        r#"201 {"apiVersion":"v1","kind":"Pod","metadata":{"creationTimestamp":"2026-01-01T00:00:00Z","name":"p","namespace":"default","resourceVersion":"2","uid":"00000000-0000-8000-8000-000000000002"},"spec":{},"status":{"phase":"Pending"}}"#
+    );
     Ok(())
 }
 

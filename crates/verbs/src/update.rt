@@ -1,20 +1,26 @@
 //! Updates.
-ghost use Rattle.std.specs.Prelude.{◌≡◌, ◌+◌, ◌≤◌, List, ℕ, not, IfOk, IfErr, string_bytes, option_map};
+ghost use Rattle.std.specs.Prelude.{◌≡◌, ◌≤◌, List, ℕ, IfOk};
 ghost use Rattle.serde_json.specs.View.{view};
 ghost use Rattle.definitions.specs.History.{members, present};
-ghost use Rattle.definitions.specs.Verbs.{accept_at, update_object, names_path, replace, replace_with, updated, differs, greatest_revision};
+ghost use Rattle.definitions.specs.Metadata.{metadata_of, with_metadata};
+ghost use Rattle.definitions.specs.Replacements.{in_place, keeping, kept, kept_of};
+ghost use Rattle.definitions.specs.Revisions.{greatest_revision};
+ghost use Rattle.definitions.specs.Values.{members_of};
+ghost use Rattle.definitions.specs.Verbs.{accept_at, update_object, replace, replace_with, replace_changed};
 ghost use Rattle.meta.specs.Keys.{name_of};
 ghost use Rattle.verbs.specs.Requests.{Serves};
 
-use crate::limits::is_too_large;
-use definitions::refusals::{Field, Mismatch, Part};
+use crate::bodies::said;
+use crate::generations::updated;
+use crate::names_given::{mismatch, names_path};
+use crate::placing::{is_let_go, let_go, put_in_place, unchanged};
+use definitions::refusals::Part;
 use meta::{Fault, Key, Object, Write};
-use names::is_subdomain;
 use reply::Reply;
 use serde_json::Value;
 use std::alloc::{AllocError, Global};
 use store::Store;
-use store::limits::GREATEST_REVISION;
+use validate::check_update;
 
 /// An object as a body says it, in the place of the one under a key.
 pub fn update(
@@ -25,7 +31,7 @@ pub fn update(
 ) -> Result<(Reply, Option<Write>), Fault>
     ensures { (moment : List ℕ) → Serves (accept_at (update_object (name_of key) (view body)) (members store.now (present store.now)) (present store.now) moment) result }
 {
-    let object = Object::from_value(alloc, key.kind, body)?;
+    let object = said(alloc, key.kind, body)?;
     if !names_path(&key, &object) {
         return Err(Fault::BadRequest(Part::Object));
     }
@@ -35,89 +41,101 @@ pub fn update(
     }
 }
 
-/// Whether a text is named, and the object has another one, or none.
-fn differs(named: Option<&str>, held: Option<&str>) -> bool
-    ensures { result ≡ differs (option_map (λ s. s.now) named.entry) (option_map (λ s. s.now) held.entry) }
-{
-    match (named, held) {
-        (None, _) => false,
-        (Some(_), None) => true,
-        (Some(text), Some(other)) => text != other,
-    }
-}
-
-/// Whether an object names the name of a path, and no other namespace.
-fn names_path(key: &Key, object: &Object) -> bool
-    ensures { result ≡ names_path (name_of key.now) object.now.value }
-{
-    let elsewhere = match object.namespace() {
-        Some(named) => named != key.namespace.as_str(),
-        None => false,
-    };
-    !elsewhere && !differs(Some(key.name.as_str()), object.name())
-}
-
 /// An object in the place of the one that is held, if that is the one that it names.
-fn replace(
+pub fn replace(
     alloc: Global,
     key: Key,
     object: Object,
     before: u64,
     held: &Object,
 ) -> Result<(Reply, Option<Write>), Fault>
-    requires { before ≤ greatest_revision }
+    requires revision { before ≤ greatest_revision }
+    requires kind { object.kind ≡ key.kind }
     ensures { Serves (replace (name_of key) object.value before held.now.value) result }
 {
-    if differs(object.uid(), held.uid()) {
-        return Err(Fault::Conflict(key, Mismatch::Uid));
+    match mismatch(&object, held) {
+        Some(why) => Err(Fault::Conflict(key, why)),
+        None => {
+            let object = in_place(alloc, object, held)?;
+            replace_with(alloc, key, held, object, before)
+        }
     }
-    if differs(object.resource_version(), held.resource_version()) {
-        return Err(Fault::Conflict(key, Mismatch::Modified));
-    }
-    let object = updated(alloc, object, held, before)?;
-    replace_with(alloc, key, object, before)
 }
 
-/// The object with what an update leaves as it is held, after a revision.
-fn updated(alloc: Global, object: Object, held: &Object, before: u64) -> Result<Object, AllocError>
-    requires { before ≤ greatest_revision }
-    ensures { IfOk result (λ o. o.value ≡ updated (before + 1) held.now.value object.value) }
+/// The object with the status that is held, if its kind has one.
+fn keep_status(alloc: Global, object: Object, held: &Object) -> Result<Object, AllocError>
+    ensures members { IfOk result (λ o. members_of o.value ≡ keeping (kept_of object.kind) (members_of held.now.value) (members_of object.value)) }
+    ensures metadata { IfOk result (λ o. metadata_of o.value ≡ metadata_of object.value) }
+    ensures kind { IfOk result (λ o. o.kind ≡ object.kind) }
 {
-    let digits = (before + 1).to_string(alloc)?;
+    if !object.kind().has_status() {
+        return Ok(object);
+    }
+    let kept = object.keep_member(alloc, "status", held)?;
+    Ok(kept)
+}
+
+/// The object with what an update leaves of the metadata that is held.
+fn keep_metadata(alloc: Global, object: Object, held: &Object) -> Result<Object, AllocError>
+    ensures value { IfOk result (λ o. o.value ≡ with_metadata (keeping kept (metadata_of held.now.value) (metadata_of object.value)) object.value) }
+    ensures kind { IfOk result (λ o. o.kind ≡ object.kind) }
+{
     let mut draft = object.open(alloc)?;
     draft.keep(alloc, "namespace", held)?;
     draft.keep(alloc, "uid", held)?;
     draft.keep(alloc, "creationTimestamp", held)?;
     draft.keep(alloc, "deletionTimestamp", held)?;
     draft.keep(alloc, "generation", held)?;
-    draft.set_text(alloc, "resourceVersion", digits.as_str())?;
+    draft.keep(alloc, "resourceVersion", held)?;
     let made = draft.close(alloc)?;
     Ok(made)
 }
 
-/// The object under a key in the place of another, or the first refusal: of the name, the length, the room.
+/// The object in the place of the one that is held, so far at its version.
+fn in_place(alloc: Global, object: Object, held: &Object) -> Result<Object, AllocError>
+    ensures value { IfOk result (λ o. o.value ≡ in_place object.kind held.now.value object.value) }
+    ensures kind { IfOk result (λ o. o.kind ≡ object.kind) }
+{
+    let with_status = keep_status(alloc, object, held)?;
+    keep_metadata(alloc, with_status, held)
+}
+
+/// The object in the place of the one that is held, if each of its fields is as it has to be.
 fn replace_with(
     alloc: Global,
     key: Key,
+    held: &Object,
+    object: Object,
+    before: u64,
+) -> Result<(Reply, Option<Write>), Fault>
+    requires revision { before ≤ greatest_revision }
+    requires kind { object.kind ≡ key.kind }
+    ensures { Serves (replace_with (name_of key) held.now.value object.value before) result }
+{
+    check_update(alloc, held, &object, &key, before)?;
+    replace_changed(alloc, key, held, object, before)
+}
+
+/// The object in the place of the one that is held: where it says the same nothing is written, and where nothing keeps it
+/// any more it is removed.
+fn replace_changed(
+    alloc: Global,
+    key: Key,
+    held: &Object,
     object: Object,
     before: u64,
 ) -> Result<(Reply, Option<Write>), Fault>
     requires { before ≤ greatest_revision }
-    ensures { Serves (replace_with (name_of key) object.value before) result }
+    ensures { Serves (replace_changed (name_of key) held.now.value object.value before) result }
 {
-    if !is_subdomain(key.name.as_str()) {
-        return Err(Fault::Invalid(key, Field::Name));
+    if let Some(text) = unchanged(alloc, held, &object)? {
+        return Ok((Reply { code: 200, text }, None));
     }
-    let text = object.text(alloc)?;
-    if is_too_large(text.as_str()) {
-        return Err(Fault::TooLarge);
+    let lets_go = is_let_go(held, &object);
+    let object = updated(alloc, key.kind, object, held, before)?;
+    if lets_go {
+        let_go(alloc, key, object, before)
+    } else {
+        put_in_place(alloc, key, object, before)
     }
-    if before >= GREATEST_REVISION {
-        return Err(Fault::StorageFull);
-    }
-    let write = Write {
-        key,
-        put: Some(object),
-    };
-    Ok((Reply { code: 200, text }, Some(write)))
 }

@@ -19,3 +19,8 @@ pub returns-in_err-value-in-Put-Status : goal.returns-in_err-value-in-Put-Status
 returns-in_err-value-in-Put-Status c =
     let p = err_from_is_err_and c.from_residual-in_err-value-in-Put-Status.result c.from_residual-in_err-value-in-Put-Status.ensures.1 in
     rw (c.in-Put-Status.is-0, c.in-Put-Status.is-1, p.1, p.2) (asks-refused _ _ _ c.in_err-value-in-Put-Status.ensures)
+
+pub returns-in_err-value-in-Patch-Object : goal.returns-in_err-value-in-Patch-Object
+returns-in_err-value-in-Patch-Object c =
+    let p = err_from_is_err_and c.from_residual-in_err-value-in-Patch-Object.result c.from_residual-in_err-value-in-Patch-Object.ensures.1 in
+    rw (c.in-Patch-Object.is-0, c.in-Patch-Object.is-1, p.1, p.2) (asks-refused _ _ _ c.in_err-value-in-Patch-Object.ensures)

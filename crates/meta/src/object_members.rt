@@ -1,0 +1,54 @@
+//! Objects with a member set, kept or taken out.
+ghost use Rattle.std.specs.Prelude.{◌≡◌, IfOk, false};
+ghost use Rattle.serde_json.specs.Data.{object, put};
+ghost use Rattle.serde_json.specs.Find.{get_member};
+ghost use Rattle.serde_json.specs.View.{view};
+ghost use Rattle.serde_json.specs.Written.{has_float};
+ghost use Rattle.definitions.specs.Replacements.{as_held};
+ghost use Rattle.definitions.specs.Values.{members_of, without};
+
+use crate::members::{into_members, remove};
+use crate::objects::Object;
+use serde_json::Value;
+use std::alloc::{AllocError, Global};
+
+impl Object {
+    /// The object with a value at the member `name`. The error is want of memory.
+    pub fn set_member(self, alloc: Global, name: &str, value: Value) -> Result<Object, AllocError>
+        requires no_float { has_float (view value) ≡ false }
+        ensures value { IfOk result (λ o. o.value ≡ object (put name.now (view value) (members_of self.value))) }
+        ensures kind { IfOk result (λ o. o.kind ≡ self.kind) }
+    {
+        let kind = self.kind();
+        let mut members = into_members(alloc, self.into_value());
+        serde_json::put(&mut members, alloc, name, value)?;
+        Ok(Object::from_whole(kind, Value::Object(members)))
+    }
+
+    /// The object without the member `name`.
+    fn without_member(self, alloc: Global, name: &str) -> Object
+        ensures value { result.value ≡ object (without name.now (members_of self.value)) }
+        ensures kind { result.kind ≡ self.kind }
+    {
+        let kind = self.kind();
+        let mut members = into_members(alloc, self.into_value());
+        remove(&mut members, name);
+        Object::from_whole(kind, Value::Object(members))
+    }
+
+    /// The object with the member `name` as `held` has it, or without it where `held` has none. The error is want of
+    /// memory.
+    pub fn keep_member(self, alloc: Global, name: &str, held: &Object) -> Result<Object, AllocError>
+        ensures value { IfOk result (λ o. o.value
+            ≡ object (as_held name.now (get_member name.now (members_of held.now.value)) (members_of self.value))) }
+        ensures kind { IfOk result (λ o. o.kind ≡ self.kind) }
+    {
+        match held.member(name) {
+            Some(found) => {
+                let value = found.clone()?;
+                self.set_member(alloc, name, value)
+            }
+            None => Ok(self.without_member(alloc, name)),
+        }
+    }
+}

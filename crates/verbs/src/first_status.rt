@@ -1,0 +1,38 @@
+//! The status of a new object.
+ghost use Rattle.std.specs.Prelude.{◌≡◌, IfOk, IfSome, option_map, false};
+ghost use Rattle.serde_json.specs.View.{view};
+ghost use Rattle.serde_json.specs.Written.{has_float};
+ghost use Rattle.definitions.specs.NewObjects.{first_status};
+ghost use Rattle.definitions.specs.Reading.{empty};
+
+use definitions::kinds::Kind;
+use meta::values::{whole_number, with_member, with_text};
+use serde_json::{Map, Value};
+use std::alloc::{AllocError, Global};
+
+/// An object without members.
+fn empty(alloc: Global) -> Value
+    ensures { view result ≡ empty }
+{
+    Value::Object(Map::new(alloc))
+}
+
+/// The status of a new object, of a kind that has one. The error is want of memory.
+pub fn first_status(alloc: Global, kind: Kind) -> Result<Option<Value>, AllocError>
+    ensures status { IfOk result (λ s. option_map view s ≡ first_status kind) }
+    ensures no_float { IfOk result (λ s. IfSome s (λ v. has_float (view v) ≡ false)) }
+{
+    match kind {
+        Kind::ConfigMap => Ok(None),
+        Kind::Pod => {
+            let status = with_text(alloc, empty(alloc), "phase", "Pending")?;
+            Ok(Some(status))
+        }
+        Kind::ReplicaSet => {
+            let none = whole_number(alloc, 0)?;
+            let status = with_member(alloc, empty(alloc), "replicas", none)?;
+            Ok(Some(status))
+        }
+        Kind::Deployment => Ok(Some(empty(alloc))),
+    }
+}
