@@ -1,10 +1,11 @@
 //! The control plane's program: `kcp replay` answers the request lines of its standard input.
 #![tactic(auto)]
 
-ghost use Rattle.std.specs.Prelude.{OnOk, OnErr, IfSome};
+ghost use Rattle.std.specs.Prelude.{◌≡◌, OnOk, OnErr, IfErr, IfSome, option_map, string_bytes};
 ghost use Rattle.std.specs.Io.KnownBytes.{Appends};
 ghost use Rattle.definitions.specs.Lines as lines;
 ghost use Rattle.line_service.specs.Replies.{AppendsBeginning};
+ghost use Rattle.kcp.specs.Replays.{asks_replay, fault_text, AnswersSome};
 
 use line_service::RunFault;
 use session::Session;
@@ -17,6 +18,7 @@ use std::{env, io};
 /// and nothing else. Each reply is flushed before the next line is waited for.
 ///
 /// At an error a beginning of all the replies was written: no line after the one at which the error came is answered.
+/// The replies to those before it were written whole.
 pub fn replay<R: BufRead, W: Write>(
     alloc: Global,
     reader: &mut R,
@@ -26,6 +28,7 @@ pub fn replay<R: BufRead, W: Write>(
         Appends (W.contents writer.old) (W.contents writer.new) (lines.replay input))) }
     ensures err { OnErr result (IfSome (R.remaining reader.old) (λ input.
         AppendsBeginning (W.contents writer.old) (W.contents writer.new) (lines.replay input))) }
+    ensures ended { IfErr result (λ fault. IfSome (R.remaining reader.old) (AnswersSome fault (W.contents writer.old) (W.contents writer.new))) }
 {
     match Session::new(alloc) {
         Ok(mut session) => line_service::run(alloc, &mut session, reader, writer),
@@ -33,14 +36,22 @@ pub fn replay<R: BufRead, W: Write>(
     }
 }
 
+/// Whether the word after the program's name, with no more after it, asks for a replay.
+fn asks_replay(word: Option<String>, more: Option<String>) -> bool
+    ensures { result ≡ asks_replay (option_map string_bytes word) (option_map string_bytes more) }
+{
+    match (word, more) {
+        (Some(word), None) => word.as_str() == "replay",
+        _ => false,
+    }
+}
+
 /// Whether the program is called as `kcp replay`.
 fn is_replay(rt: &HostRuntime) -> io::Result<bool> {
     let mut words = env::args(rt)?;
     let _program = words.next();
-    match (words.next(), words.next()) {
-        (Some(word), None) => Ok(word.as_str() == "replay"),
-        _ => Ok(false),
-    }
+    let word = words.next();
+    Ok(asks_replay(word, words.next()))
 }
 
 /// Answers the request lines of standard input on standard output.
@@ -55,7 +66,9 @@ fn replay_standard_input(rt: &HostRuntime) -> Result<(), RunFault> {
 }
 
 /// What a fault is called on standard error.
-fn fault_name(fault: RunFault) -> &'static str {
+fn fault_name(fault: RunFault) -> &'static str
+    ensures { result.now ≡ fault_text fault }
+{
     match fault {
         RunFault::Read => "read",
         RunFault::Write => "write",
