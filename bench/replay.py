@@ -1,7 +1,8 @@
 #!/usr/bin/env python3
-"""Measures `kcp replay`: creates, gets, updates, lists and watches of ConfigMaps, in lines a second, and the memory that it takes.
+"""Measures `kcp replay`: creates, gets, updates, lists, watches, patches and deletes of ConfigMaps, in lines a second, and the memory
+that it takes.
 
-Six inputs are run, each in a process of its own: the creates; the creates and the gets; and so on, each with one part more.
+Eight inputs are run, each in a process of its own: the creates; the creates and the gets; and so on, each with one part more.
 The time of each part is the difference of two runs, each the best of several. Beside it stands the time
 that a loop takes which only reads and writes the same bytes, line by line, and does nothing else: what the machine
 costs by itself. The beginning of each line of the replies is checked, so that a run that refuses its requests is not taken for a fast one.
@@ -69,6 +70,19 @@ def watches(count):
     return [f"GET {COLLECTION}?watch=true&resourceVersion=1"] * REPEATS
 
 
+def patches(count):
+    """Merge patches that replace the data's one text."""
+    return [f'PATCH {COLLECTION}/map-{n:06} {{"data":{data(n, "patched ")}}}' for n in range(count)]
+
+
+def deletes(count):
+    """Creates and updates come before the patches, so the n-th patch, from 0, made version 2 * count + n + 2."""
+    return [
+        f'DELETE {COLLECTION}/map-{n:06} {{"preconditions":{{"resourceVersion":"{2 * count + n + 2}"}}}}'
+        for n in range(count)
+    ]
+
+
 def run(command, given, written, limit):
     """The seconds that one run took, and its peak resident memory in KiB."""
     with open(given, "rb") as source, open(written, "wb") as sink:
@@ -117,6 +131,8 @@ def measure(program, folder, asked):
         (f"lists of {asked.count:,}", lists, [b"200"] * REPEATS),
         ("the same by four requirements", selections, [b"200"] * REPEATS),
         (f"watches of {2 * asked.count:,} changes", watches, changes * REPEATS),
+        ("patches", patches, [b"200"] * asked.count),
+        ("deletes", deletes, [b"200"] * asked.count),
     ]
     given, written = folder / "given", folder / "written"
     codes, before, before_loop, rows = [], 0.0, 0.0, []

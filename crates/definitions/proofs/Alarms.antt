@@ -1,17 +1,16 @@
 -- Delays as alarms: one for each key that is delayed, and which of them are due.
-use Rattle.std.proofs.Common.{◌≡◌, refl, sym, ap, subst, ◌∙◌, ℕ, ◌<◌, ◌≤◌, ◌∷◌, [], ◌&&◌, ◌||◌, Bool, true, false, not, cond, List, map, Option, Some, None, nat_le, T, length, Ordering, Less, Equal, Greater, arith}
+use Rattle.std.proofs.Common.{◌≡◌, refl, sym, ap, ◌∙◌, ℕ, ◌<◌, ◌∷◌, [], ◌&&◌, ◌||◌, Bool, true, false, not, cond, List, map, Option, Some, None, T, length, Ordering, Less, Equal, Greater, arith}
 use mathlib.Core.Bool.{true≢false}
-use Rattle.std.proofs.lemmas.Bool.Decides.{nat_tests}
 use Rattle.std.specs.Cmp.{Equal-is, IsTotalOrder, nat_cmp_total, on_total, then_total, tied_itself}
-use Rattle.std.specs.List.{filter, list_any, AllByRecursion}
+use Rattle.std.specs.List.{list_any, AllByRecursion}
 use Rattle.std.specs.List.Sorted.{IsStrictlySortedBy}
 use Rattle.std.specs.Ordering.{nat_cmp, eq_by_cmp, is_eq, is_lt, ordering_then}
 use Rattle.std.specs.FinMap as map_of
-use Rattle.std.specs.FinMap.{IsAntisymmetric, nat_cmp-IsAntisymmetric, find, put, is_sorted, entries_sorted, get-entries, get-insert, get-remove, get-retain_keys, get_tied, same_map, entries-insert, len-entries, len-empty, get-from_entries}
+use Rattle.std.specs.FinMap.{IsAntisymmetric, nat_cmp-IsAntisymmetric, find, put, is_sorted, entries_sorted, get-entries, get-insert, get-remove, same_map, entries-insert, len-entries, len-empty, get-from_entries}
 use Rattle.std.specs.FinMap.Entries.{below_all, by_order}
 use Rattle.std.specs.FinSet as set
 use Rattle.std.specs.FinSet.{contains-from_list, contains-insert, contains-remove, same_set}
-use Rattle.definitions.specs.Board.{Task, task_cmp, Delays, Alarm, alarm_cmp, alarms, due, has_come, still_delayed}
+use Rattle.definitions.specs.Board.{Task, task_cmp, Delays, Alarm, alarm_cmp, alarms}
 use Rattle.definitions.proofs.TaskOrder.{task_total, task_tells, then_Equal}
 
 pub alarm_total : IsTotalOrder alarm_cmp

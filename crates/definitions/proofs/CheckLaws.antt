@@ -4,14 +4,14 @@ use Rattle.std.proofs.lemmas.Bool.Decides.{nat_tests}
 use Rattle.std.specs.Prelude.{decimal}
 use Rattle.std.specs.List.{list_all}
 use Rattle.std.specs.Str.{bytes_eq}
-use Rattle.serde_json.specs.Data.{Data, null, boolean, number, string, array, object, Members, put, no_items}
-use Rattle.serde_json.specs.Find.{get, get_member, as_str, as_array}
+use Rattle.serde_json.specs.Data.{Data, string, object, Members, put, no_items}
+use Rattle.serde_json.specs.Find.{get, get_member, as_array}
 use Rattle.serde_json.proofs.Views.{get_member-put, get_member-put_other}
 use Rattle.definitions.specs.declared.kinds.Kind.{Kind}
 use Rattle.definitions.specs.declared.kinds.Kind.TheVariants.{ConfigMap, Pod, ReplicaSet, Deployment}
 use Rattle.definitions.specs.declared.refusals.Field.{Field}
 use Rattle.definitions.specs.CheckLaws.{HasTemplate, SelectsItsTemplate, CreatedSelectTheirTemplates, UpdatedSelectTheirTemplates, StoredPassAgain}
-use Rattle.definitions.specs.Checks.{is_generating_byte, Check, first_fault, checks, checks_of, in_spec, requirements, if_ok, is_template, is_template_valid, are_labels, are_labels_valid, is_selector_valid, adds_no_finalizer, is_selector_kept, is_known_uid, is_not_empty, is_owner, are_owners_valid, controllers, generate_name, is_name, is_name_valid, generates, passes_if_there, is_generate_name_valid, are_finalizers_valid, is_finalizer, text_is, is_status_valid, is_not_negative, counts, is_strategy}
+use Rattle.definitions.specs.Checks.{is_generating_byte, Check, first_fault, checks, checks_of, in_spec, requirements, if_ok, is_template, is_template_valid, are_labels, are_labels_valid, is_selector_valid, adds_no_finalizer, is_selector_kept, is_known_uid, is_not_empty, is_owner, are_owners_valid, controllers, generate_name, is_name, is_name_valid, generates, passes_if_there, is_generate_name_valid, are_finalizers_valid, is_finalizer, text_is, is_not_negative, counts, is_strategy}
 use Rattle.definitions.specs.Labels.{labels_of}
 use Rattle.definitions.specs.Metadata.{Owner, metadata, metadata_of, name, owners, owners_in}
 use Rattle.definitions.specs.Selectors.{Requirement, meets_all}
@@ -35,7 +35,7 @@ met_by true f rest h = (refl, h)
 met_by false f rest h = cc
 
 -- where there is no first fault, each check is met, and the other way round
-all_met : (cs : List Check) → first_fault cs ≡ None → AllMet cs
+pub all_met : (cs : List Check) → first_fault cs ≡ None → AllMet cs
 all_met [] h = tt
 all_met (c ∷ cs) h =
     let m = met_by c.0 c.1 (first_fault cs) h in

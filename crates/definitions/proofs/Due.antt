@@ -1,5 +1,5 @@
 -- Which keys are due, one alarm at a time.
-use Rattle.std.proofs.Common.{◌≡◌, refl, sym, ap, subst, ◌∙◌, ℕ, suc, length, ◌+◌, ◌<◌, ◌≤◌, ◌∷◌, [], ◌&&◌, ◌||◌, Bool, true, false, not, cond, List, map, Option, Some, None, nat_le, Ordering, Less, Equal, Greater, arith}
+use Rattle.std.proofs.Common.{◌≡◌, refl, sym, ap, ◌∙◌, ℕ, length, ◌+◌, ◌≤◌, ◌∷◌, [], ◌&&◌, ◌||◌, Bool, true, false, not, cond, List, map, Option, Some, None, nat_le, Ordering, Less, Equal, Greater, arith}
 use mathlib.Core.Bool.{true≢false}
 use Rattle.std.proofs.lemmas.Bool.Decides.{nat_tests}
 use Rattle.std.proofs.lemmas.List.{length-map}
@@ -11,7 +11,7 @@ use Rattle.std.specs.FinMap as map_of
 use Rattle.std.specs.FinMap.{get-remove, get-retain_keys, get_tied, same_map}
 use Rattle.std.specs.FinSet as set
 use Rattle.std.specs.FinSet.{contains-from_list, contains-insert, contains-remove, same_set}
-use Rattle.definitions.specs.Board.{Task, task_cmp, Delays, Alarm, alarm_cmp, alarms, due, has_come, still_delayed}
+use Rattle.definitions.specs.Board.{Task, task_cmp, Delays, Alarm, alarm_cmp, due, has_come, still_delayed}
 use Rattle.definitions.proofs.TaskOrder.{task_total, task_tells}
 use Rattle.definitions.proofs.Alarms.{alarm_total, alarm_tells, alarm_set, alarm_of, contains-alarms, moment_of, alarms_removed, alarms_are, same_at_itself, same_tells, is_moment}
 

@@ -1,15 +1,16 @@
 -- What the metadata of an object says once the server has set its own.
-use Rattle.std.proofs.Common.{◌≡◌, ◌≤◌, ℕ, List, Bool, true, false, nat_lt, codes, bytes_eq, decimal, IfSome, Option, Some, None, option_and_then, refl, ◌∙◌, arith}
+use Rattle.std.proofs.Common.{◌≡◌, ◌≤◌, ℕ, List, Bool, true, false, nat_lt, codes, bytes_eq, decimal, is_some, IfSome, Option, Some, None, option_and_then, refl, ap, ◌∙◌, arith}
 use Rattle.serde_json.specs.Data.{Data, null, boolean, number, string, array, object, Members, put}
 use Rattle.serde_json.specs.Find.{get_member, as_str}
 use Rattle.definitions.specs.declared.kinds.Kind.{Kind}
 use Rattle.definitions.specs.Defaults.{whole}
-use Rattle.definitions.specs.Metadata.{metadata_of, metadata_text, name, namespace, uid, version, at_revision}
+use Rattle.definitions.specs.Metadata.{metadata, metadata_of, metadata_text, name, namespace, uid, version, at_revision}
 use Rattle.definitions.specs.NewObjects.{created, first_status, new_metadata, with_generation, with_status}
 use Rattle.definitions.specs.Replacements.{as_held, generation, in_place, is_new_generation, keeping, kept, kept_of, next_generation, updated, with_next_generation}
 use Rattle.definitions.specs.Uids.{uid_text, cluster_word}
 use Rattle.definitions.specs.Values.{members_of, without}
-use Rattle.definitions.proofs.JsonMembers.{text_in, text_in-put, text_in-put_other, text_in-without_other, metadata_text-with}
+use Rattle.serde_json.proofs.Views.{get_member-put, get_member-put_other}
+use Rattle.definitions.proofs.JsonMembers.{apart, get_member-without_other, metadata_of-with, text_in, text_in-put, text_in-put_other, text_in-without_other, metadata_text-with}
 
 pub at_most : (limit n : ℕ) → nat_lt limit n ≡ false → n ≤ limit
 at_most limit n h = grind arith
@@ -62,6 +63,15 @@ uid-created k r ns named moment o =
 pub text-as_held_other : (q k : List ℕ) (o : Option Data) (ms : Members) → bytes_eq q k ≡ false → text_in q (as_held k o ms) ≡ text_in q ms
 text-as_held_other q k None ms other = text_in-without_other q k ms other
 text-as_held_other q k (Some d) ms other = text_in-put_other q k d ms other
+
+pub member-as_held_other : (q k : List ℕ) (o : Option Data) (ms : Members) → bytes_eq q k ≡ false → get_member q (as_held k o ms) ≡ get_member q ms
+member-as_held_other q k None ms other = get_member-without_other q k ms other
+member-as_held_other q k (Some d) ms other = get_member-put_other q k d ms (apart q k other)
+
+-- what is held at a member is there after
+pub held_member : (k : List ℕ) (o : Option Data) (ms : Members) → is_some o ≡ true → get_member k (as_held k o ms) ≡ o
+held_member k None ms h = cc
+held_member k (Some d) ms h = get_member-put k d ms
 
 -- what is held at a member is there after, if it is a text
 pub held_text : (k : List ℕ) (o : Option Data) (ms : Members) → IfSome (option_and_then as_str o) (λ t. text_in k (as_held k o ms) ≡ Some t)
@@ -132,6 +142,20 @@ module _ (k : Kind) (held o : Data) where
   creation-in_place =
       moved (metadata_text (codes "creationTimestamp") held) (metadata_text (codes "creationTimestamp") (in_place k held o)) (text_in (codes "creationTimestamp") m3)
       (after_creation (codes "creationTimestamp") refl refl refl) (held_text (codes "creationTimestamp") (get_member (codes "creationTimestamp") from) m2)
+
+  pub deletion-in_place : IfSome (metadata_text (codes "deletionTimestamp") held) (λ t. metadata_text (codes "deletionTimestamp") (in_place k held o) ≡ Some t)
+  deletion-in_place =
+      moved (metadata_text (codes "deletionTimestamp") held) (metadata_text (codes "deletionTimestamp") (in_place k held o)) (text_in (codes "deletionTimestamp") m4)
+      (metadata_text-with (codes "deletionTimestamp") (keeping kept from (metadata_of o)) (object (keeping (kept_of k) (members_of held) (members_of o)))
+      ∙ text-as_held_other (codes "deletionTimestamp") (codes "resourceVersion") (get_member (codes "resourceVersion") from) m5 refl
+      ∙ text-as_held_other (codes "deletionTimestamp") (codes "generation") (get_member (codes "generation") from) m4 refl)
+      (held_text (codes "deletionTimestamp") (get_member (codes "deletionTimestamp") from) m3)
+
+  -- what was there as the generation is there after
+  pub generation-in_place : is_some (metadata (codes "generation") held) ≡ true → metadata (codes "generation") (in_place k held o) ≡ metadata (codes "generation") held
+  generation-in_place there =
+      ap (get_member (codes "generation")) (metadata_of-with (keeping kept from (metadata_of o)) (object (keeping (kept_of k) (members_of held) (members_of o))))
+      ∙ member-as_held_other (codes "generation") (codes "resourceVersion") (get_member (codes "resourceVersion") from) m5 refl ∙ held_member (codes "generation") (get_member (codes "generation") from) m4 there
 
 -- the next generation leaves a text as it is
 pub text-with_next_generation : (q : List ℕ) (is_new : Bool) (held : Data) (meta : Members) → bytes_eq q (codes "generation") ≡ false

@@ -1,20 +1,17 @@
 -- Members in the order of their names, each once.
-use Rattle.std.proofs.Common.{◌≡◌, ℕ, List, Bool, true, false, cond, codes, nat_cmp, is_eq, is_some, IfSome, Option, Some, None, option_map, option_and_then, Ordering, Less, Equal, Greater, refl, sym, ap, ◌∙◌}
+use Rattle.std.proofs.Common.{◌≡◌, ℕ, List, Bool, true, false, cond, codes, nat_cmp, is_eq, is_some, Some, None, Ordering, Less, Equal, Greater, refl, sym, ap, ◌∙◌}
 use Rattle.std.proofs.lemmas.Cmp.{nat_list_cmp_total}
 use Rattle.std.specs.Ordering.{match_ordering, ordering_reverse}
 use Rattle.std.specs.Cmp.Lexicographic.{slice_cmp}
-use Rattle.json.specs.Lex.{tokens}
-use Rattle.json.specs.Json as json
-use Rattle.serde_json.specs.Data.{Num, Data, number, string, array, object, Items, Members, no_members, member, put}
+use Rattle.serde_json.specs.Data.{Data, string, Members, no_members, member, put}
 use Rattle.serde_json.specs.Find.{get_member}
-use Rattle.serde_json.specs.Read.{read, number_of, of_json, of_items, of_members, max_depth}
 use Rattle.definitions.specs.declared.kinds.Kind.{Kind}
 use Rattle.definitions.specs.declared.kinds.Kind.TheVariants.{ConfigMap, Pod, ReplicaSet, Deployment}
 use Rattle.definitions.specs.declared.schemas.Schema.{Schema}
 use Rattle.definitions.specs.Kinds.{api_version, kind_text}
 use Rattle.definitions.specs.Reading.{is_absent, tidied, tidied_members, empty}
 use Rattle.definitions.specs.Schemas.{member_at}
-use Rattle.definitions.specs.Values.{members_of, without}
+use Rattle.definitions.specs.Values.{without}
 use Rattle.definitions.proofs.ReadAgain.{same_name, defaulted, spec_members, filled_members}
 
 -- a name below each of these
@@ -111,46 +108,6 @@ IsOrdered-filled k ms a =
     let specced = spec_members k based in
     IsOrdered-defaulted (codes "apiVersion") (string (api_version k)) (defaulted (codes "kind") (string (kind_text k)) specced)
     (IsOrdered-defaulted (codes "kind") (string (kind_text k)) specced (ordered_spec k based (IsOrdered-defaulted (codes "metadata") empty ms a)))
-
--- ---- what was read
-
-one_read : (o : Option Data) (more : Data → Option Members) → ((d : Data) → IfSome (more d) IsOrdered) → IfSome (option_and_then more o) IsOrdered
-one_read None more each = tt
-one_read (Some d) more each = each d
-
-ordered_members : (ms : json.Members) (found : Members) → IsOrdered found → IfSome (of_members ms found) IsOrdered
-ordered_members json.no_members found a = a
-ordered_members (json.member k j ms) found a = one_read (of_json j) (λ d. of_members ms (put k d found)) (λ d. ordered_members ms (put k d found) (IsOrdered-put k d found a))
-
-abbrev pub HasOrder : Option Data → Type 0
-HasOrder o = IfSome o (λ d. IsOrdered (members_of d))
-
-of_number : (o : Option Num) → HasOrder (option_map number o)
-of_number None = tt
-of_number (Some n) = tt
-
-of_array : (o : Option Items) → HasOrder (option_map array o)
-of_array None = tt
-of_array (Some ds) = tt
-
-of_object : (o : Option Members) → IfSome o IsOrdered → HasOrder (option_map object o)
-of_object None a = tt
-of_object (Some ms) a = a
-
-of_whole : (j : json.Json) → HasOrder (of_json j)
-of_whole json.null = tt
-of_whole (json.boolean b) = tt
-of_whole (json.number s) = of_number (number_of s)
-of_whole (json.string s) = tt
-of_whole (json.array js) = of_array (of_items js)
-of_whole (json.object ms) = of_object (of_members ms no_members) (ordered_members ms no_members tt)
-
-of_some : (o : Option json.Json) → HasOrder (option_and_then of_json o)
-of_some None = tt
-of_some (Some j) = of_whole j
-
-pub ordered_read : (text : List ℕ) → HasOrder (read text)
-ordered_read text = of_some (option_and_then (λ p. json.if_last p.0 p.1) (json.value max_depth (tokens text)))
 
 -- ---- what was taken out and is put back
 

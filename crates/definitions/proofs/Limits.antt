@@ -10,7 +10,7 @@ use Rattle.definitions.specs.Lines.{start}
 use Rattle.definitions.specs.Names.{Name, name_cmp}
 use Rattle.definitions.specs.History.{History, Write, write, writes, up_to, Members, after, after_all, put_or_remove, members, found, present}
 use Rattle.definitions.specs.Refusals.{too_large}
-use Rattle.definitions.specs.Targets.{Asked, asks_with, data_of}
+use Rattle.definitions.specs.Targets.{Asked, asks_with, body_or, data_of}
 use Rattle.definitions.specs.Verbs.{Request, accept, new_name, with_write, write_of, overflows, most_objects, is_past_greatest}
 use Rattle.definitions.proofs.Cases.{of_accept}
 use Rattle.definitions.proofs.Past.{writes-append, whole}
@@ -19,7 +19,7 @@ use Rattle.definitions.proofs.Runs.{by_lines}
 use Rattle.definitions.proofs.HeldMembers.{at_most}
 use Rattle.definitions.proofs.VerbLaws.{present-write}
 
-body_at : (b : Bool) (f : Data → Request) (text : List ℕ) (q : Asked) → nat_lt 1048576 (length text) ≡ b → cond b (Err too_large) (asks_with f (data_of text)) ≡ Ok q → length text ≤ 1048576
+body_at : (b : Bool) (f : Data → Request) (text : List ℕ) (q : Asked) → nat_lt 1048576 (length text) ≡ b → asks_with f (cond b (Err too_large) (body_or (data_of text))) ≡ Ok q → length text ≤ 1048576
 body_at true f text q at is = cc
 body_at false f text q at is = at_most 1048576 (length text) at
 
@@ -142,8 +142,9 @@ room q h moment =
     let full = nat_le most_objects (length ms) in
     let last = is_past_greatest (present h + 1) in
     of_accept (λ o. IfSome (write_of o) (λ w. overflows (members h (present h)) (present h) w ≡ false)) (λ f. tt) (λ code body. tt) q h moment
-    (λ kind ns o fits free left. room_of full last (is_some (found (new_name kind ns o ms (present h)) ms)) left) (λ k o held at fits low. held_room (full && true) last (found k ms) held at low)
-    (λ k d low. gone_room full last (not (is_some (found k ms))) low) (λ k o held at fits low. held_room (full && true) last (found k ms) held at low)
+    (λ kind ns o fits free left. room_of full last (is_some (found (new_name kind ns o ms (present h)) ms)) left) (λ k o held at valid fits low. held_room (full && true) last (found k ms) held at low)
+    (λ k o held at free low. gone_room full last (not (is_some (found k ms))) low) (λ k o held at fits low. held_room (full && true) last (found k ms) held at low)
+    (λ k o held at low. held_room (full && true) last (found k ms) held at low) (λ k o held at none low. gone_room full last (not (is_some (found k ms))) low)
 
 each_outcome : (h : History) (o : Option Write) → IfSome o (λ w. overflows (members h (present h)) (present h) w ≡ false) → Within h → Within (with_write h o)
 each_outcome h None r w = w

@@ -27,11 +27,11 @@ module _ {K X : Type 0} {R : K → K → Ordering} (o : IsTotalOrder R) (same : 
   above_kept k es h = IsAbove-filter R (λ e. asks e.0 e.1) k es h
 
   -- what is above k holds nothing under it
-  insert_above : (k : K) (x : X) (es : List (K × X)) → IsAbove R k es → insert_entry R es k x ≡ (k, x) ∷ es
+  pub insert_above : (k : K) (x : X) (es : List (K × X)) → IsAbove R k es → insert_entry R es k x ≡ (k, x) ∷ es
   insert_above k x [] h = refl
   insert_above k x (e ∷ es) h = rw h.0 refl
 
-  remove_above : (k : K) (es : List (K × X)) → IsAbove R k es → remove_entry (is_at (R k)) es ≡ es
+  pub remove_above : (k : K) (es : List (K × X)) → IsAbove R k es → remove_entry (is_at (R k)) es ≡ es
   remove_above k [] h = refl
   remove_above k (e ∷ es) h = rw (h.0, remove_above k es h.1) refl
 
@@ -119,7 +119,7 @@ module _ {K X : Type 0} {R : K → K → Ordering} (o : IsTotalOrder R) (same : 
 
 -- ---- the changes of a view
 
-one_name : (a b : Name) → name_cmp a b ≡ Equal → a ≡ b
+pub one_name : (a b : Name) → name_cmp a b ≡ Equal → a ≡ b
 one_name a b h = same_name a b (ap is_eq h)
 
 module _ (v : View) where
@@ -148,11 +148,11 @@ module _ (v : View) where
   play-append ms [] ds = refl
   play-append ms (c ∷ cs) ds = play-append (play_one ms c) cs ds
 
-  after_all-push : (ms : Members) (ws : List Write) (w : Write) → after_all ms (ws ++ w ∷ []) ≡ after (after_all ms ws) w
+  pub after_all-push : (ms : Members) (ws : List Write) (w : Write) → after_all ms (ws ++ w ∷ []) ≡ after (after_all ms ws) w
   after_all-push ms [] w = refl
   after_all-push ms (u ∷ ws) w = after_all-push (after ms u) ws w
 
-  one_more : (ws : List Write) (w : Write) → play (viewed v (after_all [] ws)) (write_change v ws w) ≡ viewed v (after_all [] (ws ++ w ∷ []))
+  pub one_more : (ws : List Write) (w : Write) → play (viewed v (after_all [] ws)) (write_change v ws w) ≡ viewed v (after_all [] (ws ++ w ∷ []))
   one_more ws w =
       ap (λ o. play (viewed v (after_all [] ws)) (change_of (length ws + 2) w.key (seen v w.key o) (seen v w.key w.put))) (sym (found-after_all w.key [] ws tt))
       ∙ one_write w.key w.put (length ws + 2) (after_all [] ws) (IsAscending-after_all [] ws tt) ∙ ap (viewed v) (sym (after_all-push [] ws w))

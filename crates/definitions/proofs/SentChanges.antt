@@ -11,7 +11,7 @@ use Rattle.definitions.specs.declared.kinds.Kind.TheVariants.{ConfigMap, Pod, Re
 use Rattle.definitions.specs.Kinds.{rank}
 use Rattle.definitions.specs.Changes.{Change, change_of, changes_after, changes, gone_at}
 use Rattle.definitions.specs.History.{History, Write, View, writes, present, up_to, last_of, in_view, seen}
-use Rattle.definitions.specs.Metadata.{metadata_of, metadata_text, name, namespace, uid}
+use Rattle.definitions.specs.Metadata.{at_revision, metadata_of, metadata_text, name, namespace, uid}
 use Rattle.definitions.specs.Names.{Name}
 use Rattle.definitions.specs.Refusals.{too_new}
 use Rattle.definitions.specs.Frames.{frame_text}
@@ -32,7 +32,7 @@ use Rattle.definitions.proofs.RevisionTexts.{revision_is}
 use Rattle.definitions.proofs.SentObjects.{IsStored, IsHeld, filled_decimal, whole_stored}
 use Rattle.definitions.proofs.SentRuns.{AreStored, AreStored-split, AreStored-up_to, last_held, all_stored}
 use Rattle.definitions.proofs.TextLengths.{fits_at}
-use Rattle.definitions.proofs.WholeObjects.{neat_metadata, reads_whole, whole_at}
+use Rattle.definitions.proofs.WholeObjects.{neat_metadata, ordered_metadata, reads_whole, whole_at}
 
 -- ---- an object that is gone
 
@@ -44,15 +44,17 @@ gone_kept : (k : Name) (s r : ℕ) (d : Data) → IsStored k s d → r ≤ 90071
 gone_kept k s r d was low =
     let w = whole_stored k s d was in
     record {
-      reads = reads_whole k.kind (members_of (gone_at r d)) (whole_at k.kind r (metadata_of d) d (filled_decimal r low) (neat_metadata k.kind d w) w);
+      reads = reads_whole k.kind (members_of (gone_at r d)) (whole_at k.kind r (metadata_of d) d (filled_decimal r low) (neat_metadata k.kind d w) (ordered_metadata k.kind d w) w);
       name = gone_text (codes "name") r d refl ∙ was.kept.name;
       namespace = gone_text (codes "namespace") r d refl ∙ was.kept.namespace;
       uid = ap is_some (gone_text (codes "uid") r d refl) ∙ was.kept.uid;
       version = version-at_revision r (metadata_of d) d;
     }
 
-gone_fits : (k : Name) (s r : ℕ) (d : Data) → IsStored k s d → r ≤ 9007199254740991 → length (compact_text (gone_at r d)) ≤ 1573120
-gone_fits k s r d was low = fits_at r s (metadata_of d) d (subst (λ x. length (compact_text x) ≤ 1572864) (sym was.stands) was.fits) low
+gone_fits : (k : Name) (s r : ℕ) (d : Data) → IsStored k s d → r ≤ 9007199254740991 → length (compact_text (gone_at r d)) ≤ 1574912
+gone_fits k s r d was low =
+    let at : length (compact_text (at_revision s (metadata_of d) d)) ≤ 1574400 = subst (λ x. length (compact_text x) ≤ 1574400) (sym was.stands) was.fits in
+    omega (arith, fits_at 1574400 r s (metadata_of d) d at low)
 
 -- ---- what is shown
 
@@ -91,7 +93,7 @@ nests d h = leb-true (depth d) 100 (both_true (is_some (as_object d) && not (has
 abbrev Tells : Kind → Change → Type 0
 Tells k c = IsTold k c × IsShort c
 
-tells : (k : Kind) (c : Change) → k ≡ c.key.kind → IsKept c.key c.revision c.object → c.revision ≤ 9007199254740991 → length (compact_text c.object) ≤ 1573120 → Tells k c
+tells : (k : Kind) (c : Change) → k ≡ c.key.kind → IsKept c.key c.revision c.object → c.revision ≤ 9007199254740991 → length (compact_text c.object) ≤ 1574912 → Tells k c
 tells k c same kept low fits =
     let body = read_body c.key.kind c.object c.object kept.reads in (
       record { shows = shown_is k c.key c.revision c.object same kept low; names = name_is k c.key c.revision c.object same kept },
@@ -118,8 +120,8 @@ seen_of k n P (Some d) p = seen_cond k n P d (in_view (whole k) n d) refl p
 all_told : (k : Kind) (r : ℕ) (n : Name) (old new : Option Data) (more : List Change) → r ≤ 9007199254740991 → IfSome old (λ x. (k ≡ n.kind) × IsHeld n x) → IfSome new (λ x. (k ≡ n.kind) × IsStored n r x)
     → AllByRecursion (Tells k) more → AllByRecursion (Tells k) (change_of r n old new ++ more)
 all_told k r n None None more low was is later = later
-all_told k r n None (Some d) more low was is later = (tells k _ is.0 is.1.kept low (let f : length (compact_text d) ≤ 1572864 = is.1.fits in omega arith), later)
-all_told k r n (Some e) (Some d) more low was is later = (tells k _ is.0 is.1.kept low (let f : length (compact_text d) ≤ 1572864 = is.1.fits in omega arith), later)
+all_told k r n None (Some d) more low was is later = (tells k _ is.0 is.1.kept low (let f : length (compact_text d) ≤ 1574400 = is.1.fits in omega arith), later)
+all_told k r n (Some e) (Some d) more low was is later = (tells k _ is.0 is.1.kept low (let f : length (compact_text d) ≤ 1574400 = is.1.fits in omega arith), later)
 all_told k r n (Some e) None more low was is later = (tells k _ was.0 (gone_kept n was.1.0 r e was.1.1 low) low (gone_fits n was.1.0 r e was.1.1 low), later)
 
 stored_joined : (r : ℕ) (us ws : List Write) → AreStored r us → AreStored (r + length us) ws → AreStored r (us ++ ws)

@@ -1,5 +1,5 @@
 -- What holds of what is stored, after any lines.
-use Rattle.std.proofs.Common.{◌≡◌, ◌+◌, ◌-◌, ◌==◌, ◌&&◌, ℕ, List, [], ◌∷◌, ◌++◌, length, drop, Bool, true, false, cond, not, nat_lt, codes, bytes_eq, IfSome, Option, Some, None, Result, Ok, Err, refl, sym, subst, arith}
+use Rattle.std.proofs.Common.{◌≡◌, ◌+◌, ◌-◌, ◌==◌, ◌&&◌, ℕ, List, [], ◌∷◌, ◌++◌, length, drop, Bool, true, false, cond, not, nat_le, nat_lt, codes, bytes_eq, IfSome, Option, Some, None, Result, Ok, Err, refl, sym, subst, arith}
 use Rattle.std.proofs.lemmas.List.{take-append-drop}
 use Rattle.std.specs.Str.{is_utf8}
 use Rattle.serde_json.specs.Data.{Data}
@@ -10,20 +10,23 @@ use Rattle.definitions.specs.declared.refusals.Part.TheVariants as part
 use Rattle.definitions.specs.Changes.{Change, changes_since}
 use Rattle.definitions.specs.History.{History, Write, write, writes, last_of, members, found, present, up_to}
 use Rattle.definitions.specs.Lines.{Session, start, Line, ask, at, unreadable, ask_if, cut, target_alone, target_and_body, line_from, line_of, reply_for, watch_reply, history_from, session_after, next, after_lines}
-use Rattle.definitions.specs.Moments.{is_moment}
+use Rattle.definitions.specs.Moments as moments
+use Rattle.definitions.specs.Moments.{has_form, is_day, is_digit, is_moment}
 use Rattle.definitions.specs.Names.{Name, is_named, is_namespace}
 use Rattle.definitions.specs.Queries.{Query}
 use Rattle.definitions.specs.Refusals.{Refusal, bad_request, method_not_allowed, too_large}
-use Rattle.definitions.specs.Targets.{Asked, request, watch, Route, collection, object_at, status_of, route, path_of, decoded, query_for, names_namespace, is_allowed, data_of, asks_with, with_body, list_or_watch, selected, asked, asked_with, asked_at, read_request}
+use Rattle.definitions.specs.Targets.{Asked, request, watch, Route, collection, object_at, status_of, route, path_of, decoded, query_for, names_namespace, is_allowed, data_of, body_or, body_of, asks_with, with_body, delete_options, deletes_with, list_or_watch, selected, asked, asked_with, asked_at, read_request}
 use Rattle.definitions.specs.Verbs.{Request, create_object, update_object, update_status, patch_object, accept, with_write, write_of}
+use Rattle.definitions.specs.DeleteOptions.{Options}
 use Rattle.definitions.specs.History as history
 use Rattle.definitions.specs.SentLaws.{IsKept, AreKept, RunsKeepObjects, history_of}
-use Rattle.definitions.proofs.JsonOrder.{IsOrdered, HasOrder, ordered_read}
-use Rattle.definitions.specs.Values.{members_of}
 use Rattle.definitions.proofs.NeatMembers.{IsFilled}
+use Rattle.definitions.proofs.NestedOrder.{HasOrders, orders_read}
+use Rattle.definitions.proofs.NoFloatsRead.{both_true}
 use Rattle.definitions.proofs.Past.{writes-append}
 use Rattle.definitions.proofs.PutLaws.{found-after_all, same_name}
-use Rattle.definitions.proofs.SentObjects.{IsStored, IsAsked, IsHeld, filled_long, stores}
+use Rattle.definitions.proofs.SentObjects.{IsStored, IsAsked, IsHeld, filled_long}
+use Rattle.definitions.proofs.SentVerbs.{IsTime, stores}
 
 -- ---- what is asked
 
@@ -36,16 +39,35 @@ well_or : (b : Bool) (f : Refusal) (r : Result Asked Refusal) → (b ≡ false �
 well_or true f r each = tt
 well_or false f r each = each refl
 
-ordered_data : (b : Bool) (text : List ℕ) → HasOrder (cond b (read text) None)
-ordered_data true text = ordered_read text
+ordered_data : (b : Bool) (text : List ℕ) → IfSome (cond b (read text) None) HasOrders
+ordered_data true text = orders_read text
 ordered_data false text = tt
 
-well_with : (f : Data → Request) (o : Option Data) → ((d : Data) → IsOrdered (members_of d) → IsAsked (f d)) → HasOrder o → AsksWell (asks_with f o)
-well_with f None each h = tt
-well_with f (Some d) each h = each d h
+abbrev IsOrderedBody : Result Data Refusal → Type 0
+IsOrderedBody (Err f) = Unit {0}
+IsOrderedBody (Ok d) = HasOrders d
 
-well_body : (f : Data → Request) (text : List ℕ) → ((d : Data) → IsOrdered (members_of d) → IsAsked (f d)) → AsksWell (with_body f text)
-well_body f text each = well_or (nat_lt 1048576 (length text)) too_large (asks_with f (data_of text)) (λ _. well_with f (data_of text) each (ordered_data (is_utf8 text) text))
+ordered_or : (o : Option Data) → IfSome o HasOrders → IsOrderedBody (body_or o)
+ordered_or None h = tt
+ordered_or (Some d) h = h
+
+ordered_unless : (b : Bool) (r : Result Data Refusal) → IsOrderedBody r → IsOrderedBody (cond b (Err too_large) r)
+ordered_unless true r h = tt
+ordered_unless false r h = h
+
+ordered_body : (text : List ℕ) → IsOrderedBody (body_of text)
+ordered_body text = ordered_unless (nat_lt 1048576 (length text)) (body_or (data_of text)) (ordered_or (data_of text) (ordered_data (is_utf8 text) text))
+
+well_with : (f : Data → Request) (r : Result Data Refusal) → ((d : Data) → HasOrders d → IsAsked (f d)) → IsOrderedBody r → AsksWell (asks_with f r)
+well_with f (Err e) each h = tt
+well_with f (Ok d) each h = each d h
+
+well_body : (f : Data → Request) (text : List ℕ) → ((d : Data) → HasOrders d → IsAsked (f d)) → AsksWell (with_body f text)
+well_body f text each = well_with f (body_of text) each (ordered_body text)
+
+well_deletes : (n : Name) (r : Result Options Refusal) → AsksWell (deletes_with n r)
+well_deletes n (Err e) = tt
+well_deletes n (Ok o) = tt
 
 filled_namespace : (ns : List ℕ) → is_namespace ns ≡ true → IsFilled ns
 filled_namespace [] h = cc
@@ -69,7 +91,9 @@ well_asked Put (status_of n) q text h = well_body (update_status n) text (λ d a
 well_asked Patch (collection k ns) q text h = tt
 well_asked Patch (object_at n) q text h = well_body (patch_object n) text (λ d a. a)
 well_asked Patch (status_of n) q text h = tt
-well_asked Delete r q text h = tt
+well_asked Delete (collection k ns) q text h = tt
+well_asked Delete (object_at n) q text h = well_deletes n (delete_options q text)
+well_asked Delete (status_of n) q text h = tt
 
 well_query : (method : Method) (r : Route) (text : List ℕ) (o : Option Query) → names_namespace r ≡ true → AsksWell (asked_with method r text o)
 well_query method r text None h = tt
@@ -93,12 +117,30 @@ well_request method target text = well_at method (decoded target) text (route (p
 
 abbrev IsTimed : Line → Type 0
 IsTimed (ask method target body) = Unit {0}
-IsTimed (at moment) = IsFilled moment
+IsTimed (at moment) = IsTime moment
 IsTimed unreadable = Unit {0}
 
-filled_moment : (t : List ℕ) → is_moment t ≡ true → IsFilled t
-filled_moment [] h = cc
-filled_moment (b ∷ bs) h = filled_long (b ∷ bs) (omega arith)
+-- a text of a form is as long as the form
+as_long : (form t : List ℕ) → has_form form t ≡ true → length t ≡ length form
+as_long [] [] h = refl
+as_long [] (b ∷ bs) h = cc
+as_long (f ∷ fs) [] h = cc
+as_long (f ∷ fs) (b ∷ bs) h =
+    let more : length bs ≡ length fs = as_long fs bs (both_true (cond (f == 48) (is_digit b) (b == f)) (has_form fs bs) h).1 in omega arith
+
+first_true : (a b c d e : Bool) → (a && b && c && d && e) ≡ true → a ≡ true
+first_true true b c d e h = refl
+first_true false b c d e h = h
+
+has_moment_form : (t : List ℕ) → is_moment t ≡ true → has_form (codes "0000-00-00T00:00:00Z") t ≡ true
+has_moment_form t h =
+    first_true (has_form (codes "0000-00-00T00:00:00Z") t) (is_day (moments.part 0 4 t) (moments.part 5 2 t) (moments.part 8 2 t)) (nat_le (moments.part 11 2 t) 23) (nat_le (moments.part 14 2 t) 59)
+    (nat_le (moments.part 17 2 t) 59) h
+
+timed_moment : (t : List ℕ) → is_moment t ≡ true → IsTime t
+timed_moment t h =
+    let long : length t ≡ 20 = as_long (codes "0000-00-00T00:00:00Z") t (has_moment_form t h) in
+    (filled_long t (omega arith), omega arith)
 
 timed_either : (b : Bool) (x y : Line) → IsTimed x → IsTimed y → IsTimed (cond b x y)
 timed_either true x y p q = p
@@ -115,7 +157,7 @@ timed_both : (method : Method) (o : Option (List ℕ × List ℕ)) → IsTimed (
 timed_both method None = tt
 timed_both method (Some p) = timed_if method p.0 p.1
 
-timed_at : (a b : Bool) (t : List ℕ) → (b ≡ true → IsFilled t) → IsTimed (cond (a && b) (at t) unreadable)
+timed_at : (a b : Bool) (t : List ℕ) → (b ≡ true → IsTime t) → IsTimed (cond (a && b) (at t) unreadable)
 timed_at true true t h = h refl
 timed_at true false t h = tt
 timed_at false b t h = tt
@@ -128,14 +170,14 @@ timed_from (Some p) =
     (timed_either (bytes_eq p.0 (codes "POST")) (target_and_body Post (cut p.1)) _ (timed_both Post (cut p.1))
     (timed_either (bytes_eq p.0 (codes "PUT")) (target_and_body Put (cut p.1)) _ (timed_both Put (cut p.1))
     (timed_either (bytes_eq p.0 (codes "PATCH")) (target_and_body Patch (cut p.1)) _ (timed_both Patch (cut p.1))
-    (timed_at (bytes_eq p.0 (codes "AT")) (is_moment p.1) p.1 (filled_moment p.1))))))
+    (timed_at (bytes_eq p.0 (codes "AT")) (is_moment p.1) p.1 (timed_moment p.1))))))
 
 -- ---- after any lines
 
 -- a property of histories that a write leaves, where requests come of lines
-module _ (P : History → Type 0) (each : (q : Request) (h : History) (moment : List ℕ) → IsAsked q → IsFilled moment → P h → P (with_write h (write_of (accept q h moment)))) where
+module _ (P : History → Type 0) (each : (q : Request) (h : History) (moment : List ℕ) → IsAsked q → IsTime moment → P h → P (with_write h (write_of (accept q h moment)))) where
   abbrev Holds : Session → Type 0
-  Holds s = IsFilled s.moment × P s.history
+  Holds s = IsTime s.moment × P s.history
 
   by_watch : (s : Session) (changes : Result (List Change) Refusal) → P s.history → P (history_from s.history (watch_reply changes))
   by_watch s (Err f) p = p
@@ -160,7 +202,7 @@ module _ (P : History → Type 0) (each : (q : Request) (h : History) (moment : 
   by_session s (t ∷ ts) p = by_session (next s t) ts (by_text (length t == 0) s t p)
 
   pub by_asked : (lines : List (List ℕ)) → P [] → P (history_of lines)
-  by_asked lines p = (by_session start lines (refl, p)).1
+  by_asked lines p = (by_session start lines ((refl, omega arith), p)).1
 
 -- ---- what is stored
 

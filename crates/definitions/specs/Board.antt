@@ -6,9 +6,7 @@ use Rattle.std.specs.Coded.{Coded, code_by, coded×, coded_ℕ, coded_list, code
 use Rattle.std.specs.FinMap as map
 use Rattle.std.specs.FinSet as set
 use Rattle.std.specs.declared.cmp.Ordering.{Ordering}
-use Rattle.definitions.specs.contracts.kinds.Kind as kind
 use Rattle.definitions.specs.contracts.controllers.Controller as controller
-use Rattle.definitions.specs.declared.kinds.Kind.{Kind}
 use Rattle.definitions.specs.declared.controllers.Controller.{Controller}
 use Rattle.definitions.specs.declared.controllers.Controller.TheVariants.{ReplicaSet, Deployment, Collector}
 use Rattle.definitions.specs.HistoryCodes.{coded_name}

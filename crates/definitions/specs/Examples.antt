@@ -1,7 +1,8 @@
 -- Worked facts, computed from the definitions: what is written for these lines, and values of single definitions.
-use Rattle.std.specs.Prelude.{ℕ, zero, suc, List, map, replicate, ◌≡◌, ◌≢◌, Some, None, codes, ◌++◌, ◌∷◌, ◌^◌, ◌-◌, [], true, false}
+use Rattle.std.specs.Prelude.{ℕ, zero, suc, List, map, replicate, ◌≡◌, ◌≢◌, Option, Some, None, codes, ◌++◌, ◌∷◌, ◌^◌, ◌-◌, [], true, false}
 use Rattle.std.specs.List.{list_all, list_any}
-use Rattle.serde_json.specs.Data.{Data, null, number, unsigned, string, array, object, no_items, item, no_members, member}
+use Rattle.serde_json.specs.Data.{Data, string, array, object, no_items, no_members, member}
+use Rattle.serde_json.specs.Read.{read}
 use Rattle.serde_json.specs.Written.{compact_text}
 use Rattle.definitions.specs.declared.kinds.Kind.TheVariants.{ConfigMap, Pod, ReplicaSet, Deployment}
 use Rattle.definitions.specs.Refusals.{bad_request, not_found, no_such_path, method_not_allowed, already_exists, conflict, expired, length_required, too_large, unsupported_media_type, invalid, no_memory, too_new, storage_full, status_body, success_body}
@@ -143,19 +144,32 @@ NamesAreSubdomains =
     (list_all is_subdomain (codes "a" ∷ codes "web-1" ∷ codes "a.b-c.9" ∷ []) ≡ true)
     × (list_any is_subdomain (codes "" ∷ codes "A" ∷ codes "-a" ∷ codes "a-" ∷ codes "a..b" ∷ codes ".a" ∷ codes "a_b" ∷ []) ≡ false)
 
--- merge patches do what the examples of RFC 7396, Appendix A, say
+-- the text of what a patch makes of a target, both given as texts
+abbrev pub merged_text : Option Data → Option Data → Option (List ℕ)
+merged_text (Some target) (Some patch) = Some (compact_text (merged target patch))
+merged_text target patch = None
+
+abbrev pub patched : List ℕ → List ℕ → Option (List ℕ)
+patched target patch = merged_text (read target) (read patch)
+
+-- merge patches do what each example of RFC 7396, Appendix A, says
 abbrev pub PatchesMerge : Type 0
 PatchesMerge =
-    (merged (object (member (codes "a") (string (codes "b")) (member (codes "b") (string (codes "c")) no_members))) (object (member (codes "a") null no_members))
-    ≡ object (member (codes "b") (string (codes "c")) no_members))
-    × (merged (object (member (codes "a") (object (member (codes "b") (string (codes "c")) no_members)) no_members))
-    (object (member (codes "a") (object (member (codes "b") (string (codes "d")) (member (codes "c") null no_members))) no_members))
-    ≡ object (member (codes "a") (object (member (codes "b") (string (codes "d")) no_members)) no_members))
-    × (merged (object (member (codes "e") null no_members)) (object (member (codes "a") (number (unsigned 1)) no_members))
-    ≡ object (member (codes "a") (number (unsigned 1)) (member (codes "e") null no_members)))
-    × (merged (array (item (number (unsigned 1)) no_items)) (object (member (codes "a") (string (codes "b")) (member (codes "c") null no_members)))
-    ≡ object (member (codes "a") (string (codes "b")) no_members))
-    × (merged (object (member (codes "a") (string (codes "b")) no_members)) (array (item (string (codes "c")) no_items)) ≡ array (item (string (codes "c")) no_items))
+    (patched (codes "{\"a\":\"b\"}") (codes "{\"a\":\"c\"}") ≡ Some (codes "{\"a\":\"c\"}"))
+    × (patched (codes "{\"a\":\"b\"}") (codes "{\"b\":\"c\"}") ≡ Some (codes "{\"a\":\"b\",\"b\":\"c\"}"))
+    × (patched (codes "{\"a\":\"b\"}") (codes "{\"a\":null}") ≡ Some (codes "{}"))
+    × (patched (codes "{\"a\":\"b\",\"b\":\"c\"}") (codes "{\"a\":null}") ≡ Some (codes "{\"b\":\"c\"}"))
+    × (patched (codes "{\"a\":[\"b\"]}") (codes "{\"a\":\"c\"}") ≡ Some (codes "{\"a\":\"c\"}"))
+    × (patched (codes "{\"a\":\"c\"}") (codes "{\"a\":[\"b\"]}") ≡ Some (codes "{\"a\":[\"b\"]}"))
+    × (patched (codes "{\"a\":{\"b\":\"c\"}}") (codes "{\"a\":{\"b\":\"d\",\"c\":null}}") ≡ Some (codes "{\"a\":{\"b\":\"d\"}}"))
+    × (patched (codes "{\"a\":[{\"b\":\"c\"}]}") (codes "{\"a\":[1]}") ≡ Some (codes "{\"a\":[1]}"))
+    × (patched (codes "[\"a\",\"b\"]") (codes "[\"c\",\"d\"]") ≡ Some (codes "[\"c\",\"d\"]"))
+    × (patched (codes "{\"a\":\"b\"}") (codes "[\"c\"]") ≡ Some (codes "[\"c\"]"))
+    × (patched (codes "{\"a\":\"foo\"}") (codes "null") ≡ Some (codes "null"))
+    × (patched (codes "{\"a\":\"foo\"}") (codes "\"bar\"") ≡ Some (codes "\"bar\""))
+    × (patched (codes "{\"e\":null}") (codes "{\"a\":1}") ≡ Some (codes "{\"a\":1,\"e\":null}"))
+    × (patched (codes "[1,2]") (codes "{\"a\":\"b\",\"c\":null}") ≡ Some (codes "{\"a\":\"b\"}"))
+    × (patched (codes "{}") (codes "{\"a\":{\"bb\":{\"ccc\":null}}}") ≡ Some (codes "{\"a\":{\"bb\":{}}}"))
 
 -- an update keeps what the server owns, and is refused where it names another uid
 abbrev pub UpdateKeepsIdentity : Type 0
@@ -307,7 +321,7 @@ LinesAreRead =
     ++ codes "PUT /api/v1/namespaces/default/configmaps {}\n"
     ++ codes "POST /api/v1/namespaces/default/configmaps/a {}\n"
     ++ codes "PATCH /api/v1/namespaces/default/configmaps? {}\n"
-    ++ codes "DELETE /api/v1/namespaces/default/configmaps/a\n"
+    ++ codes "DELETE /api/v1/namespaces/default/configmaps\n"
     ++ codes "PUT /api/v1/namespaces/default/configmaps/a/status {}\n"
     ++ codes "GET /api/v1/namespaces/default/configmaps/\n"
     ++ codes "GET /api/v1/namespaces//configmaps\n"

@@ -1,5 +1,5 @@
 -- What follows from the definitions.
-use Rattle.std.specs.Prelude.{false, codes, ◌≡◌, ◌≤◌, ◌<◌, ◌+◌, ◌^◌, ◌++◌, ◌∷◌, [], ℕ, List, length, Some, None, Ok, IfSome, decimal, if◌then◌else◌}
+use Rattle.std.specs.Prelude.{Bool, true, false, codes, ◌≡◌, ◌≤◌, ◌<◌, ◌+◌, ◌^◌, ◌++◌, ◌∷◌, [], ℕ, List, length, Some, None, Ok, IfSome, decimal, if◌then◌else◌}
 use Rattle.std.specs.Map.{keys_of}
 use Rattle.std.specs.List.Sorted.{IsStrictlySortedBy}
 use Rattle.serde_json.specs.Data.{Data}
@@ -13,7 +13,7 @@ use Rattle.definitions.specs.Metadata.{metadata_text, uid, version}
 use Rattle.definitions.specs.Reading.{reading}
 use Rattle.definitions.specs.Targets.{Asked, Route, route, path_text, with_body}
 use Rattle.definitions.specs.Uids.{uid_text, uid_revision, cluster_word}
-use Rattle.definitions.specs.Verbs.{Request, create_object, update_object, Outcome, refused, accept, write_of, outcome_body, history_after, overflows}
+use Rattle.definitions.specs.Verbs.{Request, get_object, list_objects, create_object, update_object, update_status, patch_object, delete_object, Outcome, refused, accept, write_of, outcome_body, history_after, overflows}
 
 -- ---- history
 
@@ -74,9 +74,18 @@ WritesKeepIdentity =
     (q : Request) (h : History) (moment : List ℕ)
     → OfStored (accept q h moment) (λ k new. IfSome (state h (present h) k) (λ held. KeepsText (codes "uid") held new × KeepsText (codes "creationTimestamp") held new))
 
--- no object is longer than an object may be
+abbrev pub is_delete : Request → Bool
+is_delete (get_object k) = false
+is_delete (list_objects v) = false
+is_delete (create_object kind ns d) = false
+is_delete (update_object k d) = false
+is_delete (update_status k d) = false
+is_delete (patch_object k d) = false
+is_delete (delete_object k o) = true
+
+-- no object is longer than an object may be, but for what a delete adds to it
 abbrev pub WritesFit : Type 0
-WritesFit = (q : Request) (h : History) (moment : List ℕ) → OfStored (accept q h moment) (λ k d. length (compact_text d) ≤ 1572864)
+WritesFit = (q : Request) (h : History) (moment : List ℕ) → is_delete q ≡ false → OfStored (accept q h moment) (λ k d. length (compact_text d) ≤ 1572864)
 
 -- a write that is accepted has room
 abbrev pub WritesHaveRoom : Type 0

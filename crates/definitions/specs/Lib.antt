@@ -6,6 +6,9 @@ pub mod CheckLaws
 pub mod Checks
 pub mod Codes
 pub mod Defaults
+pub mod DeleteOptions
+pub mod Deletion
+pub mod DeletionExamples
 pub mod Examples
 pub mod ExpectationLaws
 pub mod Expectations
@@ -16,6 +19,7 @@ pub mod HistoryCodes
 pub mod Kinds
 pub mod Labels
 pub mod Laws
+pub mod LifecycleLaws
 pub mod Lines
 pub mod Metadata
 pub mod Moments
@@ -48,3 +52,6 @@ pub mod VerbExamples
 pub mod Verbs
 pub mod WatchExamples
 pub mod WatchLaws
+pub mod WindowExamples
+pub mod WindowLaws
+pub mod Windows

@@ -1,9 +1,12 @@
 -- What the query of a target says (URL Standard, application/x-www-form-urlencoded parsing).
-use Rattle.std.specs.Prelude.{ℕ, zero, suc, List, [], ◌∷◌, Bool, true, false, ◌||◌, ◌==◌, length, Option, Some, None, option_and_then, unwrap_or, codes, if◌then◌else◌}
+use Rattle.std.specs.Prelude.{ℕ, zero, suc, List, [], ◌∷◌, Bool, ◌||◌, ◌==◌, length, Option, Some, None, option_and_then, unwrap_or, codes, if◌then◌else◌}
 use Rattle.std.specs.List.{list_any, after_first}
 use Rattle.std.specs.Str.{bytes_eq}
 use Rattle.std.specs.Str.Lossy.{utf8_lossy}
 use Rattle.form_urlencoded.specs.Form.{raw_pairs, decode}
+use Rattle.definitions.specs.declared.policies.PolicySaid.{PolicySaid}
+use Rattle.definitions.specs.declared.policies.PolicySaid.TheVariants.{Nothing}
+use Rattle.definitions.specs.DeleteOptions.{policy_said}
 use Rattle.definitions.specs.Revisions.{revision_of}
 use Rattle.definitions.specs.SelectorFields.{FieldRequirement, said_of_fields}
 use Rattle.definitions.specs.SelectorTexts.{said_by_text}
@@ -36,14 +39,19 @@ has_any names pairs = list_any (λ p. list_any (bytes_eq (text_of p.0)) names) p
 abbrev pub is_true : List ℕ → Bool
 is_true value = bytes_eq value (codes "true") || bytes_eq value (codes "1")
 
--- what a query adds to a request: which labels and fields are selected, and after which revision the changes are watched
+-- what a query adds to a request: which labels and fields are selected, after which revision the changes are watched, and what is said of a delete's policy
 pub record Query : Type 0 where
   pub labels : List Requirement
   pub fields : List FieldRequirement
   pub watch : Option ℕ
+  pub policy : PolicySaid
+
+-- nothing but what is said of the policy
+abbrev pub only_policy : PolicySaid → Query
+only_policy policy = record { labels = []; fields = []; watch = None; policy = policy }
 
 abbrev pub plain : Query
-plain = record { labels = []; fields = []; watch = None }
+plain = only_policy Nothing
 
 -- what no request may ask (Kubernetes API Concepts, Dry-run)
 abbrev pub refused_names : List (List ℕ)
@@ -82,7 +90,7 @@ or_empty text = unwrap_or text []
 
 abbrev pub with_watch : List Requirement → List FieldRequirement → Option (Option ℕ) → Option Query
 with_watch labels fields None = None
-with_watch labels fields (Some watch) = Some (record { labels = labels; fields = fields; watch = watch })
+with_watch labels fields (Some watch) = Some (record { labels = labels; fields = fields; watch = watch; policy = Nothing })
 
 abbrev pub with_fields : List Requirement → Option (List FieldRequirement) → Option (Option ℕ) → Option Query
 with_fields labels None watch = None
@@ -99,6 +107,10 @@ collection_query pairs =
     else
     with_labels (said_by_text (or_empty (member (codes "labelSelector") pairs))) (said_of_fields (or_empty (member (codes "fieldSelector") pairs)))
     (by_watch (member (codes "watch") pairs) (member (codes "resourceVersion") pairs))
+
+-- the query of a delete, if it is understood (Kubernetes API reference, DeleteOptions)
+abbrev pub delete_query : Pairs → Option Query
+delete_query pairs = if has_any refused_names pairs then None else Some (only_policy (policy_said (member (codes "propagationPolicy") pairs)))
 
 -- the query of any other request, if it is understood
 abbrev pub other_query : Pairs → Option Query

@@ -3,9 +3,9 @@ use Rattle.std.specs.Prelude.{ℕ, pos, negsuc, List, [], ◌∷◌, ◌++◌, t
 use Rattle.definitions.specs.declared.kinds.Kind.{Kind}
 use Rattle.definitions.specs.declared.kinds.Kind.TheVariants.{ConfigMap, Pod, ReplicaSet, Deployment}
 use Rattle.definitions.specs.declared.schemas.Shape.{Shape}
-use Rattle.definitions.specs.declared.schemas.Shape.TheVariants.{Anything, Text, VersionOf, NameOf, Truth, Whole, TextList, List as ListOf, Object}
+use Rattle.definitions.specs.declared.schemas.Shape.TheVariants.{Anything, Nothing, Text, VersionOf, NameOf, Truth, Whole, TextList, List as ListOf, Object}
 use Rattle.definitions.specs.declared.schemas.Schema.{Schema}
-use Rattle.definitions.specs.declared.schemas.Schema.TheVariants.{Root, Texts, Metadata, OwnerReference, PodSpec, PodStatus, Condition, ReplicaSetSpec, ReplicaSetStatus, DeploymentSpec, DeploymentStatus, Selector, Expression, Template, TemplateMetadata, Strategy, Unknown}
+use Rattle.definitions.specs.declared.schemas.Schema.TheVariants.{Root, Texts, Metadata, OwnerReference, PodSpec, PodStatus, Condition, ReplicaSetSpec, ReplicaSetStatus, DeploymentSpec, DeploymentStatus, Selector, Expression, Template, TemplateMetadata, Strategy, DeleteOptions, Preconditions, Unknown}
 use Rattle.definitions.specs.declared.schemas.Member.{Member}
 
 abbrev pub Table : Type 0
@@ -136,6 +136,21 @@ strategy =
     ∷ (codes "rollingUpdate", kept (Object Unknown))
     ∷ []
 
+-- what a delete may say; a dry run is not served, and `orphanDependents` is no more (Kubernetes API reference, DeleteOptions)
+abbrev pub delete_options : Table
+delete_options =
+    (codes "preconditions", kept (Object Preconditions))
+    ∷ (codes "propagationPolicy", kept Text)
+    ∷ (codes "dryRun", kept Nothing)
+    ∷ (codes "orphanDependents", kept Nothing)
+    ∷ []
+
+abbrev pub preconditions : Table
+preconditions =
+    (codes "uid", kept Text)
+    ∷ (codes "resourceVersion", kept Text)
+    ∷ []
+
 -- what each object has
 abbrev pub any_kind : Kind → Table
 any_kind k = (codes "apiVersion", kept (VersionOf k)) ∷ (codes "kind", kept (NameOf k)) ∷ (codes "metadata", kept (Object Metadata)) ∷ []
@@ -165,4 +180,6 @@ member_at Expression = described expression
 member_at Template = described template
 member_at TemplateMetadata = described template_metadata
 member_at Strategy = described strategy
+member_at DeleteOptions = described delete_options
+member_at Preconditions = described preconditions
 member_at Unknown = described []

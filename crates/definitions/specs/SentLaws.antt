@@ -60,7 +60,7 @@ pub record IsTold (k : Kind) (c : Change) : Type 0 where
 pub record IsShort (c : Change) : Type 0 where
   pub is_object : IsSome (as_object c.object)
   pub nests : depth c.object ≤ 100
-  pub fits : length (compact_text c.object) ≤ 1573120
+  pub fits : length (compact_text c.object) ≤ 1574912
 
 -- whatever lines are read, what a watch of a kind shows is read as it stands, says its key and revision, and is short enough for a line
 abbrev pub ChangesAreTold : Type 0

@@ -10,13 +10,15 @@ use Rattle.definitions.specs.declared.kinds.Group.TheVariants.{Core, Apps}
 use Rattle.definitions.specs.declared.kinds.Kind.{Kind}
 use Rattle.definitions.specs.declared.methods.Method.{Method}
 use Rattle.definitions.specs.declared.methods.Method.TheVariants.{Get, Post, Put, Patch, Delete}
+use Rattle.definitions.specs.declared.refusals.Part.{Part}
 use Rattle.definitions.specs.declared.refusals.Part.TheVariants as part
 use Rattle.definitions.specs.Kinds.{group, plural, kind_named, has_status}
 use Rattle.definitions.specs.Names.{Name, is_namespace}
 use Rattle.definitions.specs.History.{View}
-use Rattle.definitions.specs.Queries.{Query, pairs_of, collection_query, other_query}
+use Rattle.definitions.specs.DeleteOptions.{Options, options_of, options_with}
+use Rattle.definitions.specs.Queries.{Query, pairs_of, collection_query, delete_query, other_query}
 use Rattle.definitions.specs.Refusals.{Refusal, bad_request, no_such_path, method_not_allowed, too_large}
-use Rattle.definitions.specs.Verbs.{Request, get_object, list_objects, create_object, update_object, update_status, patch_object}
+use Rattle.definitions.specs.Verbs.{Request, get_object, list_objects, create_object, update_object, update_status, patch_object, delete_object}
 
 -- a collection of a kind, in one namespace or in all; an object; the status of an object (Kubernetes API Concepts, Resource URIs)
 pub data Route : Type 0 where
@@ -114,7 +116,7 @@ names_namespace (status_of n) = is_namespace n.namespace
 
 -- ---- methods, queries and bodies
 
--- the methods of each route that are served so far (Kubernetes API Concepts, API verbs)
+-- the methods of each route (Kubernetes API Concepts, API verbs)
 abbrev pub is_allowed : Method → Route → Bool
 is_allowed Get r = true
 is_allowed Post (collection k None) = false
@@ -127,7 +129,9 @@ is_allowed Put (status_of n) = true
 is_allowed Patch (collection k ns) = false
 is_allowed Patch (object_at n) = true
 is_allowed Patch (status_of n) = false
-is_allowed Delete r = false
+is_allowed Delete (collection k ns) = false
+is_allowed Delete (object_at n) = true
+is_allowed Delete (status_of n) = false
 
 -- a target is a path, and a query after a `?` (RFC 3986, Path)
 abbrev pub path_of : List ℕ → List ℕ
@@ -145,16 +149,42 @@ pub data Asked : Type 0 where
   request : Request → Asked
   watch : View → ℕ → Asked
 
-abbrev pub asks_with : (Data → Request) → Option Data → Result Asked Refusal
-asks_with f None = Err (bad_request part.Body)
-asks_with f (Some d) = Ok (request (f d))
+abbrev pub body_or : Option Data → Result Data Refusal
+body_or None = Err (bad_request part.Body)
+body_or (Some d) = Ok d
 
+-- the data of a body, or the first refusal: it is too long, it is no JSON in UTF-8
+abbrev pub body_of : List ℕ → Result Data Refusal
+body_of text = if nat_lt longest_body (length text) then Err too_large else body_or (data_of text)
+
+abbrev pub asks_with : (Data → Request) → Result Data Refusal → Result Asked Refusal
+asks_with f (Err e) = Err e
+asks_with f (Ok d) = Ok (request (f d))
+
+-- a request with the data of its body
 abbrev pub with_body : (Data → Request) → List ℕ → Result Asked Refusal
-with_body f text = if nat_lt longest_body (length text) then Err too_large else asks_with f (data_of text)
+with_body f text = asks_with f (body_of text)
+
+abbrev pub options_or : Result Options Part → Result Options Refusal
+options_or (Err p) = Err (bad_request p)
+options_or (Ok o) = Ok o
+
+abbrev pub options_in : Result Data Refusal → Result Options Refusal
+options_in (Err e) = Err e
+options_in (Ok d) = options_or (options_of d)
+
+-- the options of a delete: what its body says or, without one, its query
+abbrev pub delete_options : Query → List ℕ → Result Options Refusal
+delete_options q text = if length text == 0 then options_or (options_with part.Query None None q.policy) else options_in (body_of text)
+
+abbrev pub deletes_with : Name → Result Options Refusal → Result Asked Refusal
+deletes_with n (Err e) = Err e
+deletes_with n (Ok o) = Ok (request (delete_object n o))
 
 -- the query that a method and a route take
 abbrev pub query_for : Method → Route → List ℕ → Option Query
 query_for Get (collection k ns) target = collection_query (pairs_of target)
+query_for Delete r target = delete_query (pairs_of target)
 query_for method r target = other_query (pairs_of target)
 
 -- what is selected of a collection
@@ -180,7 +210,9 @@ asked Put (status_of n) q text = with_body (update_status n) text
 asked Patch (collection k ns) q text = Err method_not_allowed
 asked Patch (object_at n) q text = with_body (patch_object n) text
 asked Patch (status_of n) q text = Err method_not_allowed
-asked Delete r q text = Err method_not_allowed
+asked Delete (collection k ns) q text = Err method_not_allowed
+asked Delete (object_at n) q text = deletes_with n (delete_options q text)
+asked Delete (status_of n) q text = Err method_not_allowed
 
 abbrev pub asked_with : Method → Route → List ℕ → Option Query → Result Asked Refusal
 asked_with method r text None = Err (bad_request part.Query)

@@ -1,12 +1,12 @@
 -- What each request is answered, and what it writes, by cases over what is there at the present revision.
-use Rattle.std.specs.Prelude.{ℕ, ◌+◌, List, [], ◌∷◌, ◌++◌, Bool, true, false, not, ◌||◌, length, map, Option, Some, None, Result, Ok, Err, codes, decimal, nat_le, nat_lt, is_some, ◌&&◌, if◌then◌else◌}
-use Rattle.std.specs.Str.{bytes_eq}
+use Rattle.std.specs.Prelude.{ℕ, ◌+◌, List, [], ◌∷◌, ◌++◌, Bool, not, ◌||◌, length, map, Option, Some, None, Result, Ok, Err, codes, decimal, nat_le, nat_lt, is_some, ◌&&◌, if◌then◌else◌}
 use Rattle.serde_json.specs.Data.{Data, string, array, object, no_members, member}
 use Rattle.serde_json.specs.View.{items_of}
 use Rattle.serde_json.specs.Written.{compact_text}
 use Rattle.definitions.specs.declared.kinds.Kind.{Kind}
 use Rattle.definitions.specs.declared.refusals.Part.{Part}
 use Rattle.definitions.specs.declared.refusals.Part.TheVariants as part
+use Rattle.definitions.specs.declared.refusals.Mismatch.{Mismatch}
 use Rattle.definitions.specs.declared.refusals.Mismatch.TheVariants as mismatch
 use Rattle.definitions.specs.declared.refusals.Field.{Field}
 use Rattle.definitions.specs.declared.refusals.Field.TheVariants as field
@@ -17,9 +17,11 @@ use Rattle.definitions.specs.Kinds.{api_version, kind_text}
 use Rattle.definitions.specs.Names.{Name}
 use Rattle.definitions.specs.History as history
 use Rattle.definitions.specs.History.{History, Write, write, View, viewed, members, found, present}
-use Rattle.definitions.specs.Metadata.{metadata_of, at_revision, name, namespace, uid, version}
+use Rattle.definitions.specs.DeleteOptions.{Options}
+use Rattle.definitions.specs.Deletion.{Fate, remove, mark, keep, decided, removal_of, kept_code}
+use Rattle.definitions.specs.Metadata.{metadata_of, at_revision, name, namespace, uid, version, is_other, differs}
 use Rattle.definitions.specs.Reading.{is_body, reading}
-use Rattle.definitions.specs.Refusals.{Refusal, bad_request, not_found, method_not_allowed, already_exists, conflict, invalid, too_large, storage_full, code, status_body}
+use Rattle.definitions.specs.Refusals.{Refusal, bad_request, not_found, already_exists, conflict, invalid, too_large, storage_full, code, status_body}
 use Rattle.definitions.specs.NewObjects.{created}
 use Rattle.definitions.specs.Replacements.{in_place, is_let_go, says_the_same, updated, with_said_status}
 use Rattle.definitions.specs.Revisions.{greatest_revision}
@@ -27,7 +29,7 @@ use Rattle.definitions.specs.Values.{members_of, merged, without}
 
 -- ---- requests and outcomes
 
--- the verbs of the API, each with what it names (Kubernetes API Concepts, API terminology); a body is JSON data, not yet read
+-- the verbs of the API, each with what it names (Kubernetes API Concepts, API terminology); the body of an object is JSON data, not yet read
 pub data Request : Type 0 where
   get_object : Name → Request
   list_objects : View → Request
@@ -35,7 +37,7 @@ pub data Request : Type 0 where
   update_object : Name → Data → Request
   update_status : Name → Data → Request
   patch_object : Name → Data → Request
-  delete_object : Name → Data → Request
+  delete_object : Name → Options → Request
 
 -- an answer: its HTTP status code, its body, and at most one write
 pub record Answer : Type 0 where
@@ -103,17 +105,6 @@ is_past_greatest r = nat_lt greatest_revision r
 -- whether a write makes more objects than there may be, or has a revision past the greatest
 abbrev pub overflows : history.Members → ℕ → Write → Bool
 overflows ms r w = (nat_le most_objects (length ms) && is_some w.put && not (is_some (found w.key ms))) || is_past_greatest (r + 1)
-
--- whether a text is named, and is another than this one
-abbrev pub is_other : Option (List ℕ) → List ℕ → Bool
-is_other None t = false
-is_other (Some s) t = not (bytes_eq s t)
-
--- whether a text is named, and the object has another one, or none
-abbrev pub differs : Option (List ℕ) → Option (List ℕ) → Bool
-differs None held = false
-differs (Some s) None = true
-differs (Some s) (Some t) = not (bytes_eq s t)
 
 -- what a body says, with what is filled in where its spec leaves it out
 abbrev pub with_defaults : Kind → Result Data Part → Result Data Part
@@ -187,7 +178,7 @@ let_go k d r = refuse_if (is_past_greatest (r + 1)) storage_full (removed k d)
 abbrev pub replace_changed : Name → Data → Data → ℕ → Outcome
 replace_changed k held d r =
     if says_the_same held d then shown held
-    else (let new = updated k.kind (r + 1) held d in if is_let_go held d then let_go k new r else put_in_place k new r)
+    else (let new = updated k.kind (r + 1) held d in if is_let_go held new then let_go k new r else put_in_place k new r)
 
 -- each field of what replaces an object is as it has to be
 abbrev pub replace_with : Name → Data → Data → ℕ → Outcome
@@ -235,6 +226,25 @@ patch_read k r held (Ok o) = refuse_if (not (names_path k o)) (bad_request part.
 abbrev pub patch : Name → Data → history.Members → ℕ → Outcome
 patch k d ms r = refuse_if (not (is_body d)) (bad_request part.Body) (or_absent k (λ held. patch_read k r held (said k.kind (merged held d))) (found k ms))
 
+-- ---- delete
+
+-- a mark is a write; it has no limit of its own, for what is too long to be marked could not be deleted
+abbrev pub put_mark : ℕ → Name → Data → ℕ → Outcome
+put_mark code k d r = refuse_if (is_past_greatest (r + 1)) storage_full (stored code k (at_revision (r + 1) (metadata_of d) d))
+
+abbrev pub by_fate : Name → ℕ → Data → ℕ → Fate → Outcome
+by_fate k code held r remove = let_go k (removal_of k.kind k (r + 1) held) r
+by_fate k code held r (mark d) = put_mark code k d r
+by_fate k code held r keep = answered (record { code = code; body = held; write = None })
+
+abbrev pub by_decision : Name → ℕ → Data → ℕ → Result Fate Mismatch → Outcome
+by_decision k code held r (Err why) = refused (conflict k why)
+by_decision k code held r (Ok f) = by_fate k code held r f
+
+-- the object that is there is removed, or is being deleted from then on (Kubernetes API Concepts, DELETE)
+abbrev pub delete : Name → Options → history.Members → ℕ → List ℕ → Outcome
+delete k o ms r moment = or_absent k (λ held. by_decision k (kept_code o.policy) held r (decided k.kind o moment held)) (found k ms)
+
 -- ---- the verbs
 
 abbrev pub accept_at : Request → history.Members → ℕ → List ℕ → Outcome
@@ -244,7 +254,7 @@ accept_at (create_object kind ns d) ms r moment = create_read kind ns (said kind
 accept_at (update_object k d) ms r moment = update_read k (said k.kind d) ms r
 accept_at (update_status k d) ms r moment = status_read k (reading k.kind d) ms r
 accept_at (patch_object k d) ms r moment = patch k d ms r
-accept_at (delete_object k d) ms r moment = refused method_not_allowed
+accept_at (delete_object k o) ms r moment = delete k o ms r moment
 
 -- the answer to a request at a moment, after all that has happened
 abbrev pub accept : Request → History → List ℕ → Outcome

@@ -12,6 +12,7 @@ use Rattle.definitions.specs.Frames.{frame_text, bookmark_event, error_event, re
 use Rattle.definitions.specs.Streams.{change, text_of}
 use Rattle.form_urlencoded.specs.Form.{raw_pairs}
 use Rattle.definitions.specs.Lines.{replay}
+use Rattle.definitions.specs.declared.policies.PolicySaid.TheVariants.{Nothing}
 use Rattle.definitions.specs.Queries.{Query, plain, collection_query}
 use Rattle.definitions.specs.declared.selectors.Operator.TheVariants.{In, DoesNotExist}
 use Rattle.definitions.specs.declared.selectors.SelectableField.TheVariants.{Name as NameField}
@@ -126,7 +127,7 @@ abbrev query_in : List ℕ → Option Query
 query_in query = collection_query (raw_pairs query)
 
 abbrev watching : ℕ → Query
-watching r = record { labels = []; fields = []; watch = Some r }
+watching r = record { labels = []; fields = []; watch = Some r; policy = Nothing }
 
 -- of repeated members the first counts, names and values are decoded, and what is not known says nothing
 abbrev pub QueriesAreRead : Type 0
@@ -142,6 +143,7 @@ QueriesAreRead =
       labels = record { key = codes "a"; operator = In; values = codes "b" ∷ [] } ∷ record { key = codes "c"; operator = DoesNotExist; values = [] } ∷ [];
       fields = record { field = NameField; wanted = false; value = codes "x" } ∷ [];
       watch = None;
+      policy = Nothing;
     }))
 
 -- what a watch or a list does not understand, or does not serve so far

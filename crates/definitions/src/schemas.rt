@@ -6,6 +6,8 @@ use crate::kinds::Kind;
 pub enum Shape {
     /// Any value.
     Anything,
+    /// No value: the member may not be there.
+    Nothing,
     /// A text.
     Text,
     /// A text that names the kind's API version.
@@ -45,6 +47,9 @@ pub enum Schema {
     Template,
     TemplateMetadata,
     Strategy,
+    /// The options of a delete.
+    DeleteOptions,
+    Preconditions,
     /// No member is described.
     Unknown,
 }

@@ -1,6 +1,8 @@
 //! Objects whose metadata is being written.
-ghost use Rattle.std.specs.Prelude.{◌≡◌, IfOk, OnOk, OnErr};
-ghost use Rattle.serde_json.specs.Data.{Members, string, put};
+ghost use Rattle.std.specs.Prelude.{◌≡◌, IfOk, OnOk, OnErr, false};
+ghost use Rattle.serde_json.specs.Data.{Members, string, array, put};
+ghost use Rattle.serde_json.specs.View.{items_view};
+ghost use Rattle.serde_json.specs.Written.{items_have_float};
 ghost use Rattle.serde_json.specs.Find.{get_member};
 ghost use Rattle.definitions.specs.Defaults.{whole};
 ghost use Rattle.definitions.specs.Metadata.{metadata_of, with_metadata};
@@ -93,6 +95,22 @@ impl Draft {
     {
         let value = whole_number(alloc, count)?;
         serde_json::put(&mut self.metadata, alloc, name, value)
+    }
+
+    /// Sets the member `name` of the metadata to a list. The error, want of memory, leaves the draft as it was.
+    pub fn set_items(
+        &mut self,
+        alloc: Global,
+        name: &str,
+        items: Vec<Value>,
+    ) -> Result<(), AllocError>
+        requires no_float { items_have_float (items_view items.items) ≡ false }
+        ensures metadata { OnOk result (self.new.metadata ≡ put name.now (array (items_view items.items)) self.old.metadata) }
+        ensures rest { self.new.rest ≡ self.old.rest }
+        ensures kind { self.new.kind ≡ self.old.kind }
+        ensures err { OnErr result (self.new ≡ self.old) }
+    {
+        serde_json::put(&mut self.metadata, alloc, name, Value::Array(items))
     }
 
     /// Sets the member `name` of the metadata to what `held` has there, or takes it out where `held` has none.

@@ -3,6 +3,7 @@
 
 pub mod drafts;
 pub mod faults;
+pub mod finalizers;
 pub(crate) mod items;
 pub mod keys;
 pub mod members;

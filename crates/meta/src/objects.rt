@@ -8,7 +8,7 @@ ghost use Rattle.serde_json.specs.Written.{has_float, compact_text, IsInOrder};
 ghost use Rattle.definitions.specs.Checks.{generate_name};
 ghost use Rattle.definitions.specs.Metadata.{name, namespace, uid, version, is_being_deleted, label, owners, metadata, metadata_text};
 ghost use Rattle.definitions.specs.Reading.{reading};
-ghost use Rattle.definitions.specs.Replacements.{generation};
+ghost use Rattle.definitions.specs.Replacements.{generation, next_generation};
 ghost use Rattle.definitions.specs.Verbs.{as_item};
 ghost use Rattle.meta.specs.Faults.{RefusesReading};
 ghost use Rattle.meta.specs.Owners.{owner_of};
@@ -21,6 +21,9 @@ use definitions::kinds::Kind;
 use serde_json::{Map, Value};
 use std::alloc::{AllocError, Global};
 use std::marker::Model;
+
+/// The greatest generation, 2^53 - 1.
+const GREATEST_GENERATION: u64 = 9_007_199_254_740_991;
 
 /// An object of a kind: a JSON object in which each number is a whole number.
 #[derive(Drop)]
@@ -176,6 +179,18 @@ impl Object {
         match metadata_member(&self.value, "generation") {
             Some(found) => found.as_u64().unwrap_or(0),
             None => 0,
+        }
+    }
+
+    /// The generation after the object's; the greatest whole number that every reader of JSON holds exactly has none after it.
+    pub fn next_generation(&self) -> u64
+        ensures { result ≡ next_generation (generation self.now.value) }
+    {
+        let generation = self.generation();
+        if generation < GREATEST_GENERATION {
+            generation + 1
+        } else {
+            generation
         }
     }
 

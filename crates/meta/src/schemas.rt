@@ -1,6 +1,6 @@
 //! What is said of the members of an object, by tables.
 ghost use Rattle.std.specs.Prelude.{◌≡◌};
-ghost use Rattle.definitions.specs.Schemas.{kept, unless_empty, described, member_at, root, metadata, owner_reference, pod_spec, pod_status, condition, replica_set_spec, replica_set_status, deployment_spec, deployment_status, selector, expression, template, template_metadata, strategy};
+ghost use Rattle.definitions.specs.Schemas.{kept, unless_empty, described, member_at, root, metadata, owner_reference, pod_spec, pod_status, condition, replica_set_spec, replica_set_status, deployment_spec, deployment_status, selector, expression, template, template_metadata, strategy, delete_options, preconditions};
 
 use definitions::kinds::Kind;
 use definitions::schemas::{Member, Schema, Shape};
@@ -183,6 +183,26 @@ fn strategy_member(name: &str) -> Member
     }
 }
 
+fn delete_options_member(name: &str) -> Member
+    ensures { result ≡ described delete_options name.now }
+{
+    match name {
+        "preconditions" => kept(Shape::Object(Schema::Preconditions)),
+        "propagationPolicy" => kept(Shape::Text),
+        "dryRun" | "orphanDependents" => kept(Shape::Nothing),
+        _ => kept(Shape::Anything),
+    }
+}
+
+fn preconditions_member(name: &str) -> Member
+    ensures { result ≡ described preconditions name.now }
+{
+    match name {
+        "uid" | "resourceVersion" => kept(Shape::Text),
+        _ => kept(Shape::Anything),
+    }
+}
+
 fn root_member(kind: Kind, name: &str) -> Member
     ensures { result ≡ described (root kind) name.now }
 {
@@ -232,5 +252,7 @@ pub fn member_at(schema: Schema, name: &str) -> Member
         Schema::Template => template_member(name),
         Schema::TemplateMetadata => template_metadata_member(name),
         Schema::Strategy => strategy_member(name),
+        Schema::DeleteOptions => delete_options_member(name),
+        Schema::Preconditions => preconditions_member(name),
     }
 }

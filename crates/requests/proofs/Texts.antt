@@ -8,8 +8,7 @@ use Rattle.serde_json.specs.Data.{Data}
 use Rattle.serde_json.specs.Read.{read}
 use Rattle.definitions.specs.declared.refusals.Part.TheVariants as part
 use Rattle.definitions.specs.Refusals.{bad_request, too_large}
-use Rattle.definitions.specs.Targets.{decoded, data_of, longest_body}
-use Rattle.requests.specs.Checked.{body_of, body_or}
+use Rattle.definitions.specs.Targets.{decoded, data_of, longest_body, body_of, body_or}
 
 is_not : (b : Bool) → (b ≡ true → ⊥) → b ≡ false
 is_not true h = absurd (h refl)

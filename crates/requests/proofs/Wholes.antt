@@ -1,11 +1,10 @@
 -- The parts of a request's reading make the whole.
-use Rattle.std.proofs.Common.{◌≡◌, ℕ, List, Bool, true, false, not, Option, Some, None, Ok, Err, length, nat_lt, if◌then◌else◌, refl}
-use Rattle.serde_json.specs.Data.{Data}
+use Rattle.std.proofs.Common.{◌≡◌, ℕ, List, Bool, true, false, not, Option, Some, None, Ok, Err, if◌then◌else◌, refl}
 use Rattle.definitions.specs.declared.methods.Method.{Method}
 use Rattle.definitions.specs.declared.refusals.Part.TheVariants as part
-use Rattle.definitions.specs.Refusals.{bad_request, method_not_allowed, too_large}
-use Rattle.definitions.specs.Targets.{Route, route, path_of, names_namespace, is_allowed, query_for, asked_with, asked_at, decoded, longest_body, data_of, asks_with}
-use Rattle.requests.specs.Checked.{ChecksComeFirst, BodiesAreReadOnce, checked_route, asked_after, body_or, asks_of}
+use Rattle.definitions.specs.Refusals.{bad_request, method_not_allowed}
+use Rattle.definitions.specs.Targets.{Route, route, path_of, names_namespace, is_allowed, query_for, asked_with, asked_at, decoded}
+use Rattle.requests.specs.Checked.{ChecksComeFirst, checked_route, asked_after}
 
 checks : (method : Method) (target text : List ℕ) (o : Option Route) → asked_at method target text o ≡ asked_after method target text (checked_route method o)
 checks method target text None = refl
@@ -20,11 +19,3 @@ checks method target text (Some r) = by (names_namespace r) (is_allowed method r
 
 pub checks_first : ChecksComeFirst
 checks_first method target text = checks method (decoded target) text (route (path_of (decoded target)))
-
-pub bodies_once : BodiesAreReadOnce
-bodies_once f text = by (nat_lt longest_body (length text)) (data_of text)
-  where
-    by : (v : Bool) (o : Option Data) → (if v then Err too_large else asks_with f o) ≡ asks_of f (if v then Err too_large else body_or o)
-    by true o = refl
-    by false None = refl
-    by false (Some d) = refl

@@ -10,7 +10,7 @@ use Rattle.requests.specs.declared.query.QueryFault.TheVariants.{BadQuery, NoMem
 
 -- the query as the definitions say it
 abbrev pub query_seen : Query → queries.Query
-query_seen q = record { labels = q.labels; fields = q.fields; watch = q.watch }
+query_seen q = record { labels = q.labels; fields = q.fields; watch = q.watch; policy = q.policy }
 
 abbrev pub names_seen : Names → List (List ℕ)
 names_seen Refused = refused_names
@@ -22,7 +22,10 @@ Reads wanted (Ok a) = wanted ≡ Some a
 Reads wanted (Err BadQuery) = wanted ≡ None
 Reads wanted (Err NoMemory) = Unit {0}
 
+abbrev pub result_seen : Result Query QueryFault → Result queries.Query QueryFault
+result_seen (Ok q) = Ok (query_seen q)
+result_seen (Err e) = Err e
+
+-- the result is this query, or that it is not understood; or memory ran out
 abbrev pub Understands : Option queries.Query → Result Query QueryFault → Type 0
-Understands wanted (Ok q) = wanted ≡ Some (query_seen q)
-Understands wanted (Err BadQuery) = wanted ≡ None
-Understands wanted (Err NoMemory) = Unit {0}
+Understands wanted result = Reads wanted (result_seen result)

@@ -4,10 +4,9 @@ use Rattle.serde_json.specs.View.{view}
 use Rattle.serde_json.specs.declared.value.Value.{Value}
 use Rattle.definitions.specs.declared.refusals.Part.TheVariants as part
 use Rattle.definitions.specs.Refusals.{Refusal, bad_request, no_such_path, method_not_allowed, too_large}
-use Rattle.definitions.specs.Targets.{Route, longest_body}
+use Rattle.definitions.specs.Targets.{Route, body_of, longest_body}
 use Rattle.routes.specs.Seen.{route_seen}
 use Rattle.routes.specs.declared.targets.Target.{Target}
-use Rattle.requests.specs.Checked.{body_of}
 use Rattle.requests.specs.declared.check.CheckFault.{CheckFault}
 use Rattle.requests.specs.declared.check.CheckFault.TheVariants.{NoSuchPath, BadNamespace, MethodNotAllowed}
 use Rattle.requests.specs.declared.body.BodyFault.{BodyFault}

@@ -34,7 +34,7 @@ fn path_of<'t>(target: &'t str) -> &'t str
     }
 }
 
-/// Whether what a path names serves the method so far.
+/// Whether what a path names serves the method.
 fn is_allowed(method: Method, target: Target<'_>) -> bool
     ensures { result ≡ is_allowed method (route_seen target.entry) }
 {
@@ -42,7 +42,7 @@ fn is_allowed(method: Method, target: Target<'_>) -> bool
         (Method::Get, _) => true,
         (Method::Post, Target::Collection(_, Some(_))) => true,
         (Method::Put, Target::Object(_, _, _) | Target::Status(_, _, _)) => true,
-        (Method::Patch, Target::Object(_, _, _)) => true,
+        (Method::Patch | Method::Delete, Target::Object(_, _, _)) => true,
         _ => false,
     }
 }

@@ -1,13 +1,8 @@
 //! How the parts of a request's reading make the whole.
-ghost use Rattle.requests.specs.Checked.{ChecksComeFirst, BodiesAreReadOnce};
+ghost use Rattle.requests.specs.Checked.{ChecksComeFirst};
 
 /// A request is refused by the first check of its target that it does not pass, and else asks what its query and its
 /// body say.
 pub fn checks_come_first()
     ensures { ChecksComeFirst }
-{}
-
-/// What asks with a body asks with the body's data, and is else refused as the body is.
-pub fn bodies_are_read_once()
-    ensures { BodiesAreReadOnce }
 {}

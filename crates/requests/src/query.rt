@@ -1,10 +1,11 @@
 //! Queries of targets.
-ghost use Rattle.std.specs.Prelude.{◌≡◌, IfOk, codes, option_map};
+ghost use Rattle.std.specs.Prelude.{◌≡◌, IfOk, None, Some, codes, option_map, if◌then◌else◌};
 ghost use Rattle.std.specs.Cow.{cow_str_bytes};
 ghost use Rattle.std.specs.List.{list_any};
 ghost use Rattle.std.specs.Str.{bytes_eq};
 ghost use Rattle.form_urlencoded.specs.Form.{raw_pairs};
-ghost use Rattle.definitions.specs.Queries.{query_of, has_any, member, is_true, list_version, watch_version, by_watch, or_empty, collection_query, other_query, refused_names, unserved_names};
+ghost use Rattle.definitions.specs.DeleteOptions.{policy_said};
+ghost use Rattle.definitions.specs.Queries.{query_of, has_any, member, is_true, list_version, watch_version, by_watch, or_empty, only_policy, collection_query, delete_query, other_query, refused_names, unserved_names};
 ghost use Rattle.definitions.specs.SelectorFields.{said_of_fields};
 ghost use Rattle.definitions.specs.SelectorTexts.{said_by_text};
 ghost use Rattle.definitions.specs.Targets.{query_for};
@@ -13,6 +14,7 @@ ghost use Rattle.requests.specs.Queried.{Reads, Understands, names_seen};
 ghost use Rattle.requests.specs.declared.query.QueryFault.TheVariants.{NoMemory};
 
 use definitions::methods::Method;
+use definitions::policies::PolicySaid;
 use form_urlencoded::parse;
 use routes::targets::Target;
 use selector::{Fields, Selector};
@@ -29,6 +31,8 @@ pub struct Query {
     pub fields: Fields,
     /// The revision after which changes are watched; with none, nothing is.
     pub watch: Option<u64>,
+    /// What is said of what becomes of the dependents of a deleted object.
+    pub policy: PolicySaid,
 }
 
 /// Why a query is not read.
@@ -217,12 +221,23 @@ fn collection_query(alloc: Global, query: &[u8]) -> Result<Query, QueryFault>
         labels,
         fields,
         watch,
+        policy: PolicySaid::Nothing,
     })
 }
 
-/// The query of any other request.
-fn other_query(alloc: Global, query: &[u8]) -> Result<Query, QueryFault>
-    ensures { Understands (other_query (raw_pairs query.now)) result }
+/// What is said of a delete's policy.
+fn policy(alloc: Global, query: &[u8]) -> Result<PolicySaid, AllocError>
+    ensures { IfOk result (λ said. said ≡ policy_said (member (codes "propagationPolicy") (raw_pairs query.now))) }
+{
+    match member(alloc, query, "propagationPolicy")? {
+        Some(name) => Ok(PolicySaid::read(Some(name.as_str()))),
+        None => Ok(PolicySaid::read(None)),
+    }
+}
+
+/// A query of which nothing counts but what is said of a delete's policy.
+fn only_policy(alloc: Global, query: &[u8], policy: PolicySaid) -> Result<Query, QueryFault>
+    ensures { Understands (if has_any refused_names (raw_pairs query.now) then None else Some (only_policy policy)) result }
 {
     if has_any(alloc, query, Names::Refused)? {
         return Err(QueryFault::BadQuery);
@@ -231,7 +246,23 @@ fn other_query(alloc: Global, query: &[u8]) -> Result<Query, QueryFault>
         labels: Selector::everything(alloc),
         fields: Fields::everything(alloc),
         watch: None,
+        policy,
     })
+}
+
+/// The query of a delete.
+fn delete_query(alloc: Global, query: &[u8]) -> Result<Query, QueryFault>
+    ensures { Understands (delete_query (raw_pairs query.now)) result }
+{
+    let said = policy(alloc, query)?;
+    only_policy(alloc, query, said)
+}
+
+/// The query of any other request.
+fn other_query(alloc: Global, query: &[u8]) -> Result<Query, QueryFault>
+    ensures { Understands (other_query (raw_pairs query.now)) result }
+{
+    only_policy(alloc, query, PolicySaid::Nothing)
 }
 
 /// What stands after the first `?` of a target.
@@ -257,6 +288,7 @@ pub fn read_query(
     let query = query_of(target).as_bytes();
     match (method, route) {
         (Method::Get, Target::Collection(_, _)) => collection_query(alloc, query),
+        (Method::Delete, _) => delete_query(alloc, query),
         _ => other_query(alloc, query),
     }
 }

@@ -4,6 +4,7 @@ use crate::line::{Line, read_line};
 use crate::query::{QueryFault, read_query};
 use definitions::kinds::Kind;
 use definitions::methods::Method;
+use definitions::policies::{Policy, PolicySaid};
 use routes::table::Routes;
 use routes::targets::Target;
 use std::test::Fail;
@@ -51,6 +52,12 @@ fn checks_in_order(rt: HostRuntime) -> Result<(), Fail> {
     );
     assert_eq!(rt;
         check_request(&routes, Method::Post, "/api/v1/namespaces/a/configmaps/b?").err(),
+        Some(CheckFault::MethodNotAllowed)
+    );
+    assert!(rt; check_request(&routes, Method::Delete, object).is_ok());
+    let status = "/api/v1/namespaces/a/pods/b/status";
+    assert_eq!(rt;
+        check_request(&routes, Method::Delete, status).err(),
         Some(CheckFault::MethodNotAllowed)
     );
     Ok(())
@@ -105,6 +112,24 @@ fn queries_are_read(rt: HostRuntime) -> Result<(), Fail> {
     let read = read_query(alloc, Method::Get, object, "/?watch=1&labelSelector=((")?;
     assert_eq!(rt; read.watch, None);
     let dry = read_query(alloc, Method::Get, object, "/?dryRun=All");
+    assert_eq!(rt; dry.err(), Some(QueryFault::BadQuery));
+    Ok(())
+}
+
+#[test]
+fn queries_of_deletes_are_read(rt: HostRuntime) -> Result<(), Fail> {
+    let alloc = rt.alloc();
+    let object = Target::Object(Kind::ConfigMap, "a", "b");
+    let plain = read_query(alloc, Method::Delete, object, "/?x=Orphan")?;
+    assert_eq!(rt; plain.policy, PolicySaid::Nothing);
+    let twice = "/?propagationPolicy=Foreground&propagationPolicy=none";
+    let named = read_query(alloc, Method::Delete, object, twice)?;
+    assert_eq!(rt; named.policy, PolicySaid::Named(Policy::Foreground));
+    let empty = read_query(alloc, Method::Delete, object, "/?propagationPolicy=")?;
+    assert_eq!(rt; empty.policy, PolicySaid::Unknown);
+    let got = read_query(alloc, Method::Get, object, "/?propagationPolicy=Orphan")?;
+    assert_eq!(rt; got.policy, PolicySaid::Nothing);
+    let dry = read_query(alloc, Method::Delete, object, "/?dryRun=All");
     assert_eq!(rt; dry.err(), Some(QueryFault::BadQuery));
     Ok(())
 }

@@ -1,19 +1,10 @@
--- Requests, from what their checks and their bodies say.
-use Rattle.std.proofs.Common.{◌≡◌, ℕ, List, Result, Err, inl, inr, ap, sym, ◌∙◌}
-use Rattle.serde_json.specs.Data.{Data}
+-- Requests, from what their checks say.
+use Rattle.std.proofs.Common.{◌≡◌, ℕ, List, Result, ap, sym, ◌∙◌}
 use Rattle.definitions.specs.declared.methods.Method.{Method}
 use Rattle.definitions.specs.Refusals.{Refusal}
-use Rattle.definitions.specs.Targets.{Route, read_request, with_body, decoded}
-use Rattle.definitions.specs.Verbs.{Request}
-use Rattle.meta.specs.declared.faults.Fault.{Fault}
-use Rattle.requests.proofs.Wholes.{checks_first, bodies_once}
-use Rattle.requests.specs.Checked.{asked_after, asks_of, body_of, checked_at}
-use Rattle.session.specs.Asked.{Asks, ReadsData}
-
--- where the body is refused, so is the request
-pub asks-refused : (f : Data → Request) (text : List ℕ) (e : Fault) → ReadsData (body_of text) (Err e) → Asks (with_body f text) (Err e)
-asks-refused f text e (inl want) = inl want
-asks-refused f text e (inr is) = inr (bodies_once f text ∙ ap (asks_of f) is)
+use Rattle.definitions.specs.Targets.{Route, read_request, decoded}
+use Rattle.requests.proofs.Wholes.{checks_first}
+use Rattle.requests.specs.Checked.{asked_after, checked_at}
 
 -- what is asked is what the checks of its decoded target leave
 pub checked-asks : (method : Method) (target text decoded_text : List ℕ) (checked : Result Route Refusal)

@@ -8,7 +8,7 @@ use Rattle.definitions.specs.Verbs.{Answer, Outcome, Request, answered, refused,
 use Rattle.meta.specs.Writes.{write_of}
 use Rattle.meta.specs.declared.writes.Write.{Write}
 use Rattle.reply.specs.declared.reply.Reply.{Reply}
-use Rattle.verbs.specs.Requests.{Serves}
+use Rattle.answers.specs.Serves.{Serves}
 
 pub served-write : (o : Outcome) (r : Reply) (w : Option Write) → Serves o (Ok (r, w)) → option_map write_of w ≡ verbs.write_of o
 served-write (answered a) r w is = is.write

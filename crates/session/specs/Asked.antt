@@ -3,8 +3,11 @@ use Rattle.std.specs.Prelude.{◌≡◌, ◌⊎◌, Result, Ok, Err}
 use Rattle.serde_json.specs.Data.{Data}
 use Rattle.serde_json.specs.View.{view}
 use Rattle.serde_json.specs.declared.value.Value.{Value}
+use Rattle.definitions.specs.DeleteOptions.{Options}
 use Rattle.definitions.specs.Refusals.{Refusal}
 use Rattle.definitions.specs.Targets as targets
+use Rattle.lifecycle.specs.Options.{options_seen}
+use Rattle.lifecycle.specs.declared.options.DeleteOptions.{DeleteOptions}
 use Rattle.meta.specs.Faults.{refusal_of}
 use Rattle.meta.specs.declared.faults.Fault.{Fault}
 use Rattle.meta.specs.declared.faults.Fault.TheVariants as fault
@@ -27,3 +30,8 @@ Asks wanted (Err e) = (e ≡ fault.NoMemory) ⊎ (wanted ≡ Err (refusal_of e))
 abbrev pub ReadsData : Result Data Refusal → Result Value Fault → Type 0
 ReadsData wanted (Ok v) = wanted ≡ Ok (view v)
 ReadsData wanted (Err e) = (e ≡ fault.NoMemory) ⊎ (wanted ≡ Err (refusal_of e))
+
+-- the result is these options or this refusal, or want of memory
+abbrev pub ReadsDelete : Result Options Refusal → Result DeleteOptions Fault → Type 0
+ReadsDelete wanted (Ok o) = wanted ≡ Ok (options_seen o)
+ReadsDelete wanted (Err e) = (e ≡ fault.NoMemory) ⊎ (wanted ≡ Err (refusal_of e))

@@ -1,18 +1,18 @@
 //! What a method, a target and a body ask for.
 ghost use Rattle.std.specs.Prelude.{◌≡◌, IfOk, option_map, string_bytes};
-ghost use Rattle.definitions.specs.Targets.{asked, list_or_watch, selected, asked_with, query_for, read_request};
+ghost use Rattle.definitions.specs.Targets.{asked, list_or_watch, selected, asked_with, body_of, delete_options, query_for, read_request};
 ghost use Rattle.meta.specs.Faults.{refusal_of};
 ghost use Rattle.meta.specs.Keys.{name_of};
-ghost use Rattle.requests.specs.Checked.{body_of};
 ghost use Rattle.requests.specs.Queried.{query_seen};
 ghost use Rattle.requests.specs.Seen.{check_refusal};
 ghost use Rattle.routes.specs.Seen.{now, route_seen};
-ghost use Rattle.session.specs.Asked.{Asks, ReadsData, asked_seen};
+ghost use Rattle.session.specs.Asked.{Asks, ReadsData, ReadsDelete, asked_seen};
 
 use crate::asked::Asked;
 use definitions::kinds::Kind;
 use definitions::methods::Method;
 use definitions::refusals::Part;
+use lifecycle::DeleteOptions;
 use meta::{Fault, Key};
 use requests::body::{BodyFault, read_body};
 use requests::check::{CheckFault, check_request, decode};
@@ -97,6 +97,10 @@ fn ask(
             let value = read(alloc, body)?;
             Ok(Asked::Request(Request::Patch(key(alloc, kind, namespace, name)?, value)))
         }
+        (Method::Delete, Target::Object(kind, namespace, name)) => {
+            let options = delete_options(alloc, &query, body)?;
+            Ok(Asked::Request(Request::Delete(key(alloc, kind, namespace, name)?, options)))
+        }
         _ => Err(Fault::MethodNotAllowed),
     }
 }
@@ -149,6 +153,17 @@ fn read(alloc: Global, body: &[u8]) -> Result<Value, Fault>
         Err(BodyFault::NotJson) => Err(Fault::BadRequest(Part::Body)),
         Err(BodyFault::NoMemory) => Err(Fault::NoMemory),
     }
+}
+
+/// The options of a delete: what its body says or, without one, its query.
+fn delete_options(alloc: Global, query: &Query, body: &[u8]) -> Result<DeleteOptions, Fault>
+    ensures { ReadsDelete (delete_options (query_seen query.now) body.now) result }
+{
+    if body.is_empty() {
+        return DeleteOptions::from_query(query.policy);
+    }
+    let value = read(alloc, body)?;
+    DeleteOptions::from_value(alloc, &value)
 }
 
 /// The fault of a request that a check refuses.

@@ -46,7 +46,8 @@ impl Session {
     ghost use Rattle.meta.specs.Writes.{write_of};
     ghost use Rattle.definitions.specs.Changes.{changes_since};
     ghost use Rattle.selector.specs.Views.{view_of};
-    ghost use Rattle.verbs.specs.Requests.{Serves, request_of};
+    ghost use Rattle.answers.specs.Serves.{Serves};
+    ghost use Rattle.verbs.specs.Requests.{request_of};
 
     /// A session over the empty store, at the start of 2026. The error is want of memory.
     pub fn new(alloc: Global) -> Result<Session, AllocError>

@@ -2,6 +2,8 @@ use crate::asked::Asked;
 use crate::asking::read_request;
 use crate::sessions::Session;
 use definitions::methods::Method;
+use definitions::policies::Policy;
+use definitions::refusals::Part;
 use line_service::LineService;
 use meta::Fault;
 use routes::table::Routes;
@@ -36,6 +38,14 @@ const CONFLICT: &str =
 
 const TOO_LARGE: &str =
     "413 {\"apiVersion\":\"v1\",\"code\":413,\"kind\":\"Status\",\"message\":\"request entity too large\",\"metadata\":{},\"reason\":\"RequestEntityTooLarge\",\"status\":\"Failure\"}\n";
+
+const DELETE: &[u8] = b"DELETE /api/v1/namespaces/default/configmaps/a";
+
+const DELETED: &str =
+    "200 {\"apiVersion\":\"v1\",\"details\":{\"kind\":\"configmaps\",\"name\":\"a\",\"uid\":\"00000000-0000-8000-8000-000000000002\"},\"kind\":\"Status\",\"metadata\":{},\"status\":\"Success\"}\n";
+
+const ABSENT: &str =
+    "404 {\"apiVersion\":\"v1\",\"code\":404,\"details\":{\"kind\":\"configmaps\",\"name\":\"a\"},\"kind\":\"Status\",\"message\":\"configmaps \\\"a\\\" not found\",\"metadata\":{},\"reason\":\"NotFound\",\"status\":\"Failure\"}\n";
 
 /// Whether a line is answered by this text.
 fn answers(alloc: Global, session: &mut Session, line: &[u8], wanted: &str) -> Result<bool, Fail> {
@@ -74,6 +84,17 @@ fn the_second_update_of_one_version_conflicts(rt: HostRuntime) -> Result<(), Fai
 }
 
 #[test]
+fn what_is_deleted_is_gone(rt: HostRuntime) -> Result<(), Fail> {
+    let alloc = rt.alloc();
+    let mut session = Session::new(alloc)?;
+    assert!(rt; answers(alloc, &mut session, CREATE, CREATED)?);
+    assert!(rt; answers(alloc, &mut session, DELETE, DELETED)?);
+    assert!(rt; answers(alloc, &mut session, GET, ABSENT)?);
+    assert!(rt; answers(alloc, &mut session, DELETE, ABSENT)?);
+    Ok(())
+}
+
+#[test]
 fn a_body_of_more_than_a_mebibyte_is_too_large(rt: HostRuntime) -> Result<(), Fail> {
     let alloc = rt.alloc();
     let mut session = Session::new(alloc)?;
@@ -101,6 +122,14 @@ fn updates(asked: &Asked, name: &str) -> bool {
     }
 }
 
+/// Whether a delete by this policy is asked for.
+fn deletes(asked: &Asked, policy: Option<Policy>) -> bool {
+    match asked {
+        Asked::Request(Request::Delete(_, options)) => options.policy == policy,
+        _ => false,
+    }
+}
+
 #[test]
 fn requests_are_read(rt: HostRuntime) -> Result<(), Fail> {
     let alloc = rt.alloc();
@@ -111,8 +140,32 @@ fn requests_are_read(rt: HostRuntime) -> Result<(), Fail> {
     assert!(rt; list.is_ok_and(|asked| lists_a_namespace(&asked)));
     let put = read_request(alloc, &routes, Method::Put, object, b"{}");
     assert!(rt; put.is_ok_and(|asked| updates(&asked, "b")));
-    let delete = read_request(alloc, &routes, Method::Delete, object, b"");
+    let delete = read_request(alloc, &routes, Method::Delete, collection, b"");
     assert!(rt; matches!(delete.err(), Some(Fault::MethodNotAllowed)));
+    Ok(())
+}
+
+#[test]
+fn options_of_a_delete_are_of_its_body_or_its_query(rt: HostRuntime) -> Result<(), Fail> {
+    let alloc = rt.alloc();
+    let routes = Routes::new(alloc)?;
+    let object = b"/api/v1/namespaces/team/configmaps/b";
+    let plain = read_request(alloc, &routes, Method::Delete, object, b"");
+    assert!(rt; plain.is_ok_and(|asked| deletes(&asked, None)));
+    let body = b"{\"propagationPolicy\":\"Orphan\"}";
+    let orphan = read_request(alloc, &routes, Method::Delete, object, body);
+    assert!(rt; orphan.is_ok_and(|asked| deletes(&asked, Some(Policy::Orphan))));
+    let target = b"/api/v1/namespaces/team/configmaps/b?propagationPolicy=Foreground";
+    let foreground = read_request(alloc, &routes, Method::Delete, target, b"");
+    assert!(rt; foreground.is_ok_and(|asked| deletes(&asked, Some(Policy::Foreground))));
+    let both = read_request(alloc, &routes, Method::Delete, target, body);
+    assert!(rt; both.is_ok_and(|asked| deletes(&asked, Some(Policy::Orphan))));
+    let options = b"{\"dryRun\":[\"All\"]}";
+    let dry = read_request(alloc, &routes, Method::Delete, object, options);
+    assert!(rt; matches!(dry.err(), Some(Fault::BadRequest(Part::Options))));
+    let unknown = b"/api/v1/namespaces/team/configmaps/b?propagationPolicy=orphan";
+    let refused = read_request(alloc, &routes, Method::Delete, unknown, b"");
+    assert!(rt; matches!(refused.err(), Some(Fault::BadRequest(Part::Query))));
     Ok(())
 }
 

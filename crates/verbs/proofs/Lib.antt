@@ -1,4 +1,1 @@
-pub mod Creates
 pub mod ListTexts
-pub mod MadeNames
-pub mod Replacing

@@ -1,4 +1,2 @@
-pub mod Bodies
 pub mod Lists
-pub mod Naming
 pub mod Requests

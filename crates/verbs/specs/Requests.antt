@@ -1,16 +1,9 @@
--- Requests, replies and faults as the definitions say them.
-use Rattle.std.specs.Prelude.{◌≡◌, ◌⊎◌, Option, option_map, Result, Ok, Err, string_bytes}
+-- Requests as the definitions say them.
+use Rattle.std.specs.Prelude.{string_bytes}
 use Rattle.serde_json.specs.View.{view}
-use Rattle.serde_json.specs.Written.{compact_text}
 use Rattle.definitions.specs.Verbs as verbs
-use Rattle.definitions.specs.Verbs.{Answer, Outcome, answered, refused}
-use Rattle.meta.specs.Faults.{refusal_of}
+use Rattle.lifecycle.specs.Options.{options_seen}
 use Rattle.meta.specs.Keys.{name_of}
-use Rattle.meta.specs.Writes.{write_of}
-use Rattle.meta.specs.declared.faults.Fault.{Fault}
-use Rattle.meta.specs.declared.faults.Fault.TheVariants as fault
-use Rattle.meta.specs.declared.writes.Write.{Write}
-use Rattle.reply.specs.declared.reply.Reply.{Reply}
 use Rattle.selector.specs.Views.{view_of}
 use Rattle.verbs.specs.declared.requests.Request.{Request}
 use Rattle.verbs.specs.declared.requests.Request.TheVariants.{Get, List, Create, Update, UpdateStatus, Patch, Delete}
@@ -22,16 +15,4 @@ request_of (Create kind ns d) = verbs.create_object kind (string_bytes ns) (view
 request_of (Update k d) = verbs.update_object (name_of k) (view d)
 request_of (UpdateStatus k d) = verbs.update_status (name_of k) (view d)
 request_of (Patch k d) = verbs.patch_object (name_of k) (view d)
-request_of (Delete k d) = verbs.delete_object (name_of k) (view d)
-
--- the reply has the code and the body of the answer, and what is written is what the answer writes
-pub record Answers (a : Answer) (r : Reply) (w : Option Write) : Type 0 where
-  pub code : a.code ≡ r.code
-  pub text : string_bytes r.text ≡ compact_text a.body
-  pub write : option_map write_of w ≡ a.write
-
--- the result is the outcome, or want of memory
-abbrev pub Serves : Outcome → Result (Reply × Option Write) Fault → Type 0
-Serves (answered a) (Ok p) = Answers a p.0 p.1
-Serves (refused f) (Ok p) = ⊥
-Serves o (Err e) = (e ≡ fault.NoMemory) ⊎ (o ≡ refused (refusal_of e))
+request_of (Delete k o) = verbs.delete_object (name_of k) (options_seen o)

@@ -2,15 +2,17 @@
 ghost use Rattle.std.specs.Prelude.{◌≡◌, List, ℕ};
 ghost use Rattle.definitions.specs.History.{members, present};
 ghost use Rattle.definitions.specs.Verbs.{accept_at};
-ghost use Rattle.verbs.specs.Requests.{Serves, request_of};
+ghost use Rattle.answers.specs.Serves.{Serves};
+ghost use Rattle.verbs.specs.Requests.{request_of};
 
-use crate::create::create;
-use crate::patch::patch;
+use crate::delete::delete;
 use crate::read::{get, list};
 use crate::requests::Request;
-use crate::status::update_status;
-use crate::update::update;
+use creates::create::create;
 use meta::{Fault, Write};
+use replacements::patch::patch;
+use replacements::status::update_status;
+use replacements::update::update;
 use reply::Reply;
 use stamps::moments::Moment;
 use std::alloc::Global;
@@ -35,6 +37,6 @@ pub fn accept(
         Request::Update(key, body) => update(alloc, store, key, body),
         Request::UpdateStatus(key, body) => update_status(alloc, store, key, body),
         Request::Patch(key, body) => patch(alloc, store, key, body),
-        Request::Delete(_, _) => Err(Fault::MethodNotAllowed),
+        Request::Delete(key, options) => delete(alloc, store, key, &options, moment),
     }
 }

@@ -2,23 +2,15 @@
 #![tactic(auto)]
 
 pub mod accepting;
-mod bodies;
-mod create;
-mod first_status;
-mod generations;
-mod limits;
-mod made_names;
-mod names_given;
-mod patch;
-mod placing;
+mod delete;
 mod read;
 pub mod requests;
-mod status;
-mod update;
 
 pub use crate::accepting::accept;
 pub use crate::requests::Request;
 
+#[cfg(test)]
+mod delete_tests;
 #[cfg(test)]
 mod tests;
 #[cfg(test)]

@@ -9,7 +9,7 @@ ghost use Rattle.definitions.specs.Verbs.{accept_at, get_object, list_objects, a
 ghost use Rattle.meta.specs.Keys.{name_of};
 ghost use Rattle.selector.specs.Views.{view_of};
 ghost use Rattle.verbs.specs.Lists.{list_text_of};
-ghost use Rattle.verbs.specs.Requests.{Serves};
+ghost use Rattle.answers.specs.Serves.{Serves};
 
 use definitions::kinds::Kind;
 use meta::{Fault, Key, Object, Write};

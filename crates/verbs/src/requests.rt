@@ -1,5 +1,6 @@
 //! Requests.
 use definitions::kinds::Kind;
+use lifecycle::DeleteOptions;
 use meta::Key;
 use selector::View;
 use serde_json::Value;
@@ -19,6 +20,6 @@ pub enum Request {
     UpdateStatus(Key, Value),
     /// A merge patch of the object under a key.
     Patch(Key, Value),
-    /// The object under a key removed, with options.
-    Delete(Key, Value),
+    /// The object under a key removed, or being deleted from then on, by these options.
+    Delete(Key, DeleteOptions),
 }

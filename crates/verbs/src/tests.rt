@@ -91,19 +91,6 @@ fn each_verb_is_answered(rt: HostRuntime) -> Result<(), Fail> {
 }
 
 #[test]
-fn verbs_that_are_not_served_are_refused(rt: HostRuntime) -> Result<(), Fail> {
-    let alloc = rt.alloc();
-    let mut store = Store::new(alloc);
-    sent(alloc, &mut store, create(alloc, BODY)?)?;
-    let not_allowed =
-        r#"405 {"apiVersion":"v1","code":405,"kind":"Status","message":"the server does not allow this method on the requested resource","metadata":{},"reason":"MethodNotAllowed","status":"Failure"}"#;
-    let delete = Request::Delete(key(alloc, "a")?, body(alloc, "{}")?);
-    assert_eq!(rt; sent(alloc, &mut store, delete)?.as_str(), not_allowed);
-    assert_eq!(rt; store.revision(), 2);
-    Ok(())
-}
-
-#[test]
 fn what_cannot_be_done_is_refused(rt: HostRuntime) -> Result<(), Fail> {
     let alloc = rt.alloc();
     let mut store = Store::new(alloc);

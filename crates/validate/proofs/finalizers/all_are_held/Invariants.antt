@@ -6,5 +6,5 @@ use Rattle.validate.proofs.finalizers.all_are_held.Given as goal
 
 abbrev pub invariant-loop-item : goal.invariant-loop-item
 invariant-loop-item l =
-    all_items (text_is (has_text (finalizers l.stored.value))) (items_view l.items.items)
-    ≡ all_items (text_is (has_text (finalizers l.stored.value))) (items_view (drop l.item-index l.items.items))
+    all_items (text_is (has_text (finalizers l.stored.value))) (items_view l.items)
+    ≡ all_items (text_is (has_text (finalizers l.stored.value))) (items_view (drop l.item-index l.items))

@@ -1,0 +1,9 @@
+-- In what an object that is held is another than the one that is named.
+use Rattle.std.specs.Prelude.{Option, Some, None, if◌then◌else◌}
+use Rattle.serde_json.specs.Data.{Data}
+use Rattle.definitions.specs.declared.refusals.Mismatch.{Mismatch}
+use Rattle.definitions.specs.declared.refusals.Mismatch.TheVariants as why
+use Rattle.definitions.specs.Metadata.{uid, version, differs}
+
+abbrev pub mismatch : Data → Data → Option Mismatch
+mismatch o held = if differs (uid o) (uid held) then Some why.Uid else (if differs (version o) (version held) then Some why.Modified else None)

@@ -1,0 +1,129 @@
+//! Generations and revisions of what replaces an object.
+ghost use Rattle.std.specs.Prelude.{◌≡◌, ◌+◌, ◌≤◌, IfOk, OnOk, codes, decimal, string_bytes};
+ghost use Rattle.serde_json.specs.Data.{string, put};
+ghost use Rattle.serde_json.specs.Find.{get};
+ghost use Rattle.definitions.specs.Checks.{text_of};
+ghost use Rattle.definitions.specs.Metadata.{metadata, metadata_of, at_revision};
+ghost use Rattle.definitions.specs.Replacements.{has_new_spec, has_new_annotations, is_new_generation, next_generation, with_next_generation, updated};
+ghost use Rattle.definitions.specs.Revisions.{greatest_revision};
+
+use definitions::kinds::Kind;
+use meta::{Draft, Object};
+use std::alloc::{AllocError, Global};
+
+/// The text of an object's spec, which is empty where there is none.
+fn spec_text(alloc: Global, object: &Object) -> Result<String, AllocError>
+    ensures { IfOk result (λ s. string_bytes s ≡ text_of (get (codes "spec") object.now.value)) }
+{
+    match object.member("spec") {
+        Some(found) => found.to_string(alloc),
+        None => Ok(String::new(alloc)),
+    }
+}
+
+/// The text of an object's annotations, which is empty where there are none.
+fn annotations_text(alloc: Global, object: &Object) -> Result<String, AllocError>
+    ensures { IfOk result (λ s. string_bytes s ≡ text_of (metadata (codes "annotations") object.now.value)) }
+{
+    match object.metadata_member("annotations") {
+        Some(found) => found.to_string(alloc),
+        None => Ok(String::new(alloc)),
+    }
+}
+
+fn has_new_spec(alloc: Global, held: &Object, object: &Object) -> Result<bool, AllocError>
+    ensures { IfOk result (λ b. b ≡ has_new_spec held.now.value object.now.value) }
+{
+    let before = spec_text(alloc, held)?;
+    let after = spec_text(alloc, object)?;
+    Ok(before.as_str() != after.as_str())
+}
+
+fn has_new_annotations(alloc: Global, held: &Object, object: &Object) -> Result<bool, AllocError>
+    ensures { IfOk result (λ b. b ≡ has_new_annotations held.now.value object.now.value) }
+{
+    let before = annotations_text(alloc, held)?;
+    let after = annotations_text(alloc, object)?;
+    Ok(before.as_str() != after.as_str())
+}
+
+/// Whether an object is a new generation of the one that is held.
+fn is_new_generation(
+    alloc: Global,
+    kind: Kind,
+    held: &Object,
+    object: &Object,
+) -> Result<bool, AllocError>
+    ensures { IfOk result (λ b. b ≡ is_new_generation kind held.now.value object.now.value) }
+{
+    match kind {
+        Kind::ConfigMap => Ok(false),
+        Kind::Pod => Ok(false),
+        Kind::ReplicaSet => has_new_spec(alloc, held, object),
+        Kind::Deployment => {
+            if has_new_spec(alloc, held, object)? {
+                return Ok(true);
+            }
+            has_new_annotations(alloc, held, object)
+        }
+    }
+}
+
+/// Sets the generation after that of the object that is held, where it is a new one.
+fn raise_generation(
+    alloc: Global,
+    draft: &mut Draft,
+    is_new: bool,
+    held: &Object,
+) -> Result<(), AllocError>
+    ensures metadata { OnOk result (draft.new.metadata ≡ with_next_generation is_new held.now.value draft.old.metadata) }
+    ensures rest { draft.new.rest ≡ draft.old.rest }
+    ensures kind { draft.new.kind ≡ draft.old.kind }
+{
+    if is_new {
+        draft.set_count(alloc, "generation", held.next_generation())
+    } else {
+        Ok(())
+    }
+}
+
+/// Sets the revision after this one.
+fn set_revision(alloc: Global, draft: &mut Draft, before: u64) -> Result<(), AllocError>
+    requires { before ≤ greatest_revision }
+    ensures metadata { OnOk result (draft.new.metadata ≡ put (codes "resourceVersion") (string (decimal (before + 1))) draft.old.metadata) }
+    ensures rest { draft.new.rest ≡ draft.old.rest }
+    ensures kind { draft.new.kind ≡ draft.old.kind }
+{
+    let digits = (before + 1).to_string(alloc)?;
+    draft.set_text(alloc, "resourceVersion", digits.as_str())
+}
+
+/// The object at the revision after this one.
+pub fn at_revision(alloc: Global, object: Object, before: u64) -> Result<Object, AllocError>
+    requires { before ≤ greatest_revision }
+    ensures { IfOk result (λ o. o.value ≡ at_revision (before + 1) (metadata_of object.value) object.value) }
+{
+    let mut draft = object.open(alloc)?;
+    set_revision(alloc, &mut draft, before)?;
+    let made = draft.close(alloc)?;
+    Ok(made)
+}
+
+/// The object as it stands in the place of the one that is held, at the revision after this one.
+pub fn updated(
+    alloc: Global,
+    kind: Kind,
+    object: Object,
+    held: &Object,
+    before: u64,
+) -> Result<Object, AllocError>
+    requires { before ≤ greatest_revision }
+    ensures { IfOk result (λ o. o.value ≡ updated kind (before + 1) held.now.value object.value) }
+{
+    let is_new = is_new_generation(alloc, kind, held, &object)?;
+    let mut draft = object.open(alloc)?;
+    raise_generation(alloc, &mut draft, is_new, held)?;
+    set_revision(alloc, &mut draft, before)?;
+    let made = draft.close(alloc)?;
+    Ok(made)
+}

@@ -1,0 +1,10 @@
+//! What the answers of all verbs are made of: bodies that are read, names and versions that are compared, generations, and
+//! objects put in the place of others.
+#![tactic(auto)]
+
+pub mod bodies;
+pub mod first_status;
+pub mod generations;
+pub mod limits;
+pub mod names_given;
+pub mod placing;

@@ -1,0 +1,96 @@
+//! Objects in the place of others.
+ghost use Rattle.std.specs.Prelude.{◌≡◌, ◌+◌, ◌≤◌, ◌&&◌, IfOk, IfSome, is_some, length, nat_lt, string_bytes, if◌then◌else◌};
+ghost use Rattle.serde_json.specs.Written.{compact_text};
+ghost use Rattle.definitions.specs.Replacements.{is_let_go, says_the_same};
+ghost use Rattle.definitions.specs.Revisions.{greatest_revision};
+ghost use Rattle.definitions.specs.Verbs.{is_past_greatest, longest_object, put_in_place, let_go};
+ghost use Rattle.meta.specs.Keys.{name_of};
+ghost use Rattle.answers.specs.Serves.{Serves};
+
+use crate::limits::is_too_large;
+use lifecycle::after_update;
+use meta::{Fault, Key, Object, Write};
+use reply::Reply;
+use std::alloc::{AllocError, Global};
+use store::limits::GREATEST_REVISION;
+
+/// The text of the object that is held, if another at its version says the same.
+pub fn unchanged(
+    alloc: Global,
+    held: &Object,
+    object: &Object,
+) -> Result<Option<String>, AllocError>
+    ensures same { IfOk result (λ found. is_some found ≡ says_the_same held.now.value object.now.value) }
+    ensures text { IfOk result (λ found. IfSome found (λ s. string_bytes s ≡ compact_text held.now.value)) }
+{
+    let before = held.text(alloc)?;
+    let after = object.text(alloc)?;
+    if before.as_str() == after.as_str() {
+        Ok(Some(before))
+    } else {
+        Ok(None)
+    }
+}
+
+/// Whether the revision after this one is past the greatest.
+pub fn is_full(before: u64) -> bool
+    requires { before ≤ greatest_revision }
+    ensures { result ≡ is_past_greatest (before + 1) }
+{
+    before >= GREATEST_REVISION
+}
+
+/// The object under a key in the place of another, or the first refusal: of the length, the room.
+pub fn put_in_place(
+    alloc: Global,
+    key: Key,
+    object: Object,
+    before: u64,
+) -> Result<(Reply, Option<Write>), Fault>
+    requires { before ≤ greatest_revision }
+    ensures { Serves (put_in_place (name_of key) object.value before) result }
+{
+    let text = object.text(alloc)?;
+    if is_too_large(text.as_str()) {
+        return Err(Fault::TooLarge);
+    }
+    if is_full(before) {
+        return Err(Fault::StorageFull);
+    }
+    let write = Write {
+        key,
+        put: Some(object),
+    };
+    Ok((Reply { code: 200, text }, Some(write)))
+}
+
+/// Whether a write puts an object, and its text is longer than an object may be.
+fn puts_too_much(write: &Write, text: &str) -> bool
+    ensures { result ≡ (is_some write.now.put && nat_lt longest_object (length text.now)) }
+{
+    write.put.is_some() && is_too_large(text)
+}
+
+/// The object under a key in the place of the one that is held or, where nothing keeps that any more, its removal; or the
+/// first refusal: of the length of what is put, the room.
+pub fn replaced(
+    alloc: Global,
+    key: Key,
+    held: &Object,
+    object: Object,
+    before: u64,
+) -> Result<(Reply, Option<Write>), Fault>
+    requires { before ≤ greatest_revision }
+    ensures { Serves (if is_let_go held.now.value object.value then let_go (name_of key) object.value before
+        else put_in_place (name_of key) object.value before) result }
+{
+    let text = object.text(alloc)?;
+    let change = after_update(held, key, object);
+    if puts_too_much(&change, text.as_str()) {
+        return Err(Fault::TooLarge);
+    }
+    if is_full(before) {
+        return Err(Fault::StorageFull);
+    }
+    Ok((Reply { code: 200, text }, Some(change)))
+}

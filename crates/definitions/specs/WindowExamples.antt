@@ -1,0 +1,91 @@
+-- Worked facts of windows, computed from the definitions.
+use Rattle.std.specs.Prelude.{◌≡◌, ℕ, List, [], ◌∷◌, ◌++◌, map, Some, None, Result, Ok, Err, codes}
+use Rattle.serde_json.specs.Data.{Data, string, object, no_members, member}
+use Rattle.definitions.specs.declared.kinds.Kind.{Kind}
+use Rattle.definitions.specs.declared.kinds.Kind.TheVariants.{ConfigMap, Pod}
+use Rattle.definitions.specs.Names.{Name}
+use Rattle.definitions.specs.History.{History, Entry, write, compaction, View, Members, whole, list}
+use Rattle.definitions.specs.Refusals.{Refusal, expired, too_new}
+use Rattle.definitions.specs.Changes.{Change}
+use Rattle.definitions.specs.Windows.{Kept, writes_of, floor, since, list_within, Window, opened, recorded, since_kept, list_kept}
+
+abbrev named : Kind → List ℕ → Name
+named kind name = record { kind = kind; namespace = codes "default"; name = name }
+
+-- an object of a name, with a version
+abbrev stored : List ℕ → List ℕ → Data
+stored name version = object (member (codes "metadata") (object (member (codes "name") (string name) (member (codes "resourceVersion") (string version) no_members))) no_members)
+
+abbrev puts : Kind → List ℕ → List ℕ → Entry
+puts kind name version = write (record { key = named kind name; put = Some (stored name version) })
+
+abbrev removes : Kind → List ℕ → Entry
+removes kind name = write (record { key = named kind name; put = None })
+
+-- six writes of ConfigMaps, at revisions 2 to 7
+abbrev six_writes : History
+six_writes =
+    puts ConfigMap (codes "a") (codes "2")
+    ∷ puts ConfigMap (codes "b") (codes "3")
+    ∷ puts ConfigMap (codes "a") (codes "4")
+    ∷ puts ConfigMap (codes "c") (codes "5")
+    ∷ removes ConfigMap (codes "b")
+    ∷ puts ConfigMap (codes "a") (codes "7")
+    ∷ []
+
+abbrev config_maps : View
+config_maps = whole ConfigMap None
+
+abbrev at_three : Members
+at_three = (named ConfigMap (codes "a"), stored (codes "a") (codes "2")) ∷ (named ConfigMap (codes "b"), stored (codes "b") (codes "3")) ∷ []
+
+abbrev at_five : Members
+at_five =
+    (named ConfigMap (codes "a"), stored (codes "a") (codes "4"))
+    ∷ (named ConfigMap (codes "b"), stored (codes "b") (codes "3"))
+    ∷ (named ConfigMap (codes "c"), stored (codes "c") (codes "5"))
+    ∷ []
+
+-- a window after these writes, one after another
+abbrev after_writes : Window → List Kept → Window
+after_writes s [] = s
+after_writes s (k ∷ ks) = after_writes (recorded s k) ks
+
+-- a window of four that has recorded the six writes
+abbrev window_of_four : Window
+window_of_four = after_writes (opened ConfigMap 4) (writes_of ConfigMap six_writes)
+
+abbrev revisions : Result (List Change) Refusal → Result (List ℕ) Refusal
+revisions (Ok cs) = Ok (map (λ c. c.revision) cs)
+revisions (Err f) = Err f
+
+-- a window of four holds the last four writes, and answers from the one before them; one of six answers from the beginning;
+-- the greatest compaction above the floor moves it, and a write of another kind does not
+abbrev pub FloorsAreReached : Type 0
+FloorsAreReached =
+    (map (λ k. k.revision) window_of_four.kept ≡ 4 ∷ 5 ∷ 6 ∷ 7 ∷ [])
+    × (window_of_four.floor ≡ 3)
+    × (floor ConfigMap 4 six_writes ≡ 3)
+    × (floor ConfigMap 6 six_writes ≡ 1)
+    × (floor ConfigMap 4 (six_writes ++ compaction 2 ∷ compaction 5 ∷ compaction 4 ∷ []) ≡ 5)
+    × (floor ConfigMap 4 (six_writes ++ puts Pod (codes "p") (codes "8") ∷ []) ≡ 3)
+
+-- a watch gets the changes after its revision, as many as it asks for; below the floor and above the present one it is refused
+abbrev pub WatchesReachBack : Type 0
+WatchesReachBack =
+    (since 4 six_writes config_maps 2 9 ≡ Err (expired 2 3))
+    × (revisions (since 4 six_writes config_maps 3 9) ≡ Ok (4 ∷ 5 ∷ 6 ∷ 7 ∷ []))
+    × (revisions (since_kept window_of_four 7 config_maps 3 9) ≡ Ok (4 ∷ 5 ∷ 6 ∷ 7 ∷ []))
+    × (revisions (since 4 six_writes config_maps 3 1) ≡ Ok (4 ∷ []))
+    × (revisions (since 4 six_writes config_maps 5 9) ≡ Ok (6 ∷ 7 ∷ []))
+    × (revisions (since 4 six_writes config_maps 7 9) ≡ Ok [])
+    × (since 4 six_writes config_maps 8 9 ≡ Err (too_new 8 7))
+
+-- the present list with two writes undone, a removal and an update, is the list at 5, and with all four the list at the floor
+abbrev pub ListsReachBack : Type 0
+ListsReachBack =
+    (list_within 4 six_writes config_maps 5 ≡ Ok at_five)
+    × (list_kept window_of_four 7 (list six_writes config_maps 7) config_maps 5 ≡ Ok at_five)
+    × (list_kept window_of_four 7 (list six_writes config_maps 7) config_maps 3 ≡ Ok at_three)
+    × (list_within 4 six_writes config_maps 2 ≡ Err (expired 2 3))
+    × (list_within 4 six_writes config_maps 8 ≡ Err (too_new 8 7))

@@ -1,0 +1,57 @@
+//! What becomes of the dependents of an object that is deleted.
+
+/// What becomes of an object's dependents, by the finalizer that its deletion is left to (Kubernetes, Garbage
+/// Collection, Cascading deletion).
+#[derive(Clone, Copy, Debug, PartialEq, Eq)]
+pub enum Policy {
+    /// They are left, without the reference to their owner: `orphan`.
+    Orphan,
+    /// They are deleted before the object is gone: `foregroundDeletion`.
+    Foreground,
+    /// They are deleted after the object is gone: no finalizer.
+    Background,
+}
+
+/// What is said of a policy.
+#[derive(Clone, Copy, Debug, PartialEq, Eq)]
+pub enum PolicySaid {
+    Nothing,
+    Named(Policy),
+    /// A name that no policy has.
+    Unknown,
+}
+
+impl Policy {
+    ghost use Rattle.std.specs.Prelude.{◌≡◌};
+    ghost use Rattle.definitions.specs.DeleteOptions.{policy_named};
+
+    /// The policy with this name.
+    pub fn named(name: &str) -> Option<Policy>
+        ensures { result ≡ policy_named name.now }
+    {
+        match name {
+            "Orphan" => Some(Policy::Orphan),
+            "Foreground" => Some(Policy::Foreground),
+            "Background" => Some(Policy::Background),
+            _ => None,
+        }
+    }
+}
+
+impl PolicySaid {
+    ghost use Rattle.std.specs.Prelude.{◌≡◌, option_map};
+    ghost use Rattle.definitions.specs.DeleteOptions.{policy_said};
+
+    /// What a text, where there is one, says of a policy.
+    pub fn read(text: Option<&str>) -> PolicySaid
+        ensures { result ≡ policy_said (option_map (λ s. s.now) text.entry) }
+    {
+        let Some(name) = text else {
+            return PolicySaid::Nothing;
+        };
+        match Policy::named(name) {
+            Some(policy) => PolicySaid::Named(policy),
+            None => PolicySaid::Unknown,
+        }
+    }
+}

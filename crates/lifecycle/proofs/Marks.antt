@@ -1,0 +1,19 @@
+-- The metadata of an object that is being deleted, from what its steps are told.
+use Rattle.std.proofs.Common.{◌≡◌, ℕ, List, Bool, true, false, cond, codes, refl, ap, ◌∙◌}
+use Rattle.serde_json.specs.Data.{Data, string, Members, put}
+use Rattle.definitions.specs.declared.kinds.Kind.{Kind}
+use Rattle.definitions.specs.Deletion.{with_deletion}
+use Rattle.definitions.specs.Kinds.{has_generation}
+use Rattle.definitions.specs.Metadata.{metadata_of, is_being_deleted}
+use Rattle.definitions.specs.Replacements.{with_next_generation}
+
+otherwise : (b : Bool) (x y : Members) → b ≡ false → y ≡ cond b x y
+otherwise true x y h = cc
+otherwise false x y h = refl
+
+-- the deletion is told of an object that was not being deleted
+pub deletion_told : (k : Kind) (moment : List ℕ) (held : Data) (before raised : Members) → is_being_deleted held ≡ false → before ≡ metadata_of held → raised ≡ with_next_generation (has_generation k) held before
+    → put (codes "deletionTimestamp") (string moment) raised ≡ with_deletion k moment held
+deletion_told k moment held before raised h is up =
+    ap (put (codes "deletionTimestamp") (string moment)) (up ∙ ap (with_next_generation (has_generation k) held) is)
+    ∙ otherwise (is_being_deleted held) (metadata_of held) (put (codes "deletionTimestamp") (string moment) (with_next_generation (has_generation k) held (metadata_of held))) h

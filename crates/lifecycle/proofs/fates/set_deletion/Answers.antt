@@ -1,0 +1,16 @@
+use Rattle.std.proofs.Common.{◌≡◌, OnOk, codes, false, subst, sym, ap, ◌∙◌}
+use Rattle.serde_json.specs.Data.{Members, string, put}
+use Rattle.definitions.specs.Deletion.{with_deletion}
+use Rattle.definitions.specs.Metadata.{is_being_deleted}
+use Rattle.lifecycle.proofs.Marks.{deletion_told}
+use Rattle.lifecycle.proofs.fates.set_deletion.Goals as goal
+
+pub returns-clause-metadata : goal.returns-clause-metadata
+returns-clause-metadata c =
+    let held = c.args.held.now.value in
+    let raised = c.raise_generation.new.draft.metadata in
+    let not_yet : is_being_deleted held ≡ false = sym c.is_being_deleted.ensures ∙ c.if-is_being_deleted.false in
+    let told = deletion_told c.args.kind c.args.moment held c.args.draft.now.metadata raised not_yet c.requires c.in_ok-raise_generation.ensures.metadata in
+    let set : put (codes "deletionTimestamp") (string c.as_str.result.now) raised ≡ with_deletion c.args.kind c.args.moment held
+    = ap (λ t. put (codes "deletionTimestamp") (string t) raised) c.as_str.ensures.text ∙ told in
+    subst (λ (m : Members). OnOk c.set_text.result (c.set_text.new.self.metadata ≡ m)) set c.set_text.ensures.metadata

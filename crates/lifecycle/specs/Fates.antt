@@ -1,0 +1,27 @@
+-- What a delete does, as the definitions say it.
+use Rattle.std.specs.Prelude.{◌≡◌, Option, Some, None, Result, Ok, Err, if◌then◌else◌}
+use Rattle.serde_json.specs.Data.{Data}
+use Rattle.definitions.specs.Deletion as deletion
+use Rattle.definitions.specs.DeleteOptions.{Options}
+use Rattle.definitions.specs.Metadata.{uid, version, differs}
+use Rattle.definitions.specs.declared.refusals.Mismatch.{Mismatch}
+use Rattle.definitions.specs.declared.refusals.Mismatch.TheVariants as why
+use Rattle.lifecycle.specs.declared.fates.Fate.{Fate}
+use Rattle.lifecycle.specs.declared.fates.Fate.TheVariants.{Remove, Mark, Keep}
+use Rattle.lifecycle.specs.declared.fates.DeleteFault.{DeleteFault}
+use Rattle.lifecycle.specs.declared.fates.DeleteFault.TheVariants as fault
+
+abbrev pub fate_seen : Fate → deletion.Fate
+fate_seen Remove = deletion.remove
+fate_seen (Mark o) = deletion.mark o.value
+fate_seen Keep = deletion.keep
+
+-- the result is this, or the precondition that is not met, or want of memory
+abbrev pub Decides : Result deletion.Fate Mismatch → Result Fate DeleteFault → Type 0
+Decides wanted (Ok f) = wanted ≡ Ok (fate_seen f)
+Decides wanted (Err (fault.Mismatch why)) = wanted ≡ Err why
+Decides wanted (Err fault.NoMemory) = Unit {0}
+
+-- the first of the preconditions that an object does not meet
+abbrev pub mismatch : Options → Data → Option Mismatch
+mismatch o held = if differs o.uid (uid held) then Some why.Uid else (if differs o.version (version held) then Some why.ResourceVersion else None)

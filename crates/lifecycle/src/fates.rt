@@ -1,0 +1,183 @@
+//! What a delete does to an object.
+ghost use Rattle.std.specs.Prelude.{◌≡◌, ◌==◌, ◌&&◌, IfOk, OnOk, codes, option_map, string_bytes, is_some, false};
+ghost use Rattle.serde_json.specs.Data.{string, array, put};
+ghost use Rattle.serde_json.specs.Events.{items_len};
+ghost use Rattle.serde_json.specs.View.{items_view};
+ghost use Rattle.serde_json.specs.Written.{items_have_float};
+ghost use Rattle.definitions.specs.Checks.{finalizers};
+ghost use Rattle.definitions.specs.Deletion.{left_by, leaves, with_deletion, marked, fate, decided};
+ghost use Rattle.definitions.specs.Kinds.{has_generation};
+ghost use Rattle.definitions.specs.Metadata.{metadata_of, uid, version, differs, is_being_deleted};
+ghost use Rattle.definitions.specs.Replacements.{with_next_generation};
+ghost use Rattle.lifecycle.specs.Fates.{Decides, fate_seen, mismatch};
+ghost use Rattle.lifecycle.specs.Options.{options_seen};
+ghost use Rattle.lifecycle.specs.declared.fates.DeleteFault.TheVariants.{NoMemory};
+
+use crate::finalizers::{leaves, left_by};
+use crate::options::DeleteOptions;
+use definitions::kinds::Kind;
+use definitions::policies::Policy;
+use definitions::refusals::Mismatch;
+use meta::{Draft, Object};
+use serde_json::Value;
+use stamps::moments::Moment;
+use std::alloc::{AllocError, Global};
+
+/// What becomes of an object that is deleted.
+#[derive(Drop)]
+pub enum Fate {
+    /// It is removed.
+    Remove,
+    /// It is being deleted from now on, or left to other finalizers: the object as it is then, so far at its version.
+    Mark(Object),
+    /// It stays as it is: it is being deleted already, and left to these finalizers.
+    Keep,
+}
+
+/// Why an object is not deleted.
+#[derive(Debug, Drop)]
+pub enum DeleteFault {
+    /// A precondition is not met.
+    Mismatch(Mismatch),
+    /// Memory was wanted and refused.
+    NoMemory,
+}
+
+impl From<AllocError> for DeleteFault {
+    ghost from_gives = { λ _ e. e ≡ NoMemory };
+
+    fn from(_: AllocError) -> DeleteFault {
+        DeleteFault::NoMemory
+    }
+}
+
+/// What a delete with these options does, at a moment, to the object of a kind that is held. The errors are the first
+/// precondition that is not met, and want of memory.
+pub fn decide_delete(
+    alloc: Global,
+    kind: Kind,
+    held: &Object,
+    options: &DeleteOptions,
+    moment: Moment,
+) -> Result<Fate, DeleteFault>
+    ensures { Decides (decided kind (options_seen options.now) moment held.now.value) result }
+{
+    match mismatch(held, options) {
+        Some(why) => Err(DeleteFault::Mismatch(why)),
+        None => Ok(fate_of(alloc, kind, held, options.policy, moment)?),
+    }
+}
+
+/// Whether a text is named, and the object has another one, or none.
+fn differs(named: &Option<String>, held: Option<&str>) -> bool
+    ensures { result ≡ differs (option_map string_bytes named.now) (option_map (λ s. s.now) held.entry) }
+{
+    match (named, held) {
+        (None, _) => false,
+        (Some(_), None) => true,
+        (Some(text), Some(other)) => text.as_str() != other,
+    }
+}
+
+/// The first of the preconditions that the object does not meet: of the uid, then of the version.
+fn mismatch(held: &Object, options: &DeleteOptions) -> Option<Mismatch>
+    ensures { result ≡ mismatch (options_seen options.now) held.now.value }
+{
+    if differs(&options.uid, held.uid()) {
+        return Some(Mismatch::Uid);
+    }
+    if differs(&options.version, held.resource_version()) {
+        return Some(Mismatch::ResourceVersion);
+    }
+    None
+}
+
+/// What a delete whose preconditions are met does.
+fn fate_of(
+    alloc: Global,
+    kind: Kind,
+    held: &Object,
+    policy: Option<Policy>,
+    moment: Moment,
+) -> Result<Fate, AllocError>
+    ensures { IfOk result (λ f. fate_seen f ≡ fate kind policy moment held.now.value) }
+{
+    let left = left_by(alloc, policy, held.finalizers())?;
+    if is_none(left.as_slice()) {
+        return Ok(Fate::Remove);
+    }
+    if is_left_alone(policy, held) {
+        return Ok(Fate::Keep);
+    }
+    let object = marked(alloc, kind, held, left, moment)?;
+    Ok(Fate::Mark(object))
+}
+
+/// Whether there is no finalizer.
+fn is_none(items: &[Value]) -> bool
+    ensures { result ≡ (items_len (items_view items.now) == 0) }
+{
+    items.is_empty()
+}
+
+/// Whether the object is being deleted already, and left to the finalizers that it has.
+fn is_left_alone(policy: Option<Policy>, held: &Object) -> bool
+    ensures { result ≡ (is_being_deleted held.now.value && leaves policy (finalizers held.now.value)) }
+{
+    held.is_being_deleted() && leaves(policy, held.finalizers())
+}
+
+/// The object as being deleted, left to these finalizers, and so far at its version.
+fn marked(
+    alloc: Global,
+    kind: Kind,
+    held: &Object,
+    left: Vec<Value>,
+    moment: Moment,
+) -> Result<Object, AllocError>
+    requires no_float { items_have_float (items_view left.items) ≡ false }
+    ensures { IfOk result (λ o. o.value ≡ marked kind moment (items_view left.items) held.now.value) }
+{
+    let mut draft = held.try_copy()?.open(alloc)?;
+    set_deletion(alloc, &mut draft, kind, held, moment)?;
+    draft.set_items(alloc, "finalizers", left)?;
+    let made = draft.close(alloc)?;
+    Ok(made)
+}
+
+/// Sets what is told of the deletion of an object that was not being deleted: since when, and a new generation.
+fn set_deletion(
+    alloc: Global,
+    draft: &mut Draft,
+    kind: Kind,
+    held: &Object,
+    moment: Moment,
+) -> Result<(), AllocError>
+    requires { draft.old.metadata ≡ metadata_of held.now.value }
+    ensures metadata { OnOk result (draft.new.metadata ≡ with_deletion kind moment held.now.value) }
+    ensures rest { OnOk result (draft.new.rest ≡ draft.old.rest) }
+{
+    if held.is_being_deleted() {
+        return Ok(());
+    }
+    raise_generation(alloc, draft, kind, held)?;
+    draft.set_text(alloc, "deletionTimestamp", moment.as_str())
+}
+
+/// Sets the generation after that of the object that is held, for a kind that has generations.
+fn raise_generation(
+    alloc: Global,
+    draft: &mut Draft,
+    kind: Kind,
+    held: &Object,
+) -> Result<(), AllocError>
+    ensures metadata { OnOk result (draft.new.metadata
+        ≡ with_next_generation (has_generation kind) held.now.value draft.old.metadata) }
+    ensures rest { draft.new.rest ≡ draft.old.rest }
+{
+    if kind.has_generation() {
+        draft.set_count(alloc, "generation", held.next_generation())
+    } else {
+        Ok(())
+    }
+}

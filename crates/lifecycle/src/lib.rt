@@ -1,0 +1,14 @@
+//! Deletion: what a delete asks for and does, and what an update leaves of an object that is being deleted.
+#![tactic(auto)]
+
+mod fates;
+mod finalizers;
+mod options;
+mod updates;
+
+pub use fates::{DeleteFault, Fate, decide_delete};
+pub use options::DeleteOptions;
+pub use updates::after_update;
+
+#[cfg(test)]
+mod tests;

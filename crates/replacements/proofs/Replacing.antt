@@ -1,0 +1,46 @@
+-- Replacements, from what their steps are told.
+use Rattle.std.proofs.Common.{◌≡◌, Bool, true, false, Option, Some, None, codes, refl, sym, ap, ◌∙◌, if◌then◌else◌}
+use Rattle.serde_json.specs.Data.{Data, object}
+use Rattle.serde_json.proofs.Views.{get_member-put_other}
+use Rattle.definitions.proofs.JsonMembers.{apart, get_member-without_other}
+use Rattle.definitions.specs.declared.refusals.Mismatch.{Mismatch}
+use Rattle.definitions.specs.declared.refusals.Mismatch.TheVariants as why
+use Rattle.definitions.specs.Metadata.{metadata_of, uid, version, differs}
+use Rattle.definitions.specs.Names.{Name}
+use Rattle.definitions.specs.Refusals.{conflict}
+use Rattle.definitions.specs.Replacements.{as_held}
+use Rattle.definitions.specs.Values.{members_of, inner_of}
+use Rattle.definitions.specs.Verbs.{Outcome, refused, refuse_if, if_same}
+use Rattle.meta.proofs.PutAndTaken.{get-members_of}
+use Rattle.answers.specs.Naming.{mismatch}
+
+-- what is another is refused
+abbrev or_conflict : Name → Option Mismatch → Outcome → Outcome
+or_conflict k None next = next
+or_conflict k (Some w) next = refused (conflict k w)
+
+by_tests : (a b : Bool) (k : Name) (next : Outcome)
+    → refuse_if a (conflict k why.Uid) (refuse_if b (conflict k why.Modified) next) ≡ or_conflict k (if a then Some why.Uid else (if b then Some why.Modified else None)) next
+by_tests true b k next = refl
+by_tests false true k next = refl
+by_tests false false k next = refl
+
+found_so : (k : Name) (o held : Data) (next : Outcome) (found other : Option Mismatch) → found ≡ mismatch o held → found ≡ other → if_same k o held next ≡ or_conflict k other next
+found_so k o held next found other is so =
+    by_tests (differs (uid o) (uid held)) (differs (version o) (version held)) k next ∙ ap (λ m. or_conflict k m next) (sym is ∙ so)
+
+-- the object that is held is another
+pub if_same-other : (k : Name) (o held : Data) (next : Outcome) (found : Option Mismatch) (w : Mismatch) → found ≡ mismatch o held → found ≡ Some w
+    → if_same k o held next ≡ refused (conflict k w)
+if_same-other k o held next found w is so = found_so k o held next found (Some w) is so
+
+-- it is the one that is named
+pub if_same-same : (k : Name) (o held : Data) (next : Outcome) (found : Option Mismatch) → found ≡ mismatch o held → found ≡ None → if_same k o held next ≡ next
+if_same-same k o held next found is so = found_so k o held next found None is so
+
+-- the metadata stays where the status is kept
+pub metadata_of-as_held : (found : Option Data) (d : Data) → metadata_of (object (as_held (codes "status") found (members_of d))) ≡ metadata_of d
+metadata_of-as_held None d =
+    ap inner_of (get_member-without_other (codes "metadata") (codes "status") (members_of d) refl ∙ sym (get-members_of (codes "metadata") d))
+metadata_of-as_held (Some e) d =
+    ap inner_of (get_member-put_other (codes "metadata") (codes "status") e (members_of d) (apart (codes "metadata") (codes "status") refl) ∙ sym (get-members_of (codes "metadata") d))

@@ -1,0 +1,6 @@
+//! Objects in the place of others: updates, updates of the status, and patches.
+#![tactic(auto)]
+
+pub mod patch;
+pub mod status;
+pub mod update;

@@ -1,0 +1,58 @@
+//! Merge patches.
+ghost use Rattle.std.specs.Prelude.{◌≡◌, ◌≤◌, List, ℕ};
+ghost use Rattle.serde_json.specs.View.{view};
+ghost use Rattle.definitions.specs.History.{members, present};
+ghost use Rattle.definitions.specs.Revisions.{greatest_revision};
+ghost use Rattle.definitions.specs.Values.{merged};
+ghost use Rattle.definitions.specs.Verbs.{accept_at, patch_object, patch_read, said};
+ghost use Rattle.meta.specs.Keys.{name_of};
+ghost use Rattle.answers.specs.Serves.{Serves};
+
+use crate::update::replace;
+use answers::bodies::said;
+use answers::names_given::names_path;
+use definitions::refusals::Part;
+use meta::reading::is_body;
+use meta::{Fault, Key, Object, Write, merge};
+use reply::Reply;
+use serde_json::Value;
+use std::alloc::Global;
+use store::Store;
+
+/// The object under a key as a merge patch (RFC 7396) changes it, in its own place.
+pub fn patch(
+    alloc: Global,
+    store: &Store,
+    key: Key,
+    body: Value,
+) -> Result<(Reply, Option<Write>), Fault>
+    ensures { (moment : List ℕ) → Serves (accept_at (patch_object (name_of key) (view body)) (members store.now (present store.now)) (present store.now) moment) result }
+{
+    if !is_body(&body) {
+        return Err(Fault::BadRequest(Part::Body));
+    }
+    match store.get(&key) {
+        None => Err(Fault::NotFound(key)),
+        Some(held) => patch_held(alloc, key, body, store.revision(), held),
+    }
+}
+
+/// The object that is held as a patch changes it, read as a body that names the object of its path.
+fn patch_held(
+    alloc: Global,
+    key: Key,
+    body: Value,
+    before: u64,
+    held: &Object,
+) -> Result<(Reply, Option<Write>), Fault>
+    requires { before ≤ greatest_revision }
+    ensures { Serves (patch_read (name_of key) before held.now.value (said key.kind (merged held.now.value (view body)))) result }
+{
+    let target = held.try_copy()?.into_value();
+    let changed = merge(alloc, body, target)?;
+    let object = said(alloc, key.kind, changed)?;
+    if !names_path(&key, &object) {
+        return Err(Fault::BadRequest(Part::Object));
+    }
+    replace(alloc, key, object, before, held)
+}

@@ -1,0 +1,113 @@
+//! Updates of the status.
+ghost use Rattle.std.specs.Prelude.{◌≡◌, ◌≤◌, List, ℕ, IfOk, IfSome, codes, false, option_map};
+ghost use Rattle.serde_json.specs.Find.{get};
+ghost use Rattle.serde_json.specs.View.{view};
+ghost use Rattle.serde_json.specs.Written.{has_float};
+ghost use Rattle.definitions.specs.History.{members, present};
+ghost use Rattle.definitions.specs.Replacements.{said_status, with_said_status};
+ghost use Rattle.definitions.specs.Revisions.{greatest_revision};
+ghost use Rattle.definitions.specs.Verbs.{accept_at, update_status, restate, restate_with};
+ghost use Rattle.meta.specs.Keys.{name_of};
+ghost use Rattle.answers.specs.Serves.{Serves};
+
+use answers::first_status::first_status;
+use answers::generations::at_revision;
+use answers::names_given::{mismatch, names_path};
+use answers::placing::{put_in_place, unchanged};
+use definitions::kinds::Kind;
+use definitions::refusals::{Field, Part};
+use meta::{Fault, Key, Object, Write};
+use reply::Reply;
+use serde_json::Value;
+use std::alloc::{AllocError, Global};
+use store::Store;
+use validate::is_status_valid;
+
+/// The status that a body says, in the place of that of the object under a key. Nothing else of the body is taken.
+pub fn update_status(
+    alloc: Global,
+    store: &Store,
+    key: Key,
+    body: Value,
+) -> Result<(Reply, Option<Write>), Fault>
+    ensures { (moment : List ℕ) → Serves (accept_at (update_status (name_of key) (view body)) (members store.now (present store.now)) (present store.now) moment) result }
+{
+    let object = Object::from_value(alloc, key.kind, body)?;
+    if !names_path(&key, &object) {
+        return Err(Fault::BadRequest(Part::Object));
+    }
+    match store.get(&key) {
+        None => Err(Fault::NotFound(key)),
+        Some(held) => restate_with(alloc, key, object, store.revision(), held),
+    }
+}
+
+/// The status of an object in the place of that of the one that is held, if that is the one that it names.
+fn restate_with(
+    alloc: Global,
+    key: Key,
+    object: Object,
+    before: u64,
+    held: &Object,
+) -> Result<(Reply, Option<Write>), Fault>
+    requires { before ≤ greatest_revision }
+    ensures { Serves (restate_with (name_of key) object.value before held.now.value) result }
+{
+    match mismatch(&object, held) {
+        Some(why) => Err(Fault::Conflict(key, why)),
+        None => {
+            let object = with_said_status(alloc, key.kind, held, &object)?;
+            restate(alloc, key, held, object, before)
+        }
+    }
+}
+
+/// The status that an object says, or the first one of its kind where it says none.
+fn said_status(alloc: Global, kind: Kind, object: &Object) -> Result<Option<Value>, AllocError>
+    ensures status { IfOk result (λ s. option_map (λ v. view v) s ≡ said_status kind (get (codes "status") object.now.value)) }
+    ensures no_float { IfOk result (λ s. IfSome s (λ v. has_float (view v) ≡ false)) }
+{
+    match object.member("status") {
+        Some(found) => Ok(Some(found.clone()?)),
+        None => first_status(alloc, kind),
+    }
+}
+
+/// The object that is held, with the status that another says.
+fn with_said_status(
+    alloc: Global,
+    kind: Kind,
+    held: &Object,
+    object: &Object,
+) -> Result<Object, AllocError>
+    ensures { IfOk result (λ o. o.value ≡ with_said_status kind held.now.value object.now.value) }
+{
+    let value = held.try_copy()?.into_value();
+    let copy = Object::from_whole(kind, value);
+    match said_status(alloc, kind, object)? {
+        Some(status) => copy.set_member(alloc, "status", status),
+        None => Ok(copy),
+    }
+}
+
+/// The object that is held with its new status, or the first refusal: of a count, the length, the room. Where the status
+/// says the same nothing is written.
+fn restate(
+    alloc: Global,
+    key: Key,
+    held: &Object,
+    object: Object,
+    before: u64,
+) -> Result<(Reply, Option<Write>), Fault>
+    requires { before ≤ greatest_revision }
+    ensures { Serves (restate (name_of key) held.now.value object.value before) result }
+{
+    if !is_status_valid(key.kind, &object) {
+        return Err(Fault::Invalid(key, Field::Status));
+    }
+    if let Some(text) = unchanged(alloc, held, &object)? {
+        return Ok((Reply { code: 200, text }, None));
+    }
+    let object = at_revision(alloc, object, before)?;
+    put_in_place(alloc, key, object, before)
+}

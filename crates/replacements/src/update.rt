@@ -1,0 +1,136 @@
+//! Updates.
+ghost use Rattle.std.specs.Prelude.{◌≡◌, ◌≤◌, List, ℕ, IfOk};
+ghost use Rattle.serde_json.specs.View.{view};
+ghost use Rattle.definitions.specs.History.{members, present};
+ghost use Rattle.definitions.specs.Metadata.{metadata_of, with_metadata};
+ghost use Rattle.definitions.specs.Replacements.{in_place, keeping, kept, kept_of};
+ghost use Rattle.definitions.specs.Revisions.{greatest_revision};
+ghost use Rattle.definitions.specs.Values.{members_of};
+ghost use Rattle.definitions.specs.Verbs.{accept_at, update_object, replace, replace_with, replace_changed};
+ghost use Rattle.meta.specs.Keys.{name_of};
+ghost use Rattle.answers.specs.Serves.{Serves};
+
+use answers::bodies::said;
+use answers::generations::updated;
+use answers::names_given::{mismatch, names_path};
+use answers::placing::{replaced, unchanged};
+use definitions::refusals::Part;
+use meta::{Fault, Key, Object, Write};
+use reply::Reply;
+use serde_json::Value;
+use std::alloc::{AllocError, Global};
+use store::Store;
+use validate::check_update;
+
+/// An object as a body says it, in the place of the one under a key.
+pub fn update(
+    alloc: Global,
+    store: &Store,
+    key: Key,
+    body: Value,
+) -> Result<(Reply, Option<Write>), Fault>
+    ensures { (moment : List ℕ) → Serves (accept_at (update_object (name_of key) (view body)) (members store.now (present store.now)) (present store.now) moment) result }
+{
+    let object = said(alloc, key.kind, body)?;
+    if !names_path(&key, &object) {
+        return Err(Fault::BadRequest(Part::Object));
+    }
+    match store.get(&key) {
+        None => Err(Fault::NotFound(key)),
+        Some(held) => replace(alloc, key, object, store.revision(), held),
+    }
+}
+
+/// An object in the place of the one that is held, if that is the one that it names.
+pub fn replace(
+    alloc: Global,
+    key: Key,
+    object: Object,
+    before: u64,
+    held: &Object,
+) -> Result<(Reply, Option<Write>), Fault>
+    requires revision { before ≤ greatest_revision }
+    requires kind { object.kind ≡ key.kind }
+    ensures { Serves (replace (name_of key) object.value before held.now.value) result }
+{
+    match mismatch(&object, held) {
+        Some(why) => Err(Fault::Conflict(key, why)),
+        None => {
+            let object = in_place(alloc, object, held)?;
+            replace_with(alloc, key, held, object, before)
+        }
+    }
+}
+
+/// The object with the status that is held, if its kind has one.
+fn keep_status(alloc: Global, object: Object, held: &Object) -> Result<Object, AllocError>
+    ensures members { IfOk result (λ o. members_of o.value ≡ keeping (kept_of object.kind) (members_of held.now.value) (members_of object.value)) }
+    ensures metadata { IfOk result (λ o. metadata_of o.value ≡ metadata_of object.value) }
+    ensures kind { IfOk result (λ o. o.kind ≡ object.kind) }
+{
+    if !object.kind().has_status() {
+        return Ok(object);
+    }
+    let kept = object.keep_member(alloc, "status", held)?;
+    Ok(kept)
+}
+
+/// The object with what an update leaves of the metadata that is held.
+fn keep_metadata(alloc: Global, object: Object, held: &Object) -> Result<Object, AllocError>
+    ensures value { IfOk result (λ o. o.value ≡ with_metadata (keeping kept (metadata_of held.now.value) (metadata_of object.value)) object.value) }
+    ensures kind { IfOk result (λ o. o.kind ≡ object.kind) }
+{
+    let mut draft = object.open(alloc)?;
+    draft.keep(alloc, "namespace", held)?;
+    draft.keep(alloc, "uid", held)?;
+    draft.keep(alloc, "creationTimestamp", held)?;
+    draft.keep(alloc, "deletionTimestamp", held)?;
+    draft.keep(alloc, "generation", held)?;
+    draft.keep(alloc, "resourceVersion", held)?;
+    let made = draft.close(alloc)?;
+    Ok(made)
+}
+
+/// The object in the place of the one that is held, so far at its version.
+fn in_place(alloc: Global, object: Object, held: &Object) -> Result<Object, AllocError>
+    ensures value { IfOk result (λ o. o.value ≡ in_place object.kind held.now.value object.value) }
+    ensures kind { IfOk result (λ o. o.kind ≡ object.kind) }
+{
+    let with_status = keep_status(alloc, object, held)?;
+    keep_metadata(alloc, with_status, held)
+}
+
+/// The object in the place of the one that is held, if each of its fields is as it has to be.
+fn replace_with(
+    alloc: Global,
+    key: Key,
+    held: &Object,
+    object: Object,
+    before: u64,
+) -> Result<(Reply, Option<Write>), Fault>
+    requires revision { before ≤ greatest_revision }
+    requires kind { object.kind ≡ key.kind }
+    ensures { Serves (replace_with (name_of key) held.now.value object.value before) result }
+{
+    check_update(alloc, held, &object, &key, before)?;
+    replace_changed(alloc, key, held, object, before)
+}
+
+/// The object in the place of the one that is held: where it says the same nothing is written, and where nothing keeps it
+/// any more it is removed.
+fn replace_changed(
+    alloc: Global,
+    key: Key,
+    held: &Object,
+    object: Object,
+    before: u64,
+) -> Result<(Reply, Option<Write>), Fault>
+    requires { before ≤ greatest_revision }
+    ensures { Serves (replace_changed (name_of key) held.now.value object.value before) result }
+{
+    if let Some(text) = unchanged(alloc, held, &object)? {
+        return Ok((Reply { code: 200, text }, None));
+    }
+    let object = updated(alloc, key.kind, object, held, before)?;
+    replaced(alloc, key, held, object, before)
+}

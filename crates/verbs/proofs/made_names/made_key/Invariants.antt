@@ -1,8 +1,0 @@
-use Rattle.definitions.specs.History.{members, present}
-use Rattle.definitions.specs.Verbs.{is_free}
-use Rattle.verbs.proofs.MadeNames.{Left}
-use Rattle.verbs.proofs.made_names.made_key.Given as goal
-
--- the names that are left have the first that is free
-abbrev pub invariant-loop-tries : goal.invariant-loop-tries
-invariant-loop-tries l = Left (is_free l.fn.kind l.namespace (members l.store (present l.store))) l.given l.first l.tries

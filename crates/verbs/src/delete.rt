@@ -1,0 +1,157 @@
+//! Deletes.
+ghost use Rattle.std.specs.Prelude.{◌≡◌, ◌+◌, ◌≤◌, IfOk, string_bytes};
+ghost use Rattle.serde_json.specs.Written.{compact_text};
+ghost use Rattle.definitions.specs.Deletion.{decided, gone, kept_code, removal_of};
+ghost use Rattle.definitions.specs.History.{members, present};
+ghost use Rattle.definitions.specs.Revisions.{greatest_revision};
+ghost use Rattle.definitions.specs.Verbs.{accept_at, by_decision, by_fate, delete_object, let_go, put_mark};
+ghost use Rattle.lifecycle.specs.Fates.{fate_seen};
+ghost use Rattle.lifecycle.specs.Options.{options_seen};
+ghost use Rattle.meta.specs.Keys.{name_of};
+ghost use Rattle.answers.specs.Serves.{Serves};
+
+use answers::generations::at_revision;
+use answers::placing::is_full;
+use definitions::kinds::Kind;
+use definitions::policies::Policy;
+use lifecycle::{DeleteFault, DeleteOptions, Fate, decide_delete};
+use meta::{Fault, Key, Object, Write};
+use reply::{Reply, success_text};
+use stamps::moments::Moment;
+use std::alloc::{AllocError, Global};
+use store::Store;
+
+/// The object under a key removed or, while finalizers are left, being deleted from this moment on.
+pub fn delete(
+    alloc: Global,
+    store: &Store,
+    key: Key,
+    options: &DeleteOptions,
+    moment: Moment,
+) -> Result<(Reply, Option<Write>), Fault>
+    ensures { Serves (accept_at (delete_object (name_of key) (options_seen options.now)) (members store.now (present store.now)) (present store.now) moment) result }
+{
+    match store.get(&key) {
+        None => Err(Fault::NotFound(key)),
+        Some(held) => delete_held(alloc, key, held, options, store.revision(), moment),
+    }
+}
+
+/// The object that is held removed or marked, if it meets the preconditions.
+fn delete_held(
+    alloc: Global,
+    key: Key,
+    held: &Object,
+    options: &DeleteOptions,
+    before: u64,
+    moment: Moment,
+) -> Result<(Reply, Option<Write>), Fault>
+    requires { before ≤ greatest_revision }
+    ensures { Serves (by_decision (name_of key) (kept_code options.now.policy) held.now.value before
+        (decided key.kind (options_seen options.now) moment held.now.value)) result }
+{
+    match decide_delete(alloc, key.kind, held, options, moment) {
+        Ok(fate) => by_fate(alloc, key, kept_code(options.policy), held, before, fate),
+        Err(DeleteFault::Mismatch(why)) => Err(Fault::Conflict(key, why)),
+        Err(DeleteFault::NoMemory) => Err(Fault::NoMemory),
+    }
+}
+
+/// The HTTP status code for an object that is not removed: it is accepted that its dependents go first.
+fn kept_code(policy: Option<Policy>) -> u16
+    ensures { result ≡ kept_code policy }
+{
+    match policy {
+        Some(Policy::Foreground) => 202,
+        _ => 200,
+    }
+}
+
+/// What is answered to a delete with this fate, and written.
+fn by_fate(
+    alloc: Global,
+    key: Key,
+    code: u16,
+    held: &Object,
+    before: u64,
+    fate: Fate,
+) -> Result<(Reply, Option<Write>), Fault>
+    requires { before ≤ greatest_revision }
+    ensures { Serves (by_fate (name_of key) code held.now.value before (fate_seen fate)) result }
+{
+    match fate {
+        Fate::Remove => remove(alloc, key, held, before),
+        Fate::Mark(object) => put_mark(alloc, key, code, object, before),
+        Fate::Keep => {
+            let text = held.text(alloc)?;
+            Ok((Reply { code, text }, None))
+        }
+    }
+}
+
+/// The object as it is marked, put in the place of the one that is held, unless there is no room for a write. It has no
+/// greatest length: what is too long to be marked could not be deleted.
+fn put_mark(
+    alloc: Global,
+    key: Key,
+    code: u16,
+    object: Object,
+    before: u64,
+) -> Result<(Reply, Option<Write>), Fault>
+    requires { before ≤ greatest_revision }
+    ensures { Serves (put_mark code (name_of key) object.value before) result }
+{
+    if is_full(before) {
+        return Err(Fault::StorageFull);
+    }
+    let object = at_revision(alloc, object, before)?;
+    let text = object.text(alloc)?;
+    let write = Write {
+        key,
+        put: Some(object),
+    };
+    Ok((Reply { code, text }, Some(write)))
+}
+
+/// The object under a key removed, unless there is no room for a write.
+fn remove(
+    alloc: Global,
+    key: Key,
+    held: &Object,
+    before: u64,
+) -> Result<(Reply, Option<Write>), Fault>
+    requires { before ≤ greatest_revision }
+    ensures { Serves (let_go (name_of key) (removal_of key.kind (name_of key) (before + 1) held.now.value) before) result }
+{
+    if is_full(before) {
+        return Err(Fault::StorageFull);
+    }
+    let text = removal_text(alloc, &key, held, before)?;
+    let removal = Write { key, put: None };
+    Ok((Reply { code: 200, text }, Some(removal)))
+}
+
+/// The text that answers a removal: of a Pod the Pod, at the revision of its removal, of the others that it is gone.
+fn removal_text(alloc: Global, key: &Key, held: &Object, before: u64) -> Result<String, AllocError>
+    requires { before ≤ greatest_revision }
+    ensures { IfOk result (λ t. string_bytes t
+        ≡ compact_text (removal_of key.now.kind (name_of key.now) (before + 1) held.now.value)) }
+{
+    match key.kind {
+        Kind::ConfigMap => gone_text(alloc, key, held),
+        Kind::Pod => {
+            let copy = held.try_copy()?;
+            let last = at_revision(alloc, copy, before)?;
+            last.text(alloc)
+        }
+        Kind::ReplicaSet => gone_text(alloc, key, held),
+        Kind::Deployment => gone_text(alloc, key, held),
+    }
+}
+
+/// The text that says that an object is gone.
+fn gone_text(alloc: Global, key: &Key, held: &Object) -> Result<String, AllocError>
+    ensures { IfOk result (λ t. string_bytes t ≡ compact_text (gone (name_of key.now) held.now.value)) }
+{
+    success_text(alloc, Some((key, held.uid().unwrap_or(""))))
+}
