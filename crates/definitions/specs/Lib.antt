@@ -44,6 +44,7 @@ pub mod SelectorTexts
 pub mod SelectorValues
 pub mod Selectors
 pub mod SentLaws
+pub mod Snapshots
 pub mod Streams
 pub mod Targets
 pub mod Uids
