@@ -20,15 +20,18 @@ pub record Listed : Type 0 where
   pub revision : ℕ
   pub members : Members
 
+abbrev pub listed_as : ℕ → Members → Listed
+listed_as r ms = record { revision = r; members = ms }
+
 -- what is answered where revision r is asked: where it is not yet present, nothing (Kubernetes API Concepts, Unavailable resource versions)
 abbrev pub once_present : {X : Type 0} → ℕ → ℕ → X → Result X Refusal
 once_present now r x = if nat_lt now r then Err (too_new r now) else Ok x
 
 -- the list that is asked, by the present revision, the list there, and the one at each revision
 abbrev pub listed_at : ℕ → Members → (ℕ → Result Members Refusal) → At → Result Listed Refusal
-listed_at now ms earlier newest = Ok (record { revision = now; members = ms })
-listed_at now ms earlier (not_older r) = once_present now r (record { revision = now; members = ms })
-listed_at now ms earlier (exact r) = result_map_both (λ held. record { revision = r; members = held }) (λ f. f) (earlier r)
+listed_at now ms earlier newest = Ok (listed_as now ms)
+listed_at now ms earlier (not_older r) = once_present now r (listed_as now ms)
+listed_at now ms earlier (exact r) = result_map_both (listed_as r) (λ f. f) (earlier r)
 
 -- the list of the view, from a window of this size
 abbrev pub list_for : ℕ → History → View → At → Result Listed Refusal
