@@ -10,8 +10,8 @@ use Rattle.definitions.specs.History.{History, Write, write, compaction, Members
 use Rattle.definitions.specs.Refusals.{too_new}
 use Rattle.definitions.specs.Verbs.{accept_at, accept, write_of, with_write}
 use Rattle.definitions.specs.Snapshots.{Snapshot, snapshot, written}
-use Rattle.definitions.specs.Windows.{Kept, Window, is_of, kept_of, recorded, compacted_to, Tracks}
-use Rattle.definitions.specs.Servers.{Server, opened_server, window_of, with_window, kept_at, after_write, after_writing, after_compaction, Holds}
+use Rattle.definitions.specs.Windows.{Kept, Window, is_of, kept_of, recorded, compacted_to}
+use Rattle.definitions.specs.Servers.{Server, opened_server, window_of, with_window, kept_at, after_write, after_writing, after_compaction, IsWindow, Holds}
 use Rattle.definitions.specs.ServerLaws.{ServersOpen, ServersWrite, HoldOrRefuse, ServersCompact, ServersAccept}
 use Rattle.definitions.proofs.Past.{writes-append, whole}
 use Rattle.definitions.proofs.PutLaws.{found-after_all}
@@ -95,10 +95,6 @@ window_compacted ConfigMap s r = refl
 window_compacted Pod s r = refl
 window_compacted ReplicaSet s r = refl
 window_compacted Deployment s r = refl
-
--- a window of the kind and this size that follows the history
-abbrev pub IsWindow : ℕ → Kind → History → Window → Type 0
-IsWindow size k h x = (x.kind ≡ k) × (x.size ≡ size) × Tracks x h
 
 window_opened : (size : ℕ) (k : Kind) → IsWindow size k [] (window_of k (opened_server size))
 window_opened size ConfigMap = (refl, refl, follows_new ConfigMap size)

@@ -45,6 +45,7 @@ pub mod SelectorValues
 pub mod Selectors
 pub mod SentLaws
 pub mod ServerCodes
+pub mod ServerExamples
 pub mod ServerLaws
 pub mod Servers
 pub mod SnapshotCodes

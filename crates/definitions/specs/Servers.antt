@@ -79,6 +79,10 @@ compact_by s r = once_present s.snapshot.revision r (after_compaction s r)
 
 -- ---- how it goes with a history
 
--- what is there is what the history left there, and each window has its kind and this size and follows the history
+-- a window of the kind and of this size that follows the history
+abbrev pub IsWindow : ℕ → Kind → History → Window → Type 0
+IsWindow size k h w = (w.kind ≡ k) × (w.size ≡ size) × Tracks w h
+
+-- what is there is what the history left there, and each window is of its kind and follows the history
 abbrev pub Holds : ℕ → Server → History → Type 0
-Holds size s h = (s.snapshot ≡ snapshot h) × ((k : Kind) → ((window_of k s).kind ≡ k) × ((window_of k s).size ≡ size) × Tracks (window_of k s) h)
+Holds size s h = (s.snapshot ≡ snapshot h) × ((k : Kind) → IsWindow size k h (window_of k s))
