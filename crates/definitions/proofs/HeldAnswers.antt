@@ -1,13 +1,13 @@
 -- What servers answer.
-use Rattle.std.proofs.Common.{◌≡◌, ◌≤◌, ℕ, ◌+◌, Bool, true, false, refl, sym, ap, ◌∙◌, arith}
+use Rattle.std.proofs.Common.{◌≡◌, ◌≤◌, ℕ, ◌+◌, Bool, true, false, refl, sym, ap, ◌∙◌}
 use Rattle.std.specs.Prelude.{nat_lt, ◌↔◌, Result, Ok, Err, IsOk}
 use Rattle.std.specs.Result.{result_map_both}
 use Rattle.std.proofs.lemmas.Bool.{le-ltb, ltb-false}
-use Rattle.definitions.specs.History.{History, View, Members, present, viewed, list}
+use Rattle.definitions.specs.History.{Members, present, viewed, list}
 use Rattle.definitions.specs.Refusals.{Refusal}
-use Rattle.definitions.specs.Windows.{floor, Window, list_kept, list_within, since, since_kept}
+use Rattle.definitions.specs.Windows.{list_kept, list_within, since, since_kept}
 use Rattle.definitions.specs.Versions.{At, newest, not_older, exact, listed_as, once_present, listed_at, watched}
-use Rattle.definitions.specs.Servers.{Server, window_of, Holds}
+use Rattle.definitions.specs.Servers.{window_of}
 use Rattle.definitions.specs.ServerLaws.{ServersList, ServersWatch, ListsAreServed}
 use Rattle.definitions.proofs.ServedWindows.{watch_served, list_undone, revisions_served}
 

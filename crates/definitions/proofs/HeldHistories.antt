@@ -1,18 +1,18 @@
 -- Servers that go on holding a history.
-use Rattle.std.proofs.Common.{◌≡◌, ℕ, ◌+◌, ◌-◌, List, [], ◌∷◌, ◌++◌, length, Bool, true, false, cond, Option, Some, None, refl, sym, ap, ap₂, ◌∙◌, subst, arith, length-append, append-nil}
-use Rattle.std.specs.Prelude.{nat_lt, ◌==◌, Result, Ok, Err}
+use Rattle.std.proofs.Common.{◌≡◌, ◌≤◌, ℕ, ◌+◌, ◌-◌, List, [], ◌∷◌, ◌++◌, length, Bool, true, false, cond, Option, Some, None, refl, sym, ap, ap₂, ◌∙◌, subst, arith, length-append, append-nil}
+use Rattle.std.specs.Prelude.{nat_lt, ◌==◌, Ok, Err}
+use Rattle.std.proofs.lemmas.Bool.{ltb-false}
 use Rattle.serde_json.specs.Data.{Data}
 use Rattle.definitions.specs.declared.kinds.Kind.{Kind}
 use Rattle.definitions.specs.declared.kinds.Kind.TheVariants.{ConfigMap, Pod, ReplicaSet, Deployment}
 use Rattle.definitions.specs.Kinds.{rank}
-use Rattle.definitions.specs.Names.{Name}
-use Rattle.definitions.specs.History.{History, Write, write, compaction, Members, writes, present, members, found, after, after_all}
+use Rattle.definitions.specs.History.{History, Write, write, compaction, Members, writes, Follows, CanHappen, present, members, found, after, after_all}
 use Rattle.definitions.specs.Refusals.{too_new}
 use Rattle.definitions.specs.Verbs.{accept_at, accept, write_of, with_write}
 use Rattle.definitions.specs.Snapshots.{Snapshot, snapshot, written}
 use Rattle.definitions.specs.Windows.{Kept, Window, is_of, kept_of, recorded, compacted_to}
 use Rattle.definitions.specs.Servers.{Server, opened_server, window_of, with_window, kept_at, after_write, after_writing, after_compaction, IsWindow, Holds}
-use Rattle.definitions.specs.ServerLaws.{ServersOpen, ServersWrite, HoldOrRefuse, ServersCompact, ServersAccept}
+use Rattle.definitions.specs.ServerLaws.{ServersOpen, ServersWrite, HoldOrRefuse, ServersCompact, CompactionsHappen, ServersAccept}
 use Rattle.definitions.proofs.Past.{writes-append, whole}
 use Rattle.definitions.proofs.PutLaws.{found-after_all}
 use Rattle.definitions.proofs.SentChanges.{same_kind}
@@ -142,6 +142,19 @@ pub compaction_holds : ServersCompact
 compaction_holds size s h r is =
     subst (λ now. HoldOrRefuse size (cond (nat_lt now r) (Err (too_new r now)) (Ok (after_compaction s r))) (cond (nat_lt (present h) r) (Err (too_new r (present h))) (Ok (h ++ compaction r ∷ []))))
     (sym (ap (λ z. z.revision) is.0)) (hold_or_refuse (nat_lt (present h) r) size (present h) r (after_compaction s r) (h ++ compaction r ∷ []) (compacted_holds size s h r is))
+
+follows_compaction : (r n c : ℕ) (h : History) → n ≡ r + length (writes h) → c ≤ n → Follows r h → Follows r (h ++ compaction c ∷ [])
+follows_compaction r n c [] is le f = (omega (arith, is, le), tt)
+follows_compaction r n c (write w ∷ h) is le f = follows_compaction (r + 1) n c h (omega (arith, is)) le f
+follows_compaction r n c (compaction d ∷ h) is le f = (f.0, follows_compaction r n c h is le f.1)
+
+happens_at : (b : Bool) (now r : ℕ) (h more : History) → nat_lt now r ≡ b → cond b (Err (too_new r now)) (Ok h) ≡ Ok more → (r ≤ now → CanHappen h) → CanHappen more
+happens_at true now r h more m is f = cc
+happens_at false now r h more m is f = let same : h ≡ more = cc in subst CanHappen same (f (ltb-false now r m))
+
+pub compaction_happens : CompactionsHappen
+compaction_happens h more r is f =
+    happens_at (nat_lt (present h) r) (present h) r (h ++ compaction r ∷ []) more refl is (λ le. follows_compaction 1 (present h) r h (omega arith) le f)
 
 -- ---- requests
 

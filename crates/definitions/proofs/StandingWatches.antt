@@ -1,18 +1,18 @@
 -- Where a watch stands that has been given its first changes.
-use Rattle.std.proofs.Common.{zero, suc, ◌≡◌, ◌≤◌, ◌<◌, ℕ, ◌+◌, List, [], ◌∷◌, ◌++◌, map, length, take, drop, filter, Bool, true, false, cond, refl, sym, ap, ap₂, ◌∙◌, subst, arith, append-nil}
-use Rattle.std.specs.Prelude.{nat_lt, nat_le, Result, Ok, Err}
+use Rattle.std.proofs.Common.{zero, suc, ◌≡◌, ◌≤◌, ℕ, ◌+◌, ◌-◌, List, [], ◌∷◌, ◌++◌, map, length, take, drop, filter, Bool, true, false, cond, refl, sym, ap, ap₂, ◌∙◌, subst, arith, append-nil}
+use Rattle.std.specs.Prelude.{nat_lt, nat_le, Ok}
 use Rattle.std.specs.Result.{result_map_both}
 use Rattle.std.proofs.lemmas.Bool.{ltb-false, ltb-true, le-ltb, leb-true, leb-false, le-leb, lt-leb}
-use Rattle.std.proofs.lemmas.List.{take-append-drop, take-take, take_all, length-take}
+use Rattle.std.proofs.lemmas.List.{take-append-drop, take-append-le, take-take, take_all, length-take}
 use Rattle.std.proofs.lemmas.List.Elements.{filter-append}
-use Rattle.definitions.specs.History.{History, View, present, list}
-use Rattle.definitions.specs.Refusals.{Refusal}
-use Rattle.definitions.specs.Changes.{Change, changes, play}
-use Rattle.definitions.specs.Streams.{Line, change, bookmark, Goes, IsStream, play_lines}
+use Rattle.definitions.specs.History.{History, View, writes, present, up_to, list}
+use Rattle.definitions.specs.Changes.{Change, changes, changes_after, play}
+use Rattle.definitions.specs.Streams.{Line, change, bookmark, Goes, IsStream}
 use Rattle.definitions.specs.WatchLaws.{AreBetween}
-use Rattle.definitions.specs.Windows.{floor, within, since}
+use Rattle.definitions.specs.Windows.{floor, within}
 use Rattle.definitions.specs.Versions.{Watched, last_change, watched, watched_from, bookmark_above, lines_from}
-use Rattle.definitions.specs.ServerLaws.{WatchesStand}
+use Rattle.definitions.specs.ServerLaws.{WatchesStand, WatchesGoOn}
+use Rattle.definitions.proofs.Past.{writes-append}
 use Rattle.definitions.proofs.Played.{list_played, goes_on, lie_between}
 use Rattle.definitions.proofs.Streamed.{stream_played}
 
@@ -109,13 +109,20 @@ lines_stream h v a w s =
     subst (λ cs. Goes a w.stands cs (lines_from a w)) (sym s.3)
     (lines_go w.changes a w.stands (bookmark_above (last_change a w.changes) w.stands) (bookmark_goes (nat_lt (last_change a w.changes) w.stands) (last_change a w.changes) w.stands refl))
 
-pub watches_stand : WatchesStand
-watches_stand size h v a n w is =
+-- a watch that is given something stands
+given_stands : (size : ℕ) (h : History) (v : View) (a n : ℕ) (w : Watched) → watched_from size h v a n ≡ Ok w
+    → (floor v.kind size h ≤ a) × (a ≤ present h) × (watched (present h) a n (changes h v a (present h)) ≡ w) × Stands h v a w
+given_stands size h v a n w is =
     let given = given_at (nat_lt a (floor v.kind size h)) (nat_lt (present h) a) (floor v.kind size h) (present h) a (watched (present h) a n) (take (n + 1) (changes h v a (present h))) w refl refl is in
     let same : watched (present h) a n (changes h v a (present h)) ≡ w = sym (one_more_tells (present h) a n (changes h v a (present h))) ∙ given.2 in
-    let s : Stands h v a w = subst (Stands h v a) same (stands_at (nat_le (length (changes h v a (present h))) n) h v a n given.1 refl) in
+    (given.0, given.1, same, subst (Stands h v a) same (stands_at (nat_le (length (changes h v a (present h))) n) h v a n given.1 refl))
+
+pub watches_stand : WatchesStand
+watches_stand size h v a n w is =
+    let given = given_stands size h v a n w is in
+    let s = given.3 in
     let stream = lines_stream h v a w s in (
-      rw (le-ltb a (floor v.kind size h) given.0, le-ltb (present h) a given.1) (ap (λ z. Ok z.changes) same),
+      rw (le-ltb a (floor v.kind size h) given.0, le-ltb (present h) a given.1) (ap (λ z. Ok z.changes) given.2),
       s.0,
       s.1,
       stream,
@@ -123,3 +130,16 @@ watches_stand size h v a n w is =
       stream_played h v a w.stands (lines_from a w) s.0 stream,
       goes_on h v a w.stands (present h) s.0 s.1 ∙ ap (λ cs. cs ++ changes h v w.stands (present h)) s.3,
     )
+
+-- ---- after it
+
+writes_past : (h more : History) (r : ℕ) → r ≤ present h → up_to r (h ++ more) ≡ up_to r h
+writes_past h more r le = ap (take (r - 1)) (writes-append h more) ∙ take-append-le (r - 1) (writes h) (writes more) (omega arith)
+
+changes_past : (h more : History) (v : View) (a b : ℕ) → a ≤ b → b ≤ present h → changes (h ++ more) v a b ≡ changes h v a b
+changes_past h more v a b le lt = ap₂ (λ before ws. changes_after v before (drop (a - 1) ws)) (writes_past h more a (omega (arith, le, lt))) (writes_past h more b lt)
+
+pub watches_go_on : WatchesGoOn
+watches_go_on size h more v a n b w is le =
+    let s = (given_stands size h v a n w is).3 in
+    goes_on (h ++ more) v a w.stands b s.0 le ∙ ap (λ cs. cs ++ changes (h ++ more) v w.stands b) (changes_past h more v a w.stands s.0 s.1 ∙ s.3)

@@ -1,6 +1,6 @@
 -- What follows from the definitions of servers: one that follows a history answers as the history does.
 use Rattle.std.specs.Prelude.{◌≡◌, ◌≤◌, ◌↔◌, ℕ, [], ◌∷◌, ◌++◌, List, Result, Ok, Err, IsOk}
-use Rattle.definitions.specs.History.{History, Write, write, View, present, list}
+use Rattle.definitions.specs.History.{History, Write, write, CanHappen, View, present, list}
 use Rattle.definitions.specs.Refusals.{Refusal}
 use Rattle.definitions.specs.Verbs.{Request, accept_at, accept, write_of, history_after}
 use Rattle.definitions.specs.Changes.{changes, play}
@@ -27,6 +27,10 @@ HoldOrRefuse size (Ok s) (Err g) = ⊥
 -- a compaction is refused as the history refuses it, or the server after it holds the history after it
 abbrev pub ServersCompact : Type 0
 ServersCompact = (size : ℕ) (s : Server) (h : History) (r : ℕ) → Holds size s h → HoldOrRefuse size (compact_by s r) (compacts h r)
+
+-- what is compacted has happened
+abbrev pub CompactionsHappen : Type 0
+CompactionsHappen = (h more : History) (r : ℕ) → compacts h r ≡ Ok more → CanHappen h → CanHappen more
 
 -- a request is answered as after all that has happened, and the server after its write holds the history after it
 abbrev pub ServersAccept : Type 0
@@ -55,6 +59,12 @@ WatchesStand =
     × (play (list h v a) w.changes ≡ list h v w.stands)
     × (play_lines (list h v a) (lines_from a w) ≡ list h v w.stands)
     × (changes h v a (present h) ≡ w.changes ++ changes h v w.stands (present h))
+
+-- whatever happens after it, the changes from a are what it was given and then those from where it stands
+abbrev pub WatchesGoOn : Type 0
+WatchesGoOn =
+    (size : ℕ) (h more : History) (v : View) (a n b : ℕ) (w : Watched) → watched_from size h v a n ≡ Ok w → w.stands ≤ b
+    → changes (h ++ more) v a b ≡ w.changes ++ changes (h ++ more) v w.stands b
 
 -- a list at a revision is answered from the floor up to the present one, one that is not older up to the present one, and the newest always
 abbrev pub ListsAreServed : Type 0

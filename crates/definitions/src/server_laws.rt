@@ -1,5 +1,5 @@
 //! Laws of servers that hold windows in the place of a history.
-ghost use Rattle.definitions.specs.ServerLaws.{ServersOpen, ServersWrite, ServersCompact, ServersAccept, ServersList, ServersWatch, WatchesStand, ListsAreServed};
+ghost use Rattle.definitions.specs.ServerLaws.{ServersOpen, ServersWrite, ServersCompact, CompactionsHappen, ServersAccept, ServersList, ServersWatch, WatchesStand, WatchesGoOn, ListsAreServed};
 
 /// A new server holds a history in which nothing has happened.
 pub fn servers_open()
@@ -17,6 +17,11 @@ pub fn servers_compact()
     ensures { ServersCompact }
 {}
 
+/// Nothing is compacted that has not happened.
+pub fn compactions_happen()
+    ensures { CompactionsHappen }
+{}
+
 /// Each request is answered as if all that has ever happened were at hand, and its write is held from then on.
 pub fn servers_accept()
     ensures { ServersAccept }
@@ -32,10 +37,15 @@ pub fn servers_watch()
     ensures { ServersWatch }
 {}
 
-/// A watch that goes on from where it stands misses no change and gets none twice, however few it is given at a time; who
-/// plays what it was given on the list where it began holds the list where it stands.
+/// What a watch is given are all changes up to where it stands, however few it is given at a time: who plays them on the
+/// list where it began holds the list where it stands.
 pub fn watches_stand()
     ensures { WatchesStand }
+{}
+
+/// A watch that goes on from where it stands misses no change and gets none twice, whatever has happened meanwhile.
+pub fn watches_go_on()
+    ensures { WatchesGoOn }
 {}
 
 /// A list is refused only where its revision has gone or is not yet there; the newest never is.
