@@ -9,6 +9,8 @@ pub mod Falling
 pub mod FollowedWindows
 pub mod Generations
 pub mod Guards
+pub mod HeldAnswers
+pub mod HeldHistories
 pub mod HeldMembers
 pub mod JsonMembers
 pub mod JsonOrder
@@ -40,6 +42,7 @@ pub mod SentObjects
 pub mod SentRuns
 pub mod SentVerbs
 pub mod ServedWindows
+pub mod StandingWatches
 pub mod Streamed
 pub mod TaskOrder
 pub mod TextLengths

@@ -44,6 +44,11 @@ pub mod SelectorTexts
 pub mod SelectorValues
 pub mod Selectors
 pub mod SentLaws
+pub mod ServerCodes
+pub mod ServerExamples
+pub mod ServerLaws
+pub mod Servers
+pub mod SnapshotCodes
 pub mod Snapshots
 pub mod Streams
 pub mod Targets
@@ -51,8 +56,10 @@ pub mod Uids
 pub mod Values
 pub mod VerbExamples
 pub mod Verbs
+pub mod Versions
 pub mod WatchExamples
 pub mod WatchLaws
+pub mod WindowCodes
 pub mod WindowExamples
 pub mod WindowLaws
 pub mod Windows

@@ -9,11 +9,11 @@ use Rattle.definitions.specs.Refusals.{Refusal, expired, too_new}
 use Rattle.definitions.specs.Changes.{Change}
 use Rattle.definitions.specs.Windows.{Kept, writes_of, floor, since, list_within, Window, opened, recorded, since_kept, list_kept}
 
-abbrev named : Kind → List ℕ → Name
+abbrev pub named : Kind → List ℕ → Name
 named kind name = record { kind = kind; namespace = codes "default"; name = name }
 
 -- an object of a name, with a version
-abbrev stored : List ℕ → List ℕ → Data
+abbrev pub stored : List ℕ → List ℕ → Data
 stored name version = object (member (codes "metadata") (object (member (codes "name") (string name) (member (codes "resourceVersion") (string version) no_members))) no_members)
 
 abbrev puts : Kind → List ℕ → List ℕ → Entry
@@ -23,7 +23,7 @@ abbrev removes : Kind → List ℕ → Entry
 removes kind name = write (record { key = named kind name; put = None })
 
 -- six writes of ConfigMaps, at revisions 2 to 7
-abbrev six_writes : History
+abbrev pub six_writes : History
 six_writes =
     puts ConfigMap (codes "a") (codes "2")
     ∷ puts ConfigMap (codes "b") (codes "3")
@@ -33,13 +33,13 @@ six_writes =
     ∷ puts ConfigMap (codes "a") (codes "7")
     ∷ []
 
-abbrev config_maps : View
+abbrev pub config_maps : View
 config_maps = whole ConfigMap None
 
-abbrev at_three : Members
+abbrev pub at_three : Members
 at_three = (named ConfigMap (codes "a"), stored (codes "a") (codes "2")) ∷ (named ConfigMap (codes "b"), stored (codes "b") (codes "3")) ∷ []
 
-abbrev at_five : Members
+abbrev pub at_five : Members
 at_five =
     (named ConfigMap (codes "a"), stored (codes "a") (codes "4"))
     ∷ (named ConfigMap (codes "b"), stored (codes "b") (codes "3"))

@@ -24,6 +24,8 @@ pub mod selector_examples;
 pub mod selector_laws;
 pub mod selectors;
 pub mod sent_laws;
+pub mod server_examples;
+pub mod server_laws;
 pub mod verb_examples;
 pub mod watch_examples;
 pub mod watch_laws;

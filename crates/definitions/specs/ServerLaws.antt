@@ -1,0 +1,75 @@
+-- What follows from the definitions of servers: one that follows a history answers as the history does.
+use Rattle.std.specs.Prelude.{◌≡◌, ◌≤◌, ◌↔◌, ℕ, [], ◌∷◌, ◌++◌, List, Result, Ok, Err, IsOk}
+use Rattle.definitions.specs.History.{History, Write, write, CanHappen, View, present, list}
+use Rattle.definitions.specs.Refusals.{Refusal}
+use Rattle.definitions.specs.Verbs.{Request, accept_at, accept, write_of, history_after}
+use Rattle.definitions.specs.Changes.{changes, play}
+use Rattle.definitions.specs.Streams.{IsStream, play_lines}
+use Rattle.definitions.specs.Windows.{floor, since}
+use Rattle.definitions.specs.Versions.{At, newest, not_older, exact, Watched, list_for, watched_from, lines_from, compacts}
+use Rattle.definitions.specs.Servers.{Server, opened_server, after_write, after_writing, list_by, watch_by, compact_by, Holds}
+
+-- a new server holds the empty history
+abbrev pub ServersOpen : Type 0
+ServersOpen = (size : ℕ) → Holds size (opened_server size) []
+
+-- after a write it holds the history with that write
+abbrev pub ServersWrite : Type 0
+ServersWrite = (size : ℕ) (s : Server) (h : History) (w : Write) → Holds size s h → Holds size (after_write s w) (h ++ write w ∷ [])
+
+-- both are refused, and alike, or the server holds the history
+abbrev pub HoldOrRefuse : ℕ → Result Server Refusal → Result History Refusal → Type 0
+HoldOrRefuse size (Err f) (Err g) = f ≡ g
+HoldOrRefuse size (Ok s) (Ok h) = Holds size s h
+HoldOrRefuse size (Err f) (Ok h) = ⊥
+HoldOrRefuse size (Ok s) (Err g) = ⊥
+
+-- a compaction is refused as the history refuses it, or the server after it holds the history after it
+abbrev pub ServersCompact : Type 0
+ServersCompact = (size : ℕ) (s : Server) (h : History) (r : ℕ) → Holds size s h → HoldOrRefuse size (compact_by s r) (compacts h r)
+
+-- what is compacted has happened
+abbrev pub CompactionsHappen : Type 0
+CompactionsHappen = (h more : History) (r : ℕ) → compacts h r ≡ Ok more → CanHappen h → CanHappen more
+
+-- a request is answered as after all that has happened, and the server after its write holds the history after it
+abbrev pub ServersAccept : Type 0
+ServersAccept =
+    (size : ℕ) (s : Server) (h : History) (q : Request) (moment : List ℕ) → Holds size s h
+    → (accept_at q s.snapshot.members s.snapshot.revision moment ≡ accept q h moment)
+    × Holds size (after_writing s (write_of (accept q h moment))) (history_after h (accept q h moment))
+
+-- its lists are those of the history
+abbrev pub ServersList : Type 0
+ServersList = (size : ℕ) (s : Server) (h : History) (v : View) (at : At) → Holds size s h → list_by s v at ≡ list_for size h v at
+
+-- what it gives to a watch is what the history says
+abbrev pub ServersWatch : Type 0
+ServersWatch = (size : ℕ) (s : Server) (h : History) (v : View) (a n : ℕ) → Holds size s h → watch_by s v a n ≡ watched_from size h v a n
+
+-- what a watch from a is given are the first changes after a, and all up to where it then stands: its lines are a stream up to there,
+-- to play it on the list at a gives the list there, and the changes from there on are all that it has not been given
+abbrev pub WatchesStand : Type 0
+WatchesStand =
+    (size : ℕ) (h : History) (v : View) (a n : ℕ) (w : Watched) → watched_from size h v a n ≡ Ok w
+    → (since size h v a n ≡ Ok w.changes)
+    × (a ≤ w.stands)
+    × (w.stands ≤ present h)
+    × IsStream h v a w.stands (lines_from a w)
+    × (play (list h v a) w.changes ≡ list h v w.stands)
+    × (play_lines (list h v a) (lines_from a w) ≡ list h v w.stands)
+    × (changes h v a (present h) ≡ w.changes ++ changes h v w.stands (present h))
+
+-- whatever happens after it, the changes from a are what it was given and then those from where it stands
+abbrev pub WatchesGoOn : Type 0
+WatchesGoOn =
+    (size : ℕ) (h more : History) (v : View) (a n b : ℕ) (w : Watched) → watched_from size h v a n ≡ Ok w → w.stands ≤ b
+    → changes (h ++ more) v a b ≡ w.changes ++ changes (h ++ more) v w.stands b
+
+-- a list at a revision is answered from the floor up to the present one, one that is not older up to the present one, and the newest always
+abbrev pub ListsAreServed : Type 0
+ListsAreServed =
+    (size : ℕ) (h : History) (v : View) (r : ℕ)
+    → (IsOk (list_for size h v (exact r)) ↔ ((floor v.kind size h ≤ r) × (r ≤ present h)))
+    × (IsOk (list_for size h v (not_older r)) ↔ (r ≤ present h))
+    × IsOk (list_for size h v newest)
