@@ -5,6 +5,8 @@ pub mod CheckExamples
 pub mod CheckLaws
 pub mod Checks
 pub mod Codes
+pub mod CollectionExamples
+pub mod Collections
 pub mod Defaults
 pub mod DeleteOptions
 pub mod Deletion
@@ -21,12 +23,16 @@ pub mod Labels
 pub mod Laws
 pub mod LifecycleLaws
 pub mod Lines
+pub mod Lists
 pub mod Metadata
 pub mod Moments
 pub mod Names
 pub mod NewObjects
 pub mod Objects
+pub mod PageTokens
+pub mod Pages
 pub mod Queries
+pub mod ReadTokens
 pub mod Reading
 pub mod ReflectorCodes
 pub mod ReflectorExamples
@@ -60,6 +66,7 @@ pub mod Versions
 pub mod WatchExamples
 pub mod WatchLaws
 pub mod WindowCodes
+pub mod WatchReplies
 pub mod WindowExamples
 pub mod WindowLaws
 pub mod Windows

@@ -6,6 +6,7 @@ pub mod amounts;
 pub mod board_laws;
 pub mod check_examples;
 pub mod check_laws;
+pub mod collection_examples;
 pub mod controllers;
 pub mod deletion_examples;
 pub mod examples;
