@@ -112,22 +112,24 @@ recorded_is true size s h w k is of =
     let same : k ≡ w.key.kind = same_kind k w.key.kind (rw of refl) in
     let held = is.1 k in
     let after : window_of k (after_write s w) ≡ recorded (window_of k s) (kept_of (writes h) w) =
-      ap (λ j. window_of k (with_window j (recorded (window_of j s) (kept_at s.snapshot w)) (record s { snapshot = written s.snapshot w }))) (sym same)
-      ∙ window_set k (recorded (window_of k s) (kept_at s.snapshot w)) (record s { snapshot = written s.snapshot w })
-      ∙ ap (recorded (window_of k s)) (ap (λ z. kept_at z w) is.0 ∙ sym (kept_now h w)) in
+    ap (λ j. window_of k (with_window j (recorded (window_of j s) (kept_at s.snapshot w)) (record s { snapshot = written s.snapshot w }))) (sym same)
+    ∙ window_set k (recorded (window_of k s) (kept_at s.snapshot w)) (record s { snapshot = written s.snapshot w })
+    ∙ ap (recorded (window_of k s)) (ap (λ z. kept_at z w) is.0 ∙ sym (kept_now h w)) in
     subst (IsWindow size k (h ++ write w ∷ [])) (sym after)
     (held.0, held.1, follows_recorded (window_of k s) h w held.2 (ap (λ j. is_of j w.key) held.0 ∙ of))
 recorded_is false size s h w k is of =
     let held = is.1 k in
     let after : window_of k (after_write s w) ≡ window_of k s =
-      window_left k w.key.kind (recorded (window_of w.key.kind s) (kept_at s.snapshot w)) (record s { snapshot = written s.snapshot w }) of
-      ∙ window_as_before k (written s.snapshot w) s in
+    window_left k w.key.kind (recorded (window_of w.key.kind s) (kept_at s.snapshot w)) (record s { snapshot = written s.snapshot w }) of
+    ∙ window_as_before k (written s.snapshot w) s in
     subst (IsWindow size k (h ++ write w ∷ [])) (sym after) (held.0, held.1, follows_still (window_of k s) h w held.2 (ap (λ j. is_of j w.key) held.0 ∙ of))
 
 pub written_holds : ServersWrite
-written_holds size s h w is =
-    (snapshot_kept w.key.kind (recorded (window_of w.key.kind s) (kept_at s.snapshot w)) (record s { snapshot = written s.snapshot w })
-    ∙ ap (λ z. written z w) is.0 ∙ snapshot_written h w, λ k. recorded_is (is_of k w.key) size s h w k is refl)
+written_holds size s h w is = (
+  snapshot_kept w.key.kind (recorded (window_of w.key.kind s) (kept_at s.snapshot w)) (record s { snapshot = written s.snapshot w })
+      ∙ ap (λ z. written z w) is.0 ∙ snapshot_written h w,
+  λ k. recorded_is (is_of k w.key) size s h w k is refl,
+)
 
 compacted_holds : (size : ℕ) (s : Server) (h : History) (r : ℕ) → Holds size s h → Holds size (after_compaction s r) (h ++ compaction r ∷ [])
 compacted_holds size s h r is =

@@ -58,7 +58,7 @@ after_compaction s r =
       config_maps = compacted_to s.config_maps r;
       pods = compacted_to s.pods r;
       replica_sets = compacted_to s.replica_sets r;
-      deployments = compacted_to s.deployments r
+      deployments = compacted_to s.deployments r;
     }
 
 -- ---- what it answers
