@@ -1,5 +1,5 @@
 -- Servers that go on holding a history.
-use Rattle.std.proofs.Common.{◌≡◌, ◌≤◌, ℕ, ◌+◌, ◌-◌, List, [], ◌∷◌, ◌++◌, length, Bool, true, false, cond, Option, Some, None, refl, sym, ap, ap₂, ◌∙◌, subst, arith, length-append, append-nil}
+use Rattle.std.proofs.Common.{◌≡◌, ◌≤◌, ℕ, ◌+◌, ◌-◌, List, [], ◌∷◌, ◌++◌, length, Bool, true, false, cond, Option, Some, None, refl, sym, ap, ap₂, ◌∙◌, subst, arith, length-append, append-nil, append_assoc}
 use Rattle.std.specs.Prelude.{nat_lt, ◌==◌, Ok, Err}
 use Rattle.std.proofs.lemmas.Bool.{ltb-false}
 use Rattle.serde_json.specs.Data.{Data}
@@ -11,8 +11,8 @@ use Rattle.definitions.specs.Refusals.{too_new}
 use Rattle.definitions.specs.Verbs.{accept_at, accept, write_of, with_write}
 use Rattle.definitions.specs.Snapshots.{Snapshot, snapshot, written}
 use Rattle.definitions.specs.Windows.{Kept, Window, is_of, kept_of, recorded, compacted_to}
-use Rattle.definitions.specs.Servers.{Server, opened_server, window_of, with_window, kept_at, after_write, after_writing, after_compaction, IsWindow, Holds}
-use Rattle.definitions.specs.ServerLaws.{ServersOpen, ServersWrite, HoldOrRefuse, ServersCompact, CompactionsHappen, ServersAccept}
+use Rattle.definitions.specs.Servers.{Server, opened_server, window_of, with_window, kept_at, after_write, after_writing, after_compaction, after_entries, IsWindow, Holds}
+use Rattle.definitions.specs.ServerLaws.{ServersOpen, ServersWrite, ServersFollow, HoldOrRefuse, ServersCompact, CompactionsHappen, ServersAccept}
 use Rattle.definitions.proofs.Past.{writes-append, whole}
 use Rattle.definitions.proofs.PutLaws.{found-after_all}
 use Rattle.definitions.proofs.SentChanges.{same_kind}
@@ -112,26 +112,36 @@ recorded_is true size s h w k is of =
     let same : k ≡ w.key.kind = same_kind k w.key.kind (rw of refl) in
     let held = is.1 k in
     let after : window_of k (after_write s w) ≡ recorded (window_of k s) (kept_of (writes h) w) =
-      ap (λ j. window_of k (with_window j (recorded (window_of j s) (kept_at s.snapshot w)) (record s { snapshot = written s.snapshot w }))) (sym same)
-      ∙ window_set k (recorded (window_of k s) (kept_at s.snapshot w)) (record s { snapshot = written s.snapshot w })
-      ∙ ap (recorded (window_of k s)) (ap (λ z. kept_at z w) is.0 ∙ sym (kept_now h w)) in
+    ap (λ j. window_of k (with_window j (recorded (window_of j s) (kept_at s.snapshot w)) (record s { snapshot = written s.snapshot w }))) (sym same)
+    ∙ window_set k (recorded (window_of k s) (kept_at s.snapshot w)) (record s { snapshot = written s.snapshot w })
+    ∙ ap (recorded (window_of k s)) (ap (λ z. kept_at z w) is.0 ∙ sym (kept_now h w)) in
     subst (IsWindow size k (h ++ write w ∷ [])) (sym after)
     (held.0, held.1, follows_recorded (window_of k s) h w held.2 (ap (λ j. is_of j w.key) held.0 ∙ of))
 recorded_is false size s h w k is of =
     let held = is.1 k in
     let after : window_of k (after_write s w) ≡ window_of k s =
-      window_left k w.key.kind (recorded (window_of w.key.kind s) (kept_at s.snapshot w)) (record s { snapshot = written s.snapshot w }) of
-      ∙ window_as_before k (written s.snapshot w) s in
+    window_left k w.key.kind (recorded (window_of w.key.kind s) (kept_at s.snapshot w)) (record s { snapshot = written s.snapshot w }) of
+    ∙ window_as_before k (written s.snapshot w) s in
     subst (IsWindow size k (h ++ write w ∷ [])) (sym after) (held.0, held.1, follows_still (window_of k s) h w held.2 (ap (λ j. is_of j w.key) held.0 ∙ of))
 
 pub written_holds : ServersWrite
-written_holds size s h w is =
-    (snapshot_kept w.key.kind (recorded (window_of w.key.kind s) (kept_at s.snapshot w)) (record s { snapshot = written s.snapshot w })
-    ∙ ap (λ z. written z w) is.0 ∙ snapshot_written h w, λ k. recorded_is (is_of k w.key) size s h w k is refl)
+written_holds size s h w is = (
+  snapshot_kept w.key.kind (recorded (window_of w.key.kind s) (kept_at s.snapshot w)) (record s { snapshot = written s.snapshot w })
+      ∙ ap (λ z. written z w) is.0 ∙ snapshot_written h w,
+  λ k. recorded_is (is_of k w.key) size s h w k is refl,
+)
 
 compacted_holds : (size : ℕ) (s : Server) (h : History) (r : ℕ) → Holds size s h → Holds size (after_compaction s r) (h ++ compaction r ∷ [])
 compacted_holds size s h r is =
     (is.0 ∙ snapshot_compacted h r, λ k. subst (IsWindow size k (h ++ compaction r ∷ [])) (sym (window_compacted k s r)) ((is.1 k).0, (is.1 k).1, follows_compacted (window_of k s) h r (is.1 k).2))
+
+pub entries_hold : ServersFollow
+entries_hold size s h [] is = subst (Holds size s) (sym (append-nil h)) is
+entries_hold size s h (write w ∷ more) is =
+    subst (Holds size (after_entries (after_write s w) more)) (append_assoc h (write w ∷ []) more) (entries_hold size (after_write s w) (h ++ write w ∷ []) more (written_holds size s h w is))
+entries_hold size s h (compaction r ∷ more) is =
+    subst (Holds size (after_entries (after_compaction s r) more)) (append_assoc h (compaction r ∷ []) more)
+    (entries_hold size (after_compaction s r) (h ++ compaction r ∷ []) more (compacted_holds size s h r is))
 
 hold_or_refuse : (b : Bool) (size now r : ℕ) (s : Server) (h : History) → Holds size s h
     → HoldOrRefuse size (cond b (Err (too_new r now)) (Ok s)) (cond b (Err (too_new r now)) (Ok h))

@@ -1,13 +1,13 @@
 -- Worked facts of servers, computed from the definitions.
-use Rattle.std.specs.Prelude.{◌≡◌, ℕ, List, [], ◌∷◌, map, None, Result, Ok, Err, codes}
+use Rattle.std.specs.Prelude.{◌≡◌, ℕ, List, [], ◌∷◌, ◌++◌, map, None, Result, Ok, Err, codes}
 use Rattle.std.specs.Result.{result_map_both}
 use Rattle.definitions.specs.declared.kinds.Kind.TheVariants.{ConfigMap, Pod}
-use Rattle.definitions.specs.History.{Write, View, Members, whole, writes}
+use Rattle.definitions.specs.History.{View, Members, whole}
 use Rattle.definitions.specs.Refusals.{Refusal, expired, too_new}
 use Rattle.definitions.specs.Streams.{bookmark}
 use Rattle.definitions.specs.Versions.{newest, not_older, exact, listed_as, list_for, Watched, watched_from, lines_from, compacts}
-use Rattle.definitions.specs.Servers.{Server, opened_server, after_write, after_compaction, list_by, watch_by, compact_by}
-use Rattle.definitions.specs.WindowExamples.{named, stored, six_writes, config_maps, at_three, at_five}
+use Rattle.definitions.specs.Servers.{Server, opened_server, after_entries, after_compaction, list_by, watch_by, compact_by}
+use Rattle.definitions.specs.WindowExamples.{named, stored, puts, six_writes, config_maps, at_three, at_five}
 
 abbrev pods : View
 pods = whole Pod None
@@ -16,14 +16,9 @@ pods = whole Pod None
 abbrev at_seven : Members
 at_seven = (named ConfigMap (codes "a"), stored (codes "a") (codes "7")) ∷ (named ConfigMap (codes "c"), stored (codes "c") (codes "5")) ∷ []
 
--- a server after these writes, one after another
-abbrev after_writes : Server → List Write → Server
-after_writes s [] = s
-after_writes s (w ∷ ws) = after_writes (after_write s w) ws
-
 -- a server with windows of four that has taken in the six writes, at revisions 2 to 7
 abbrev server_of_four : Server
-server_of_four = after_writes (opened_server 4) (writes six_writes)
+server_of_four = after_entries (opened_server 4) six_writes
 
 -- the revisions of the changes that a watch is given, and where it then stands
 abbrev given : Result Watched Refusal → Result (List ℕ × ℕ) Refusal
@@ -42,13 +37,15 @@ ListsAreAnswered =
     × (list_by server_of_four config_maps (exact 5) ≡ Ok (listed_as 5 at_five))
     × (list_by server_of_four config_maps (not_older 2) ≡ Ok (listed_as 7 at_seven))
 
--- a watch that is given two of four changes stands at the second; one that is given all, or none, at the present revision,
--- as a watch of another kind does, which then is shown a bookmark alone
+-- a watch that is given two of four changes stands at the second; one that is given all, or none, at the present revision, which may
+-- be that of a write of another kind, and a bookmark shows it where no change does
 abbrev pub WatchesAreGiven : Type 0
 WatchesAreGiven =
     (given (watched_from 4 six_writes config_maps 3 2) ≡ Ok ((4 ∷ 5 ∷ []), 5))
     × (given (watched_from 4 six_writes config_maps 3 4) ≡ Ok ((4 ∷ 5 ∷ 6 ∷ 7 ∷ []), 7))
+    × (given (watched_from 4 (six_writes ++ puts Pod (codes "p") (codes "8") ∷ []) config_maps 3 4) ≡ Ok ((4 ∷ 5 ∷ 6 ∷ 7 ∷ []), 8))
     × (given (watched_from 4 six_writes config_maps 7 2) ≡ Ok ([], 7))
+    × (result_map_both (lines_from 7) (λ f. f) (watched_from 4 six_writes config_maps 7 2) ≡ Ok [])
     × (given (watched_from 4 six_writes pods 3 2) ≡ Ok ([], 7))
     × (result_map_both (lines_from 3) (λ f. f) (watched_from 4 six_writes pods 3 2) ≡ Ok (bookmark 7 ∷ []))
     × (watched_from 4 six_writes config_maps 2 2 ≡ Err (expired 2 3))

@@ -7,7 +7,7 @@ use Rattle.definitions.specs.Changes.{changes, play}
 use Rattle.definitions.specs.Streams.{IsStream, play_lines}
 use Rattle.definitions.specs.Windows.{floor, since}
 use Rattle.definitions.specs.Versions.{At, newest, not_older, exact, Watched, list_for, watched_from, lines_from, compacts}
-use Rattle.definitions.specs.Servers.{Server, opened_server, after_write, after_writing, list_by, watch_by, compact_by, Holds}
+use Rattle.definitions.specs.Servers.{Server, opened_server, after_write, after_writing, after_entries, list_by, watch_by, compact_by, Holds}
 
 -- a new server holds the empty history
 abbrev pub ServersOpen : Type 0
@@ -16,6 +16,10 @@ ServersOpen = (size : ℕ) → Holds size (opened_server size) []
 -- after a write it holds the history with that write
 abbrev pub ServersWrite : Type 0
 ServersWrite = (size : ℕ) (s : Server) (h : History) (w : Write) → Holds size s h → Holds size (after_write s w) (h ++ write w ∷ [])
+
+-- one that takes in what has happened, entry by entry, holds it all
+abbrev pub ServersFollow : Type 0
+ServersFollow = (size : ℕ) (s : Server) (h more : History) → Holds size s h → Holds size (after_entries s more) (h ++ more)
 
 -- both are refused, and alike, or the server holds the history
 abbrev pub HoldOrRefuse : ℕ → Result Server Refusal → Result History Refusal → Type 0

@@ -1,14 +1,15 @@
 -- A server: what is there, and a window of each kind, and what it answers by these in the place of a history.
-use Rattle.std.specs.Prelude.{◌≡◌, ℕ, ◌+◌, Option, Some, None, Result}
+use Rattle.std.specs.Prelude.{◌≡◌, ℕ, ◌+◌, [], ◌∷◌, Option, Some, None, Result}
 use Rattle.std.specs.Result.{result_map_both}
 use Rattle.definitions.specs.declared.kinds.Kind.{Kind}
 use Rattle.definitions.specs.declared.kinds.Kind.TheVariants.{ConfigMap, Pod, ReplicaSet, Deployment}
-use Rattle.definitions.specs.History.{History, Write, View, viewed, found}
+use Rattle.definitions.specs.History.{History, Write, write, compaction, View, viewed, found}
 use Rattle.definitions.specs.Refusals.{Refusal}
 use Rattle.definitions.specs.Snapshots.{Snapshot, empty, snapshot, written}
 use Rattle.definitions.specs.Versions.{At, Listed, Watched, once_present, listed_at, watched}
 use Rattle.definitions.specs.Windows.{Kept, Window, opened, recorded, compacted_to, since_kept, list_kept, Tracks}
 
+-- what is there, and the last writes of each kind
 pub record Server : Type 0 where
   pub snapshot : Snapshot
   pub config_maps : Window
@@ -58,8 +59,14 @@ after_compaction s r =
       config_maps = compacted_to s.config_maps r;
       pods = compacted_to s.pods r;
       replica_sets = compacted_to s.replica_sets r;
-      deployments = compacted_to s.deployments r
+      deployments = compacted_to s.deployments r;
     }
+
+-- after entries, one after another
+abbrev pub after_entries : Server → History → Server
+after_entries s [] = s
+after_entries s (write w ∷ h) = after_entries (after_write s w) h
+after_entries s (compaction r ∷ h) = after_entries (after_compaction s r) h
 
 -- ---- what it answers
 

@@ -20,6 +20,7 @@ pub record Listed : Type 0 where
   pub revision : ℕ
   pub members : Members
 
+-- these as a list at r
 abbrev pub listed_as : ℕ → Members → Listed
 listed_as r ms = record { revision = r; members = ms }
 
@@ -39,7 +40,7 @@ list_for size h v at = listed_at (present h) (list h v (present h)) (list_within
 
 -- ---- watches
 
--- what a watch is given at a time: changes, and the revision up to which these are all
+-- what a watch is given at a time: changes, and the revision up to which they are all that it asks for
 pub record Watched : Type 0 where
   pub changes : List Change
   pub stands : ℕ
@@ -62,7 +63,7 @@ watched_from size h v a n = result_map_both (watched (present h) a n) (λ f. f) 
 abbrev pub bookmark_above : ℕ → ℕ → List Line
 bookmark_above at b = if nat_lt at b then bookmark b ∷ [] else []
 
--- the lines that show it to a watch from a
+-- the lines that show this to a watch from a
 abbrev pub lines_from : ℕ → Watched → List Line
 lines_from a w = map change w.changes ++ bookmark_above (last_change a w.changes) w.stands
 

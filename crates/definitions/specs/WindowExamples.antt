@@ -16,7 +16,7 @@ named kind name = record { kind = kind; namespace = codes "default"; name = name
 abbrev pub stored : List ℕ → List ℕ → Data
 stored name version = object (member (codes "metadata") (object (member (codes "name") (string name) (member (codes "resourceVersion") (string version) no_members))) no_members)
 
-abbrev puts : Kind → List ℕ → List ℕ → Entry
+abbrev pub puts : Kind → List ℕ → List ℕ → Entry
 puts kind name version = write (record { key = named kind name; put = Some (stored name version) })
 
 abbrev removes : Kind → List ℕ → Entry

@@ -1,14 +1,19 @@
 //! Laws of servers that hold windows in the place of a history.
-ghost use Rattle.definitions.specs.ServerLaws.{ServersOpen, ServersWrite, ServersCompact, CompactionsHappen, ServersAccept, ServersList, ServersWatch, WatchesStand, WatchesGoOn, ListsAreServed};
+ghost use Rattle.definitions.specs.ServerLaws.{ServersOpen, ServersWrite, ServersFollow, ServersCompact, CompactionsHappen, ServersAccept, ServersList, ServersWatch, WatchesStand, WatchesGoOn, ListsAreServed};
 
 /// A new server holds a history in which nothing has happened.
 pub fn servers_open()
     ensures { ServersOpen }
 {}
 
-/// A server that takes in each write goes on holding all that has happened, as far as its windows reach.
+/// A server that takes in a write goes on holding what has happened.
 pub fn servers_write()
     ensures { ServersWrite }
+{}
+
+/// A server that takes in all that happens, each thing as it happens, holds it all, as far as its windows reach.
+pub fn servers_follow()
+    ensures { ServersFollow }
 {}
 
 /// A compaction is refused where it reaches past the present revision, and a server that takes it in goes on holding what

@@ -4,4 +4,4 @@ use Rattle.definitions.proofs.server_examples.watches_are_given.Goals as goal
 
 pub returns : goal.returns
 unfolding on_literals
-returns c = (refl, refl, refl, refl, refl, refl, refl, refl)
+returns c = (refl, refl, refl, refl, refl, refl, refl, refl, refl, refl)
