@@ -2,10 +2,10 @@
 use Rattle.std.specs.Prelude.{◌≡◌, ℕ, List, [], true, false, Some, None, Result, Ok, Err, codes}
 use Rattle.definitions.specs.declared.refusals.Part.{Part}
 use Rattle.definitions.specs.declared.refusals.Part.TheVariants as part
-use Rattle.definitions.specs.Collections.{Collection, Read, list, watch, ListOptions, WatchOptions, collection_of}
-use Rattle.definitions.specs.Pages.{Place}
+use Rattle.definitions.specs.Collections.{Collection, list, watch, WatchOptions, collection_of}
 use Rattle.definitions.specs.Queries.{pairs_of}
-use Rattle.definitions.specs.Versions.{At, newest, not_older, exact}
+use Rattle.definitions.specs.declared.versions.At.{At}
+use Rattle.definitions.specs.declared.versions.At.TheVariants.{Present, NotOlder, Exact}
 
 -- what a query asks, where no selector is given
 abbrev pub asked : List ℕ → Result Collection Part
@@ -17,12 +17,12 @@ lists at limit = Ok (record { labels = []; fields = []; read = list (record { at
 -- a revision of its own with a limit is exact, and without one no older; a match says which
 abbrev pub VersionsAreMatched : Type 0
 VersionsAreMatched =
-    (asked (codes "?") ≡ lists newest 0)
-    × (asked (codes "?resourceVersion=0") ≡ lists newest 0)
-    × (asked (codes "?resourceVersion=7") ≡ lists (not_older 7) 0)
-    × (asked (codes "?resourceVersion=7&limit=2") ≡ lists (exact 7) 2)
-    × (asked (codes "?resourceVersion=7&limit=2&resourceVersionMatch=NotOlderThan") ≡ lists (not_older 7) 2)
-    × (asked (codes "?resourceVersion=7&resourceVersionMatch=Exact") ≡ lists (exact 7) 0)
+    (asked (codes "?") ≡ lists Present 0)
+    × (asked (codes "?resourceVersion=0") ≡ lists Present 0)
+    × (asked (codes "?resourceVersion=7") ≡ lists (NotOlder 7) 0)
+    × (asked (codes "?resourceVersion=7&limit=2") ≡ lists (Exact 7) 2)
+    × (asked (codes "?resourceVersion=7&limit=2&resourceVersionMatch=NotOlderThan") ≡ lists (NotOlder 7) 2)
+    × (asked (codes "?resourceVersion=7&resourceVersionMatch=Exact") ≡ lists (Exact 7) 0)
     × (asked (codes "?resourceVersion=0&resourceVersionMatch=Exact") ≡ Err part.Query)
     × (asked (codes "?resourceVersionMatch=Exact") ≡ Err part.Query)
     × (asked (codes "?resourceVersion=07") ≡ Err part.Query)
@@ -32,7 +32,7 @@ VersionsAreMatched =
 abbrev pub TokensGoOn : Type 0
 TokensGoOn =
     (asked (codes "?limit=2&continue=eyJuYW1lIjoiYiIsIm5hbWVzcGFjZSI6ImRlZmF1bHQiLCJydiI6IjYifQ")
-    ≡ Ok (record { labels = []; fields = []; read = list (record { at = exact 6; limit = 2; after = Some (record { namespace = codes "default"; name = codes "b" }) }) }))
+    ≡ Ok (record { labels = []; fields = []; read = list (record { at = Exact 6; limit = 2; after = Some (record { namespace = codes "default"; name = codes "b" }) }) }))
     × (asked (codes "?continue=!!") ≡ Err part.Token)
     × (asked (codes "?continue=eyJuYW1lIjoiYiIsIm5hbWVzcGFjZSI6ImRlZmF1bHQiLCJydiI6IjYifQ==") ≡ Err part.Token)
     × (asked (codes "?continue=!!&resourceVersion=6") ≡ Err part.Query)
@@ -49,6 +49,6 @@ WatchesAreAsked =
     × watches (codes "?watch=true") (record { from = None; bookmarks = false })
     × watches (codes "?watch=true&resourceVersion=0") (record { from = None; bookmarks = false })
     × (asked (codes "?watch=true&resourceVersion=5&resourceVersionMatch=NotOlderThan") ≡ Err part.Query)
-    × (asked (codes "?watch=false&resourceVersion=5") ≡ lists (not_older 5) 0)
+    × (asked (codes "?watch=false&resourceVersion=5") ≡ lists (NotOlder 5) 0)
     × (asked (codes "?watch=true&sendInitialEvents=true") ≡ Err part.Query)
     × (asked (codes "?dryRun=") ≡ Err part.Query)

@@ -1,5 +1,5 @@
 -- What the query of a collection asks: which objects, and whether they are listed or watched (Kubernetes API reference, ListOptions).
-use Rattle.std.specs.Prelude.{ℕ, zero, suc, List, [], ◌∷◌, Bool, true, false, ◌&&◌, ◌==◌, length, nat_le, nat_lt, Option, Some, None, option_map, Result, Ok, Err, is_some, unwrap_or, codes, if◌then◌else◌}
+use Rattle.std.specs.Prelude.{ℕ, zero, suc, List, [], ◌∷◌, Bool, true, false, ◌&&◌, ◌==◌, length, nat_le, nat_lt, Option, Some, None, option_map, Result, Ok, Err, codes, if◌then◌else◌}
 use Rattle.std.specs.List.{list_all}
 use Rattle.std.specs.Str.{bytes_eq}
 use Rattle.std.specs.Str.Parse.{digits_value}
@@ -14,7 +14,10 @@ use Rattle.definitions.specs.Revisions.{revision_of}
 use Rattle.definitions.specs.SelectorFields.{FieldRequirement, said_of_fields}
 use Rattle.definitions.specs.SelectorTexts.{said_by_text}
 use Rattle.definitions.specs.Selectors.{Requirement}
-use Rattle.definitions.specs.Versions.{At, newest, not_older, exact}
+use Rattle.definitions.specs.declared.versions.At.{At}
+use Rattle.definitions.specs.declared.versions.Match.{Match}
+use Rattle.definitions.specs.declared.versions.Match.TheVariants as match
+use Rattle.definitions.specs.declared.versions.At.TheVariants.{Present, NotOlder, Exact}
 
 -- ---- a list
 
@@ -24,18 +27,12 @@ pub record ListOptions : Type 0 where
   pub limit : ℕ
   pub after : Option Place
 
--- how the revision of a list is to be matched (Kubernetes API Concepts, The resourceVersionMatch parameter)
-pub data Match : Type 0 where
-  unset : Match
-  not_older_than : Match
-  exactly : Match
-
 abbrev pub match_named : List ℕ → Option Match
-match_named t = if bytes_eq t (codes "NotOlderThan") then Some not_older_than else (if bytes_eq t (codes "Exact") then Some exactly else None)
+match_named t = if bytes_eq t (codes "NotOlderThan") then Some match.NotOlderThan else (if bytes_eq t (codes "Exact") then Some match.Exact else None)
 
--- the match that a query names; none is unset
+-- how a query says that the revision of a list is to be matched, if it is understood (Kubernetes API Concepts, The resourceVersionMatch parameter)
 abbrev pub match_of : Option (List ℕ) → Option Match
-match_of None = Some unset
+match_of None = Some match.Unset
 match_of (Some t) = match_named t
 
 -- the revision that a query names, if any: an empty text names none
@@ -50,15 +47,15 @@ limit_of (Some t) = if nat_lt 0 (length t) && nat_le (length t) 9 && list_all is
 
 -- at which revision a list is, by the revision and the match that are named, and by whether it is limited (Kubernetes API Concepts, Semantics for get and list)
 abbrev pub list_at : Bool → Match → Option ℕ → Option At
-list_at limited unset None = Some newest
-list_at limited not_older_than None = None
-list_at limited exactly None = None
-list_at limited unset (Some zero) = Some newest
-list_at limited not_older_than (Some zero) = Some newest
-list_at limited exactly (Some zero) = None
-list_at limited unset (Some (suc r)) = Some (if limited then exact (suc r) else not_older (suc r))
-list_at limited not_older_than (Some (suc r)) = Some (not_older (suc r))
-list_at limited exactly (Some (suc r)) = Some (exact (suc r))
+list_at limited match.Unset None = Some Present
+list_at limited match.NotOlderThan None = None
+list_at limited match.Exact None = None
+list_at limited match.Unset (Some zero) = Some Present
+list_at limited match.NotOlderThan (Some zero) = Some Present
+list_at limited match.Exact (Some zero) = None
+list_at limited match.Unset (Some (suc r)) = Some (if limited then Exact (suc r) else NotOlder (suc r))
+list_at limited match.NotOlderThan (Some (suc r)) = Some (NotOlder (suc r))
+list_at limited match.Exact (Some (suc r)) = Some (Exact (suc r))
 
 -- a list that goes on after a token names no revision but 0: the token has it
 abbrev pub names_no_other : Option ℕ → Bool
@@ -69,7 +66,7 @@ names_no_other (Some (suc r)) = false
 -- the list that goes on after a token's place, at its revision (Kubernetes API Concepts, Retrieving large results sets in chunks)
 abbrev pub going_on : ℕ → Option Token → Result ListOptions Part
 going_on limit None = Err part.Token
-going_on limit (Some t) = Ok (record { at = exact t.revision; limit = limit; after = Some (token_place t) })
+going_on limit (Some t) = Ok (record { at = Exact t.revision; limit = limit; after = Some (token_place t) })
 
 abbrev pub from_first : ℕ → At → ListOptions
 from_first limit at = record { at = at; limit = limit; after = None }
@@ -88,7 +85,7 @@ abbrev pub list_by : Option (List ℕ) → Option ℕ → Option (Option ℕ) �
 list_by continue None version match = Err part.Query
 list_by continue (Some limit) None match = Err part.Query
 list_by continue (Some limit) (Some version) None = Err part.Query
-list_by continue (Some limit) (Some version) (Some match) = at_or limit version continue (list_at (nat_lt 0 limit) match version)
+list_by continue (Some limit) (Some version) (Some matched) = at_or limit version continue (list_at (nat_lt 0 limit) matched version)
 
 -- the options of a list
 abbrev pub list_options : Pairs → Result ListOptions Part

@@ -1,6 +1,6 @@
 -- What a list is answered: a page of it, and what it says of itself (Kubernetes API Concepts, Collections; Retrieving large results sets in chunks).
 use Rattle.std.specs.Prelude.{ℕ, List, [], ◌∷◌, ◌++◌, Bool, true, false, not, ◌&&◌, map, Option, Some, None, Result, Ok, Err, codes, decimal, if◌then◌else◌}
-use Rattle.serde_json.specs.Data as data
+use Rattle.serde_json.specs.Data as json
 use Rattle.serde_json.specs.Data.{Data, string, number, unsigned, array, object, no_members, member}
 use Rattle.serde_json.specs.View.{items_of}
 use Rattle.definitions.specs.declared.kinds.Kind.{Kind}
@@ -19,16 +19,16 @@ use Rattle.definitions.specs.Versions.{Listed, list_for}
 abbrev pub token_after : ℕ → Place → Token
 token_after r p = record { name = p.name; namespace = p.namespace; revision = r }
 
-abbrev pub version_member : ℕ → data.Members
+abbrev pub version_member : ℕ → json.Members
 version_member r = member (codes "resourceVersion") (string (decimal r)) no_members
 
 -- how many objects follow, where that is told
-abbrev pub count_member : Option ℕ → data.Members → data.Members
+abbrev pub count_member : Option ℕ → json.Members → json.Members
 count_member None ms = ms
 count_member (Some n) ms = member (codes "remainingItemCount") (number (unsigned n)) ms
 
 -- what a page at revision r says of itself: how to go on, how many objects follow, its revision (Kubernetes API reference, ListMeta)
-abbrev pub page_metadata : ℕ → Option ℕ → Option Place → data.Members
+abbrev pub page_metadata : ℕ → Option ℕ → Option Place → json.Members
 page_metadata r count None = version_member r
 page_metadata r count (Some p) = member (codes "continue") (string (token_text (token_after r p))) (count_member count (version_member r))
 

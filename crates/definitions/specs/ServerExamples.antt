@@ -5,7 +5,8 @@ use Rattle.definitions.specs.declared.kinds.Kind.TheVariants.{ConfigMap, Pod}
 use Rattle.definitions.specs.History.{View, Members, whole}
 use Rattle.definitions.specs.Refusals.{Refusal, expired, too_new}
 use Rattle.definitions.specs.Streams.{bookmark}
-use Rattle.definitions.specs.Versions.{newest, not_older, exact, listed_as, list_for, Watched, watched_from, lines_from, compacts}
+use Rattle.definitions.specs.declared.versions.At.TheVariants.{Present, NotOlder, Exact}
+use Rattle.definitions.specs.Versions.{listed_as, list_for, Watched, watched_from, lines_from, compacts}
 use Rattle.definitions.specs.Servers.{Server, opened_server, after_entries, after_compaction, list_by, watch_by, compact_by}
 use Rattle.definitions.specs.WindowExamples.{named, stored, puts, six_writes, config_maps, at_three, at_five}
 
@@ -27,15 +28,15 @@ given r = result_map_both (λ w. (map (λ c. c.revision) w.changes, w.stands)) (
 -- lists at single revisions, down to the floor and no further; one that need not be so new is the present one
 abbrev pub ListsAreAnswered : Type 0
 ListsAreAnswered =
-    (list_for 4 six_writes config_maps (exact 5) ≡ Ok (listed_as 5 at_five))
-    × (list_for 4 six_writes config_maps (exact 3) ≡ Ok (listed_as 3 at_three))
-    × (list_for 4 six_writes config_maps (exact 2) ≡ Err (expired 2 3))
-    × (list_for 4 six_writes config_maps (exact 8) ≡ Err (too_new 8 7))
-    × (list_for 4 six_writes config_maps (not_older 2) ≡ Ok (listed_as 7 at_seven))
-    × (list_for 4 six_writes config_maps (not_older 8) ≡ Err (too_new 8 7))
-    × (list_for 4 six_writes config_maps newest ≡ Ok (listed_as 7 at_seven))
-    × (list_by server_of_four config_maps (exact 5) ≡ Ok (listed_as 5 at_five))
-    × (list_by server_of_four config_maps (not_older 2) ≡ Ok (listed_as 7 at_seven))
+    (list_for 4 six_writes config_maps (Exact 5) ≡ Ok (listed_as 5 at_five))
+    × (list_for 4 six_writes config_maps (Exact 3) ≡ Ok (listed_as 3 at_three))
+    × (list_for 4 six_writes config_maps (Exact 2) ≡ Err (expired 2 3))
+    × (list_for 4 six_writes config_maps (Exact 8) ≡ Err (too_new 8 7))
+    × (list_for 4 six_writes config_maps (NotOlder 2) ≡ Ok (listed_as 7 at_seven))
+    × (list_for 4 six_writes config_maps (NotOlder 8) ≡ Err (too_new 8 7))
+    × (list_for 4 six_writes config_maps Present ≡ Ok (listed_as 7 at_seven))
+    × (list_by server_of_four config_maps (Exact 5) ≡ Ok (listed_as 5 at_five))
+    × (list_by server_of_four config_maps (NotOlder 2) ≡ Ok (listed_as 7 at_seven))
 
 -- a watch that is given two of four changes stands at the second; one that is given all, or none, at the present revision, which may
 -- be that of a write of another kind, and a bookmark shows it where no change does
@@ -58,6 +59,6 @@ CompactionsMoveFloors =
     (compacts six_writes 8 ≡ Err (too_new 8 7))
     × (compact_by server_of_four 8 ≡ Err (too_new 8 7))
     × (compact_by server_of_four 5 ≡ Ok (after_compaction server_of_four 5))
-    × (list_by (after_compaction server_of_four 5) config_maps (exact 5) ≡ Ok (listed_as 5 at_five))
-    × (list_by (after_compaction server_of_four 5) config_maps (exact 4) ≡ Err (expired 4 5))
-    × (list_by (after_compaction server_of_four 5) pods (exact 4) ≡ Err (expired 4 5))
+    × (list_by (after_compaction server_of_four 5) config_maps (Exact 5) ≡ Ok (listed_as 5 at_five))
+    × (list_by (after_compaction server_of_four 5) config_maps (Exact 4) ≡ Err (expired 4 5))
+    × (list_by (after_compaction server_of_four 5) pods (Exact 4) ≡ Err (expired 4 5))

@@ -6,7 +6,12 @@ use Rattle.definitions.specs.Verbs.{Request, accept_at, accept, write_of, histor
 use Rattle.definitions.specs.Changes.{changes, play}
 use Rattle.definitions.specs.Streams.{IsStream, play_lines}
 use Rattle.definitions.specs.Windows.{floor, since}
-use Rattle.definitions.specs.Versions.{At, newest, not_older, exact, Watched, list_for, watched_from, lines_from, compacts}
+use Rattle.definitions.specs.declared.versions.At.{At}
+use Rattle.definitions.specs.declared.versions.At.TheVariants.{Present, NotOlder, Exact}
+use Rattle.definitions.specs.Versions.{Watched, list_for, watched_from, lines_from, compacts}
+use Rattle.definitions.specs.Collections.{ListOptions, WatchOptions}
+use Rattle.definitions.specs.Lists.{list_outcome, list_served}
+use Rattle.definitions.specs.WatchReplies.{watch_lines, watch_served}
 use Rattle.definitions.specs.Servers.{Server, opened_server, after_write, after_writing, after_entries, list_by, watch_by, compact_by, Holds}
 
 -- a new server holds the empty history
@@ -74,6 +79,14 @@ WatchesGoOn =
 abbrev pub ListsAreServed : Type 0
 ListsAreServed =
     (size : ℕ) (h : History) (v : View) (r : ℕ)
-    → (IsOk (list_for size h v (exact r)) ↔ ((floor v.kind size h ≤ r) × (r ≤ present h)))
-    × (IsOk (list_for size h v (not_older r)) ↔ (r ≤ present h))
-    × IsOk (list_for size h v newest)
+    → (IsOk (list_for size h v (Exact r)) ↔ ((floor v.kind size h ≤ r) × (r ≤ present h)))
+    × (IsOk (list_for size h v (NotOlder r)) ↔ (r ≤ present h))
+    × IsOk (list_for size h v Present)
+
+-- the page of a list that it answers is the one that the history says
+abbrev pub ServersAnswerLists : Type 0
+ServersAnswerLists = (size : ℕ) (s : Server) (h : History) (v : View) (o : ListOptions) → Holds size s h → list_served s v o ≡ list_outcome size h v o
+
+-- the lines of a watch that it shows are those that the history says
+abbrev pub ServersShow : Type 0
+ServersShow = (size : ℕ) (s : Server) (h : History) (v : View) (o : WatchOptions) → Holds size s h → watch_served s v o ≡ watch_lines size h v o

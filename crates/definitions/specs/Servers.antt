@@ -6,7 +6,8 @@ use Rattle.definitions.specs.declared.kinds.Kind.TheVariants.{ConfigMap, Pod, Re
 use Rattle.definitions.specs.History.{History, Write, write, compaction, View, viewed, found}
 use Rattle.definitions.specs.Refusals.{Refusal}
 use Rattle.definitions.specs.Snapshots.{Snapshot, empty, snapshot, written}
-use Rattle.definitions.specs.Versions.{At, Listed, Watched, once_present, listed_at, watched}
+use Rattle.definitions.specs.declared.versions.At.{At}
+use Rattle.definitions.specs.Versions.{Listed, Watched, once_present, listed_at, watched}
 use Rattle.definitions.specs.Windows.{Kept, Window, opened, recorded, compacted_to, since_kept, list_kept, Tracks}
 
 -- what is there, and the last writes of each kind

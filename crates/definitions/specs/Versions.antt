@@ -1,6 +1,8 @@
 -- Lists at versions, watches a part at a time, and compactions: what is answered, by what has happened.
 use Rattle.std.specs.Prelude.{ℕ, ◌+◌, List, [], ◌∷◌, ◌++◌, map, take, length, nat_le, nat_lt, Result, Ok, Err, if◌then◌else◌}
 use Rattle.std.specs.Result.{result_map_both}
+use Rattle.definitions.specs.declared.versions.At.{At}
+use Rattle.definitions.specs.declared.versions.At.TheVariants.{Present, NotOlder, Exact}
 use Rattle.definitions.specs.History.{History, compaction, View, Members, present, list}
 use Rattle.definitions.specs.Refusals.{Refusal, too_new}
 use Rattle.definitions.specs.Changes.{Change}
@@ -8,12 +10,6 @@ use Rattle.definitions.specs.Streams.{Line, change, bookmark}
 use Rattle.definitions.specs.Windows.{since, list_within}
 
 -- ---- lists
-
--- at which revision a list is asked: the newest, one that is not older than this, or this one (Kubernetes API Concepts, Resource versions)
-pub data At : Type 0 where
-  newest : At
-  not_older : ℕ → At
-  exact : ℕ → At
 
 -- a list, and the revision at which it is
 pub record Listed : Type 0 where
@@ -30,9 +26,9 @@ once_present now r x = if nat_lt now r then Err (too_new r now) else Ok x
 
 -- the list that is asked, by the present revision, the list there, and the one at each revision
 abbrev pub listed_at : ℕ → Members → (ℕ → Result Members Refusal) → At → Result Listed Refusal
-listed_at now ms earlier newest = Ok (listed_as now ms)
-listed_at now ms earlier (not_older r) = once_present now r (listed_as now ms)
-listed_at now ms earlier (exact r) = result_map_both (listed_as r) (λ f. f) (earlier r)
+listed_at now ms earlier Present = Ok (listed_as now ms)
+listed_at now ms earlier (NotOlder r) = once_present now r (listed_as now ms)
+listed_at now ms earlier (Exact r) = result_map_both (listed_as r) (λ f. f) (earlier r)
 
 -- the list of the view, from a window of this size
 abbrev pub list_for : ℕ → History → View → At → Result Listed Refusal

@@ -1,5 +1,5 @@
 -- What a watch is answered that shows what has happened so far: its lines up to the present revision (Kubernetes API Concepts, Efficient detection of changes).
-use Rattle.std.specs.Prelude.{ℕ, List, map, Bool, Option, Some, None, Result, Ok, Err, if◌then◌else◌}
+use Rattle.std.specs.Prelude.{ℕ, List, map, Bool, Option, Some, None, Result, Ok, if◌then◌else◌}
 use Rattle.std.specs.Result.{result_map_both}
 use Rattle.definitions.specs.History as history
 use Rattle.definitions.specs.History.{History, View, present, list, viewed}

@@ -28,6 +28,7 @@ pub mod sent_laws;
 pub mod server_examples;
 pub mod server_laws;
 pub mod verb_examples;
+pub mod versions;
 pub mod watch_examples;
 pub mod watch_laws;
 pub mod window_examples;

@@ -1,5 +1,5 @@
 //! Laws of servers that hold windows in the place of a history.
-ghost use Rattle.definitions.specs.ServerLaws.{ServersOpen, ServersWrite, ServersFollow, ServersCompact, CompactionsHappen, ServersAccept, ServersList, ServersWatch, WatchesStand, WatchesGoOn, ListsAreServed};
+ghost use Rattle.definitions.specs.ServerLaws.{ServersOpen, ServersWrite, ServersFollow, ServersCompact, CompactionsHappen, ServersAccept, ServersList, ServersWatch, ServersAnswerLists, ServersShow, WatchesStand, WatchesGoOn, ListsAreServed};
 
 /// A new server holds a history in which nothing has happened.
 pub fn servers_open()
@@ -56,4 +56,14 @@ pub fn watches_go_on()
 /// A list is refused only where its revision has gone or is not yet there; the newest never is.
 pub fn lists_are_served()
     ensures { ListsAreServed }
+{}
+
+/// A page of a list, with what it says of itself, is the one that the whole history gives.
+pub fn servers_answer_lists()
+    ensures { ServersAnswerLists }
+{}
+
+/// What a watch shows of all that has happened is what the whole history says.
+pub fn servers_show()
+    ensures { ServersShow }
 {}

@@ -1,0 +1,38 @@
+//! At which revision a list is asked, and how a revision is to be matched.
+
+/// At which revision a list is asked (Kubernetes API Concepts, Resource versions).
+#[derive(Clone, Copy, Debug, PartialEq, Eq)]
+pub enum At {
+    /// The present one.
+    Present,
+    /// The present one, which may not be below this one.
+    NotOlder(u64),
+    /// This one.
+    Exact(u64),
+}
+
+/// How the revision that a list names is to be matched (Kubernetes API Concepts, the resourceVersionMatch parameter).
+#[derive(Clone, Copy, Debug, PartialEq, Eq)]
+pub enum Match {
+    /// Nothing is said.
+    Unset,
+    NotOlderThan,
+    Exact,
+}
+
+impl Match {
+    ghost use Rattle.std.specs.Prelude.{◌≡◌, option_map};
+    ghost use Rattle.definitions.specs.Collections.{match_of};
+
+    /// The match that a parameter names, or that nothing is said; nothing, if it is no name of a match.
+    pub fn read(name: Option<&str>) -> Option<Match>
+        ensures { result ≡ match_of (option_map (λ t. t.now) name.entry) }
+    {
+        match name {
+            None => Some(Match::Unset),
+            Some("NotOlderThan") => Some(Match::NotOlderThan),
+            Some("Exact") => Some(Match::Exact),
+            Some(_) => None,
+        }
+    }
+}
