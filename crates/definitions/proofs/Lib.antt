@@ -40,6 +40,7 @@ pub mod SentObjects
 pub mod SentRuns
 pub mod SentVerbs
 pub mod ServedWindows
+pub mod SnapshotSteps
 pub mod Streamed
 pub mod TaskOrder
 pub mod TextLengths

@@ -44,6 +44,8 @@ pub mod SelectorTexts
 pub mod SelectorValues
 pub mod Selectors
 pub mod SentLaws
+pub mod SnapshotCodes
+pub mod SnapshotLaws
 pub mod Snapshots
 pub mod Streams
 pub mod Targets

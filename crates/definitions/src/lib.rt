@@ -24,6 +24,7 @@ pub mod selector_examples;
 pub mod selector_laws;
 pub mod selectors;
 pub mod sent_laws;
+pub mod snapshot_laws;
 pub mod verb_examples;
 pub mod watch_examples;
 pub mod watch_laws;
