@@ -2,7 +2,7 @@
 #![tactic(auto)]
 
 pub mod limits;
-mod places;
+mod objects;
 pub mod stores;
 
 pub use stores::Store;
