@@ -3,6 +3,7 @@
 
 pub mod limits;
 mod objects;
+mod ranges;
 pub mod stores;
 
 pub use stores::Store;

@@ -1,6 +1,7 @@
 //! A store.
 use crate::limits::{GREATEST_REVISION, MOST_OBJECTS};
 use crate::objects::take;
+use crate::ranges::asked;
 use meta::faults::Fault;
 use meta::keys::Key;
 use meta::lent_members::Member;
@@ -114,7 +115,7 @@ impl Store {
             ≡ viewed (view_of view.entry.now) self.entry.now.members) }
     {
         let mut found = Vec::new(alloc);
-        for (key, object) in self.objects.iter() {
+        for (key, object) in asked(alloc, &self.objects, view)? {
             if view.contains(key, object) {
                 found.push(Member { key, object })?;
             }
