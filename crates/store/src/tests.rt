@@ -90,6 +90,61 @@ fn each_write_has_the_next_revision(rt: HostRuntime) -> Result<(), Fail> {
     Ok(())
 }
 
+#[test]
+fn a_write_gives_what_was_there(rt: HostRuntime) -> Result<(), Fail> {
+    let alloc = rt.alloc();
+    let mut store = Store::new(alloc);
+    let key = key(alloc, Kind::ConfigMap, "default", "a")?;
+    // what is written, and what was there before
+    let cases = [
+        (Some("a1"), None),
+        (Some("a2"), Some("a1")),
+        (None, Some("a2")),
+        (None, None),
+    ];
+    for (label, before) in cases {
+        let given = store.apply(write(alloc, key.try_copy()?, label)?)?;
+        assert_eq!(rt;
+            given.as_ref().and_then(|object| object.label("is")),
+            before
+        );
+    }
+    Ok(())
+}
+
+// Namespaces of which one begins another, and the first and the last kind.
+#[test]
+fn a_list_has_its_kind_and_namespace_alone(rt: HostRuntime) -> Result<(), Fail> {
+    let alloc = rt.alloc();
+    let mut store = Store::new(alloc);
+    let writes = [
+        (Kind::ConfigMap, "ab", "x", "3"),
+        (Kind::ConfigMap, "a", "x", "1"),
+        (Kind::ConfigMap, "a-b", "x", "2"),
+        (Kind::Pod, "a", "x", "4"),
+        (Kind::Deployment, "a", "x", "5"),
+        (Kind::Deployment, "b", "x", "6"),
+    ];
+    for (kind, namespace, name, label) in writes {
+        let key = key(alloc, kind, namespace, name)?;
+        store.apply(write(alloc, key, Some(label))?)?;
+    }
+    let cases = [
+        (Kind::ConfigMap, None, "1 2 3 "),
+        (Kind::ConfigMap, Some("a"), "1 "),
+        (Kind::ConfigMap, Some("a-b"), "2 "),
+        (Kind::ConfigMap, Some("b"), ""),
+        (Kind::Pod, None, "4 "),
+        (Kind::ReplicaSet, None, ""),
+        (Kind::Deployment, None, "5 6 "),
+        (Kind::Deployment, Some("b"), "6 "),
+    ];
+    for (kind, namespace, labels) in cases {
+        assert_eq!(rt; listed(alloc, &store, kind, namespace)?.as_str(), labels);
+    }
+    Ok(())
+}
+
 // 65536 objects are the most; a full store still takes updates and removals.
 #[test]
 fn a_full_store_takes_no_new_object(rt: HostRuntime) -> Result<(), Fail> {
