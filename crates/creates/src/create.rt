@@ -1,6 +1,5 @@
 //! Creates.
 ghost use Rattle.std.specs.Prelude.{◌≡◌, ◌<◌, ◌≤◌, ◌||◌, ◌+◌, ◌^◌, not, true, IfOk, IfErr, OnOk, is_some, string_bytes, option_map};
-ghost use Rattle.definitions.specs.History.{members, present};
 ghost use Rattle.definitions.specs.Metadata as metadata;
 ghost use Rattle.definitions.specs.Metadata.{is_other};
 ghost use Rattle.definitions.specs.Verbs.{accept_at, create_object, create_as, create_read, new_name, is_too_large};
@@ -39,7 +38,7 @@ pub fn create(
     body: Value,
     moment: Moment,
 ) -> Result<(Reply, Option<Write>), Fault>
-    ensures { Serves (accept_at (create_object kind namespace.now (view body)) (members store.now (present store.now)) (present store.now) moment) result }
+    ensures { Serves (accept_at (create_object kind namespace.now (view body)) store.now.members store.now.revision moment) result }
 {
     let object = Object::from_value(alloc, kind, body)?;
     let object = defaults(alloc, object)?;
@@ -83,7 +82,7 @@ fn new_key(
     object: &Object,
 ) -> Result<Key, AllocError>
     ensures { IfOk result (λ k. name_of k
-        ≡ new_name kind namespace.now object.now.value (members store.now (present store.now)) (present store.now)) }
+        ≡ new_name kind namespace.now object.now.value store.now.members store.now.revision) }
 {
     match object.name() {
         Some(name) => given_key(alloc, kind, namespace, name),
@@ -166,7 +165,7 @@ fn create_as(
     key: Key,
     object: Object,
 ) -> Result<(Reply, Option<Write>), Fault>
-    ensures { Serves (create_as (name_of key) object.value (members store.now (present store.now)) (present store.now)) result }
+    ensures { Serves (create_as (name_of key) object.value store.now.members store.now.revision) result }
 {
     let text = object.text(alloc)?;
     if is_too_large(text.as_str()) {

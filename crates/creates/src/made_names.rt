@@ -1,7 +1,6 @@
 //! The names that the server makes.
 ghost use Rattle.std.specs.Prelude.{◌≡◌, ◌+◌, ◌<◌, ◌%◌, ◌++◌, IfOk, OnOk, string_bytes, slice_get, unwrap_or};
 ghost use Rattle.definitions.specs.GeneratedNames.{alphabet, suffix, base, made_name};
-ghost use Rattle.definitions.specs.History.{members, present};
 ghost use Rattle.definitions.specs.Verbs.{is_free};
 
 use definitions::kinds::Kind;
@@ -74,7 +73,7 @@ fn numbered_key(
 
 /// Whether no object is under a key.
 fn is_free(store: &Store, key: &Key) -> bool
-    ensures { result ≡ is_free key.now.kind (string_bytes key.now.namespace) (members store.now (present store.now)) (string_bytes key.now.name) }
+    ensures { result ≡ is_free key.now.kind (string_bytes key.now.namespace) store.now.members (string_bytes key.now.name) }
 {
     store.get(key).is_none()
 }
@@ -91,7 +90,7 @@ pub fn made_key(
     ensures kind { IfOk result (λ k. k.kind ≡ kind) }
     ensures namespace { IfOk result (λ k. string_bytes k.namespace ≡ namespace.now) }
     ensures name { IfOk result (λ k. string_bytes k.name
-        ≡ made_name (is_free kind namespace.now (members store.now (present store.now))) given.now (present store.now + 1)) }
+        ≡ made_name (is_free kind namespace.now store.now.members) given.now (store.now.revision + 1)) }
 {
     let base = base(alloc, given)?;
     let base = base.as_str();

@@ -42,6 +42,7 @@ pub mod SentObjects
 pub mod SentRuns
 pub mod SentVerbs
 pub mod ServedWindows
+pub mod SnapshotSteps
 pub mod StandingWatches
 pub mod Streamed
 pub mod TaskOrder

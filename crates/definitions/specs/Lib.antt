@@ -55,6 +55,7 @@ pub mod ServerExamples
 pub mod ServerLaws
 pub mod Servers
 pub mod SnapshotCodes
+pub mod SnapshotLaws
 pub mod Snapshots
 pub mod Streams
 pub mod Targets
@@ -65,8 +66,8 @@ pub mod Verbs
 pub mod Versions
 pub mod WatchExamples
 pub mod WatchLaws
-pub mod WindowCodes
 pub mod WatchReplies
+pub mod WindowCodes
 pub mod WindowExamples
 pub mod WindowLaws
 pub mod Windows

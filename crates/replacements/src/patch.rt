@@ -1,7 +1,6 @@
 //! Merge patches.
 ghost use Rattle.std.specs.Prelude.{◌≡◌, ◌≤◌, List, ℕ};
 ghost use Rattle.serde_json.specs.View.{view};
-ghost use Rattle.definitions.specs.History.{members, present};
 ghost use Rattle.definitions.specs.Revisions.{greatest_revision};
 ghost use Rattle.definitions.specs.Values.{merged};
 ghost use Rattle.definitions.specs.Verbs.{accept_at, patch_object, patch_read, said};
@@ -26,7 +25,7 @@ pub fn patch(
     key: Key,
     body: Value,
 ) -> Result<(Reply, Option<Write>), Fault>
-    ensures { (moment : List ℕ) → Serves (accept_at (patch_object (name_of key) (view body)) (members store.now (present store.now)) (present store.now) moment) result }
+    ensures { (moment : List ℕ) → Serves (accept_at (patch_object (name_of key) (view body)) store.now.members store.now.revision moment) result }
 {
     if !is_body(&body) {
         return Err(Fault::BadRequest(Part::Body));

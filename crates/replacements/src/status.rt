@@ -3,7 +3,6 @@ ghost use Rattle.std.specs.Prelude.{◌≡◌, ◌≤◌, List, ℕ, IfOk, IfSom
 ghost use Rattle.serde_json.specs.Find.{get};
 ghost use Rattle.serde_json.specs.View.{view};
 ghost use Rattle.serde_json.specs.Written.{has_float};
-ghost use Rattle.definitions.specs.History.{members, present};
 ghost use Rattle.definitions.specs.Replacements.{said_status, with_said_status};
 ghost use Rattle.definitions.specs.Revisions.{greatest_revision};
 ghost use Rattle.definitions.specs.Verbs.{accept_at, update_status, restate, restate_with};
@@ -30,7 +29,7 @@ pub fn update_status(
     key: Key,
     body: Value,
 ) -> Result<(Reply, Option<Write>), Fault>
-    ensures { (moment : List ℕ) → Serves (accept_at (update_status (name_of key) (view body)) (members store.now (present store.now)) (present store.now) moment) result }
+    ensures { (moment : List ℕ) → Serves (accept_at (update_status (name_of key) (view body)) store.now.members store.now.revision moment) result }
 {
     let object = Object::from_value(alloc, key.kind, body)?;
     if !names_path(&key, &object) {

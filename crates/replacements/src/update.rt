@@ -1,7 +1,6 @@
 //! Updates.
 ghost use Rattle.std.specs.Prelude.{◌≡◌, ◌≤◌, List, ℕ, IfOk};
 ghost use Rattle.serde_json.specs.View.{view};
-ghost use Rattle.definitions.specs.History.{members, present};
 ghost use Rattle.definitions.specs.Metadata.{metadata_of, with_metadata};
 ghost use Rattle.definitions.specs.Replacements.{in_place, keeping, kept, kept_of};
 ghost use Rattle.definitions.specs.Revisions.{greatest_revision};
@@ -29,7 +28,7 @@ pub fn update(
     key: Key,
     body: Value,
 ) -> Result<(Reply, Option<Write>), Fault>
-    ensures { (moment : List ℕ) → Serves (accept_at (update_object (name_of key) (view body)) (members store.now (present store.now)) (present store.now) moment) result }
+    ensures { (moment : List ℕ) → Serves (accept_at (update_object (name_of key) (view body)) store.now.members store.now.revision moment) result }
 {
     let object = said(alloc, key.kind, body)?;
     if !names_path(&key, &object) {

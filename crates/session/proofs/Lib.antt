@@ -1,3 +1,3 @@
 pub mod Checks
 pub mod Served
-pub mod Shown
+pub mod Taken

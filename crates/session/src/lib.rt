@@ -5,6 +5,7 @@ pub mod asked;
 pub mod asking;
 mod lines;
 pub mod sessions;
+mod taking;
 
 pub use asked::Asked;
 pub use asking::read_request;

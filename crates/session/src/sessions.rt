@@ -4,12 +4,14 @@ ghost use Rattle.definitions.specs.Lines as lines;
 use crate::asked::Asked;
 use crate::asking::read_request;
 use crate::lines::{line, refusal_line, watch_lines};
+use crate::taking::take;
 use definitions::methods::Method;
 use definitions::refusals::Part;
 use line_service::LineService;
 use meta::{Fault, Write};
 use reply::Reply;
 use requests::line::{Line, read_line};
+use revisions::Journal;
 use routes::table::Routes;
 use selector::View;
 use stamps::moments::Moment;
@@ -22,6 +24,8 @@ use verbs::Request;
 #[derive(Drop)]
 pub struct Session {
     store: Store,
+    /// The writes that the store has taken, of which watches are shown the changes.
+    journal: Journal,
     moment: Moment,
     routes: Routes,
 }
@@ -34,7 +38,12 @@ impl Model for Session {
 
     ghost coded = { coded_session };
 
-    ghost view = { λ s. record { history = s.store; moment = s.moment } };
+    ghost view = { λ s. record { history = s.journal; moment = s.moment } };
+
+    ghost use Rattle.std.specs.Prelude.{◌≡◌};
+    ghost use Rattle.definitions.specs.Snapshots.{snapshot};
+
+    ghost invariant = { λ s. s.store ≡ snapshot s.journal };
 }
 
 impl Session {
@@ -55,6 +64,7 @@ impl Session {
     {
         Ok(Session {
             store: Store::new(alloc),
+            journal: Journal::new(alloc),
             moment: Moment::start(),
             routes: Routes::new(alloc)?,
         })
@@ -71,11 +81,8 @@ impl Session {
         let Some(write) = write else {
             return Ok(());
         };
-        match self.store.apply(write) {
-            Ok(()) => Ok(()),
-            Err(Fault::NoMemory) => Err(AllocError),
-            Err(_) => unreachable!(),
-        }
+        take(&mut self.store, &mut self.journal, write)?;
+        Ok(())
     }
 
     /// The reply to a request with what it writes, or why it is refused.
@@ -110,13 +117,16 @@ impl Session {
         ensures { IfOk result (λ l. l.items
             ≡ reply_text (watch_reply (changes_since self.now.history (view_of view.now) from))) }
     {
-        match self.store.changes(alloc, view, from) {
-            Ok(events) => watch_lines(alloc, &events),
-            Err(Fault::TooNew { asked, present }) => {
-                refusal_line(alloc, &Fault::TooNew { asked, present })
-            }
-            Err(_) => Err(AllocError),
+        let present = self.store.revision();
+        if from > present {
+            let fault = Fault::TooNew {
+                asked: from,
+                present,
+            };
+            return refusal_line(alloc, &fault);
         }
+        let events = self.journal.changes(alloc, view, from, present)?;
+        watch_lines(alloc, &events)
     }
 
     /// The reply lines to what is asked, after which what it writes is written. An error, want of memory, changes

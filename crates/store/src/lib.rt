@@ -2,7 +2,8 @@
 #![tactic(auto)]
 
 pub mod limits;
-mod places;
+mod objects;
+mod ranges;
 pub mod stores;
 
 pub use stores::Store;

@@ -42,8 +42,8 @@ fn listed(
     };
     let found = store.list(alloc, &View::whole(alloc, kind, namespace))?;
     let mut labels = String::new(alloc);
-    for object in found.iter() {
-        labels.push_str(object.label("is").unwrap_or("none"))?;
+    for member in found.iter() {
+        labels.push_str(member.object.label("is").unwrap_or("none"))?;
         labels.push(' ')?;
     }
     Ok(labels)
@@ -90,93 +90,57 @@ fn each_write_has_the_next_revision(rt: HostRuntime) -> Result<(), Fail> {
     Ok(())
 }
 
-/// The changes of the ConfigMaps of a namespace or of all, each as its type, its revision, its key, and the label and the
-/// version that its object has; or what is wrong with the revision.
-fn changed(
-    alloc: Global,
-    store: &Store,
-    namespace: Option<&str>,
-    from: u64,
-) -> Result<String, Fail> {
-    let namespace = match namespace {
-        Some(namespace) => Some(String::from_str(alloc, namespace)?),
-        None => None,
-    };
-    let view = View::whole(alloc, Kind::ConfigMap, namespace);
-    let found = match store.changes(alloc, &view, from) {
-        Ok(found) => found,
-        Err(Fault::TooNew { asked, present }) => {
-            return Ok(format!(in alloc; "{asked} is above {present}")?);
-        }
-        Err(fault) => return Err(fault.into()),
-    };
-    let mut lines = String::new(alloc);
-    for event in found.iter() {
-        let line = format!(in alloc;
-            "{} {} {}/{} {} {}\n",
-            event.kind.frame_kind().text(),
-            event.revision,
-            event.key.namespace.as_str(),
-            event.key.name.as_str(),
-            event.object.label("is").unwrap_or("none"),
-            event.object.resource_version().unwrap_or("none"),
-        )?;
-        lines.push_str(line.as_str())?;
-    }
-    Ok(lines)
-}
-
-// Creates, an update and a removal over two namespaces, at revisions 2 to 6.
 #[test]
-fn changes_up_to_the_present(rt: HostRuntime) -> Result<(), Fail> {
+fn a_write_gives_what_was_there(rt: HostRuntime) -> Result<(), Fail> {
     let alloc = rt.alloc();
     let mut store = Store::new(alloc);
-    assert_eq!(rt; changed(alloc, &store, None, 1)?.as_str(), "");
-    assert_eq!(rt; changed(alloc, &store, None, 2)?.as_str(), "2 is above 1");
-    let writes = [
-        ("default", "b", Some("b1")),
-        ("apps", "c", Some("c1")),
-        ("default", "b", Some("b2")),
-        ("apps", "c", None),
-        ("default", "a", Some("a1")),
+    let key = key(alloc, Kind::ConfigMap, "default", "a")?;
+    // what is written, and what was there before
+    let cases = [
+        (Some("a1"), None),
+        (Some("a2"), Some("a1")),
+        (None, Some("a2")),
+        (None, None),
     ];
-    for (namespace, name, label) in writes {
-        let key = key(alloc, Kind::ConfigMap, namespace, name)?;
-        store.apply(write(alloc, key, label)?)?;
+    for (label, before) in cases {
+        let given = store.apply(write(alloc, key.try_copy()?, label)?)?;
+        assert_eq!(rt;
+            given.as_ref().and_then(|object| object.label("is")),
+            before
+        );
+    }
+    Ok(())
+}
+
+// Namespaces of which one begins another, and the first and the last kind.
+#[test]
+fn a_list_has_its_kind_and_namespace_alone(rt: HostRuntime) -> Result<(), Fail> {
+    let alloc = rt.alloc();
+    let mut store = Store::new(alloc);
+    let writes = [
+        (Kind::ConfigMap, "ab", "x", "3"),
+        (Kind::ConfigMap, "a", "x", "1"),
+        (Kind::ConfigMap, "a-b", "x", "2"),
+        (Kind::Pod, "a", "x", "4"),
+        (Kind::Deployment, "a", "x", "5"),
+        (Kind::Deployment, "b", "x", "6"),
+    ];
+    for (kind, namespace, name, label) in writes {
+        let key = key(alloc, kind, namespace, name)?;
+        store.apply(write(alloc, key, Some(label))?)?;
     }
     let cases = [
-        (
-            None,
-            1,
-            "ADDED 2 default/b b1 none\nADDED 3 apps/c c1 none\nMODIFIED 4 default/b b2 none\nDELETED 5 apps/c c1 5\nADDED 6 default/a a1 none\n",
-        ),
-        (
-            None,
-            4,
-            "DELETED 5 apps/c c1 5\nADDED 6 default/a a1 none\n",
-        ),
-        (None, 6, ""),
-        (None, 7, "7 is above 6"),
-        (
-            Some("apps"),
-            1,
-            "ADDED 3 apps/c c1 none\nDELETED 5 apps/c c1 5\n",
-        ),
-        (Some("apps"), 4, "DELETED 5 apps/c c1 5\n"),
-        (Some("apps"), 7, "7 is above 6"),
-        (
-            Some("default"),
-            2,
-            "MODIFIED 4 default/b b2 none\nADDED 6 default/a a1 none\n",
-        ),
-        (Some("other"), 1, ""),
+        (Kind::ConfigMap, None, "1 2 3 "),
+        (Kind::ConfigMap, Some("a"), "1 "),
+        (Kind::ConfigMap, Some("a-b"), "2 "),
+        (Kind::ConfigMap, Some("b"), ""),
+        (Kind::Pod, None, "4 "),
+        (Kind::ReplicaSet, None, ""),
+        (Kind::Deployment, None, "5 6 "),
+        (Kind::Deployment, Some("b"), "6 "),
     ];
-    for (namespace, from, lines) in cases {
-        assert_eq!(rt;
-            changed(alloc, &store, namespace, from)?.as_str(),
-            lines,
-            "from {from}"
-        );
+    for (kind, namespace, labels) in cases {
+        assert_eq!(rt; listed(alloc, &store, kind, namespace)?.as_str(), labels);
     }
     Ok(())
 }

@@ -8,11 +8,18 @@ use Rattle.definitions.specs.Verbs.{as_item, list_body}
 use Rattle.serde_json.specs.Written.{compact_text}
 use Rattle.serde_json.proofs.OnLiterals.{serde_json_on_literals}
 use Rattle.definitions.specs.declared.kinds.Kind.{Kind}
+use Rattle.meta.specs.Members.{member_of}
+use Rattle.meta.specs.declared.lent_members.Member.{Member}
 use Rattle.verbs.specs.Lists.{list_of, list_text_of}
 
 pub compact_text-list_of : (k : Kind) (r : ℕ) (ds : List Data) → compact_text (list_of k r ds) ≡ list_text_of k r ds
 unfolding serde_json_on_literals
 compact_text-list_of k r ds = simp append_assoc
+
+-- the data of lent members
+pub data-members : (ms : List Member) → map (λ (m : Member). m.object.now.value) ms ≡ map (λ m. m.1) (map member_of ms)
+data-members [] = refl
+data-members (m ∷ ms) = ap (λ ds. m.object.now.value ∷ ds) (data-members ms)
 
 as_items : (ms : Members) → map (λ m. as_item m.1) ms ≡ map as_item (map (λ m. m.1) ms)
 as_items [] = refl

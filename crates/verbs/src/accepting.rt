@@ -1,6 +1,5 @@
 //! What is answered.
 ghost use Rattle.std.specs.Prelude.{◌≡◌, List, ℕ};
-ghost use Rattle.definitions.specs.History.{members, present};
 ghost use Rattle.definitions.specs.Verbs.{accept_at};
 ghost use Rattle.answers.specs.Serves.{Serves};
 ghost use Rattle.verbs.specs.Requests.{request_of};
@@ -26,7 +25,7 @@ pub fn accept(
     request: Request,
     moment: Moment,
 ) -> Result<(Reply, Option<Write>), Fault>
-    ensures { Serves (accept_at (request_of request) (members store.now (present store.now)) (present store.now) moment) result }
+    ensures { Serves (accept_at (request_of request) store.now.members store.now.revision moment) result }
 {
     match request {
         Request::Get(key) => get(alloc, store, &key),

@@ -2,7 +2,6 @@
 ghost use Rattle.std.specs.Prelude.{◌≡◌, ◌+◌, ◌≤◌, IfOk, string_bytes};
 ghost use Rattle.serde_json.specs.Written.{compact_text};
 ghost use Rattle.definitions.specs.Deletion.{decided, gone, kept_code, removal_of};
-ghost use Rattle.definitions.specs.History.{members, present};
 ghost use Rattle.definitions.specs.Revisions.{greatest_revision};
 ghost use Rattle.definitions.specs.Verbs.{accept_at, by_decision, by_fate, delete_object, let_go, put_mark};
 ghost use Rattle.lifecycle.specs.Fates.{fate_seen};
@@ -29,7 +28,7 @@ pub fn delete(
     options: &DeleteOptions,
     moment: Moment,
 ) -> Result<(Reply, Option<Write>), Fault>
-    ensures { Serves (accept_at (delete_object (name_of key) (options_seen options.now)) (members store.now (present store.now)) (present store.now) moment) result }
+    ensures { Serves (accept_at (delete_object (name_of key) (options_seen options.now)) store.now.members store.now.revision moment) result }
 {
     match store.get(&key) {
         None => Err(Fault::NotFound(key)),

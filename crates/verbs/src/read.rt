@@ -4,7 +4,6 @@ ghost use Rattle.definitions.specs.Kinds.{kind_text};
 ghost use Rattle.serde_json.specs.View.{items_of};
 ghost use Rattle.serde_json.specs.Written as json;
 ghost use Rattle.json.specs.Print.{quoted};
-ghost use Rattle.definitions.specs.History.{members, present};
 ghost use Rattle.definitions.specs.Verbs.{accept_at, get_object, list_objects, as_item};
 ghost use Rattle.meta.specs.Keys.{name_of};
 ghost use Rattle.selector.specs.Views.{view_of};
@@ -12,7 +11,7 @@ ghost use Rattle.verbs.specs.Lists.{list_text_of};
 ghost use Rattle.answers.specs.Serves.{Serves};
 
 use definitions::kinds::Kind;
-use meta::{Fault, Key, Object, Write};
+use meta::{Fault, Key, Member, Object, Write};
 use reply::Reply;
 use selector::View;
 use serde_json::Value;
@@ -21,7 +20,7 @@ use store::Store;
 
 /// The object under a key.
 pub fn get(alloc: Global, store: &Store, key: &Key) -> Result<(Reply, Option<Write>), Fault>
-    ensures { (moment : List ℕ) → Serves (accept_at (get_object (name_of key.now)) (members store.now (present store.now)) (present store.now) moment) result }
+    ensures { (moment : List ℕ) → Serves (accept_at (get_object (name_of key.now)) store.now.members store.now.revision moment) result }
 {
     match store.get(key) {
         None => Err(Fault::NotFound(key.try_copy()?)),
@@ -34,10 +33,10 @@ pub fn get(alloc: Global, store: &Store, key: &Key) -> Result<(Reply, Option<Wri
 
 /// The objects of a view, at the present revision.
 pub fn list(alloc: Global, store: &Store, view: &View) -> Result<(Reply, Option<Write>), Fault>
-    ensures { (moment : List ℕ) → Serves (accept_at (list_objects (view_of view.now)) (members store.now (present store.now)) (present store.now) moment) result }
+    ensures { (moment : List ℕ) → Serves (accept_at (list_objects (view_of view.now)) store.now.members store.now.revision moment) result }
 {
-    let objects = store.list(alloc, view)?;
-    let text = list_text(alloc, view.kind, store.revision(), objects.as_slice())?;
+    let members = store.list(alloc, view)?;
+    let text = list_text(alloc, view.kind, store.revision(), members.as_slice())?;
     Ok((Reply { code: 200, text }, None))
 }
 
@@ -46,10 +45,10 @@ fn list_text(
     alloc: Global,
     kind: Kind,
     revision: u64,
-    objects: &[&Object],
+    members: &[Member<'_>],
 ) -> Result<String, AllocError>
     ensures { IfOk result (λ t. string_bytes t
-        ≡ list_text_of kind revision (map (λ o. o.now.value) objects.entry.now)) }
+        ≡ list_text_of kind revision (map (λ m. m.object.now.value) members.entry.now)) }
 {
     let version = quoted(alloc, kind.api_version())?;
     let name = list_name(alloc, kind)?;
@@ -60,7 +59,7 @@ fn list_text(
         &mut text,
         &["{\"apiVersion\":", version.as_str(), ",\"items\":["],
     )?;
-    push_items(alloc, objects, &mut text)?;
+    push_items(alloc, members, &mut text)?;
     push_all(
         &mut text,
         &[
@@ -101,13 +100,13 @@ fn list_name(alloc: Global, kind: Kind) -> Result<String, AllocError>
 }
 
 /// Adds the texts of objects as the items of a list, and the bracket that closes it.
-fn push_items(alloc: Global, objects: &[&Object], text: &mut String) -> Result<(), AllocError>
+fn push_items(alloc: Global, members: &[Member<'_>], text: &mut String) -> Result<(), AllocError>
     ensures { OnOk result (string_bytes text.new ≡ string_bytes text.old
-        ++ json.items_text false (items_of (map as_item (map (λ o. o.now.value) objects.entry.now)))) }
+        ++ json.items_text false (items_of (map as_item (map (λ m. m.object.now.value) members.entry.now)))) }
 {
     let mut later = false;
-    for object in objects {
-        push_item(alloc, later, object, text)?;
+    for member in members {
+        push_item(alloc, later, member.object, text)?;
         later = true;
     }
     text.push_str("]")

@@ -1,7 +1,6 @@
 use Rattle.std.proofs.Common.{◌≡◌, ◌+◌, ◌∙◌, Ok, None, sym, ap, subst}
 use Rattle.definitions.specs.Checks.{create_fault}
 use Rattle.definitions.specs.Defaults.{defaulted}
-use Rattle.definitions.specs.History.{members, present}
 use Rattle.definitions.specs.NewObjects.{created}
 use Rattle.definitions.specs.Verbs.{create_read}
 use Rattle.meta.specs.Keys.{name_of}
@@ -11,8 +10,8 @@ use Rattle.creates.proofs.create.create.Goals as goal
 
 pub returns : goal.returns
 returns c =
-    let r = present c.args.store.now in
-    let ms = members c.args.store.now r in
+    let r = c.args.store.now.revision in
+    let ms = c.args.store.now.members in
     let ns = c.args.namespace.now in
     let k = name_of c.in_ok-key.key in
     let o = c.in_ok-object-2.object in

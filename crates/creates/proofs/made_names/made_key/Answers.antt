@@ -1,16 +1,15 @@
 use Rattle.std.proofs.Common.{◌≡◌, ◌+◌, ◌++◌, true, false, string_bytes, ap, subst, ◌∙◌, arith}
 use Rattle.definitions.specs.GeneratedNames.{suffix, made, made_name}
-use Rattle.definitions.specs.History.{members, present}
 use Rattle.definitions.specs.Verbs.{is_free}
 use Rattle.creates.proofs.MadeNames.{Left, begins, taken, free, none_free, says_free}
 use Rattle.creates.proofs.made_names.made_key.Goals as goal
 
 pub loop-tries-init : goal.loop-tries-init
-loop-tries-init c = begins (is_free c.args.kind c.args.namespace.now (members c.args.store.now (present c.args.store.now))) c.args.given.now (c.revision-first.result + 1)
+loop-tries-init c = begins (is_free c.args.kind c.args.namespace.now c.args.store.now.members) c.args.given.now (c.revision-first.result + 1)
 
 pub loop-tries-preserved : goal.loop-tries-preserved
 loop-tries-preserved c =
-    let ms = members c.args.store.now (present c.args.store.now) in
+    let ms = c.args.store.now.members in
     let first = c.revision-first.result + 1 in
     let name = string_bytes c.in_ok-key.key.name in
     let named : name ≡ made c.args.given.now (first + c.loop-tries.tries) = c.in_ok-key.ensures.name ∙ ap (λ b. b ++ suffix 5 (first + c.loop-tries.tries)) (c.as_str-base.ensures.value ∙ c.in_ok-base.ensures) in
@@ -20,7 +19,7 @@ loop-tries-preserved c =
 
 pub returns-then-is_free-clause-name : goal.returns-then-is_free-clause-name
 returns-then-is_free-clause-name c =
-    let ms = members c.args.store.now (present c.args.store.now) in
+    let ms = c.args.store.now.members in
     let first = c.revision-first.result + 1 in
     let name = string_bytes c.in_ok-key.key.name in
     let named : name ≡ made c.args.given.now (first + c.loop-tries.tries) = c.in_ok-key.ensures.name ∙ ap (λ b. b ++ suffix 5 (first + c.loop-tries.tries)) (c.as_str-base.ensures.value ∙ c.in_ok-base.ensures) in
@@ -31,7 +30,7 @@ returns-then-is_free-clause-name c =
 
 pub returns-clause-name : goal.returns-clause-name
 returns-clause-name c =
-    let ms = members c.args.store.now (present c.args.store.now) in
+    let ms = c.args.store.now.members in
     let first = c.revision-first.result + 1 in
     let name = string_bytes c.in_ok-key-2.key.name in
     let named : name ≡ made c.args.given.now first = c.in_ok-key-2.ensures.name ∙ ap (λ b. b ++ suffix 5 first) (c.as_str-base.ensures.value ∙ c.in_ok-base.ensures) in

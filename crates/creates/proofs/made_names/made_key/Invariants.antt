@@ -1,8 +1,7 @@
-use Rattle.definitions.specs.History.{members, present}
 use Rattle.definitions.specs.Verbs.{is_free}
 use Rattle.creates.proofs.MadeNames.{Left}
 use Rattle.creates.proofs.made_names.made_key.Given as goal
 
 -- the names that are left have the first that is free
 abbrev pub invariant-loop-tries : goal.invariant-loop-tries
-invariant-loop-tries l = Left (is_free l.fn.kind l.namespace (members l.store (present l.store))) l.given l.first l.tries
+invariant-loop-tries l = Left (is_free l.fn.kind l.namespace l.store.members) l.given l.first l.tries

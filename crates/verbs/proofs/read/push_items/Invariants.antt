@@ -5,7 +5,7 @@ use Rattle.definitions.specs.Verbs.{as_item}
 use Rattle.verbs.proofs.read.push_items.Given as goal
 
 -- the items so far and those that are left are all
-abbrev pub invariant-loop-object : goal.invariant-loop-object
-invariant-loop-object l =
-    string_bytes l.text ++ items_text l.later (items_of (map as_item (map (λ o. o.now.value) (drop l.object-index l.objects))))
-    ≡ string_bytes l.initial.text ++ items_text false (items_of (map as_item (map (λ o. o.now.value) l.objects)))
+abbrev pub invariant-loop-member : goal.invariant-loop-member
+invariant-loop-member l =
+    string_bytes l.text ++ items_text l.later (items_of (map as_item (map (λ m. m.object.now.value) (drop l.member-index l.members))))
+    ≡ string_bytes l.initial.text ++ items_text false (items_of (map as_item (map (λ m. m.object.now.value) l.members)))

@@ -1,11 +1,11 @@
 use Rattle.std.proofs.Common.{◌≡◌, ◌++◌, map}
 use Rattle.definitions.specs.History.{viewed}
+use Rattle.meta.specs.Members.{member_of}
 use Rattle.selector.specs.Views.{view_of}
-use Rattle.store.specs.Indexes.{resolved}
+use Rattle.store.specs.Seen.{members_seen}
 use Rattle.store.proofs.stores.Store.list.Given as goal
 
 -- what was found and what is still to be found is all that the view asks for
 abbrev pub invariant-loop-key : goal.invariant-loop-key
 invariant-loop-key l =
-    map (λ o. o.now.value) l.found.items ++ map (λ m. m.1) (viewed (view_of l.view) (resolved l.self-inside.journal l.key-iterator))
-    ≡ map (λ m. m.1) (viewed (view_of l.view) (resolved l.self-inside.journal l.self-inside.places.entries))
+    map member_of l.found.items ++ viewed (view_of l.view) (members_seen l.key-iterator) ≡ viewed (view_of l.view) (members_seen l.initial.key-iterator)

@@ -1,0 +1,26 @@
+-- Where the objects of a view lie in the order of keys.
+use Rattle.std.specs.Prelude.{ℕ, List, [], ◌∷◌, ◌++◌, Option, Some, None, option_map, unwrap_or}
+use Rattle.definitions.specs.History.{View}
+use Rattle.definitions.specs.Names.{Name}
+use Rattle.definitions.specs.declared.kinds.Kind.{Kind}
+use Rattle.definitions.specs.declared.kinds.Kind.TheVariants.{ConfigMap, Pod, ReplicaSet, Deployment}
+
+-- the kind after a kind, in their order
+abbrev pub kind_after : Kind → Option Kind
+kind_after ConfigMap = Some Pod
+kind_after Pod = Some ReplicaSet
+kind_after ReplicaSet = Some Deployment
+kind_after Deployment = None
+
+-- the first name of a kind in a namespace
+abbrev pub first_name : Kind → List ℕ → Name
+first_name kind ns = record { kind = kind; namespace = ns; name = [] }
+
+-- the first name that a view may ask for
+abbrev pub first_asked : View → Name
+first_asked v = first_name v.kind (unwrap_or v.namespace [])
+
+-- the first name after all of a kind in a namespace or, without one, in all; the next text in byte order is the text and a zero
+abbrev pub first_past : Kind → Option (List ℕ) → Option Name
+first_past kind None = option_map (λ next. first_name next []) (kind_after kind)
+first_past kind (Some ns) = Some (first_name kind (ns ++ 0 ∷ []))
