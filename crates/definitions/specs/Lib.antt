@@ -26,6 +26,10 @@ pub mod Moments
 pub mod Names
 pub mod NewObjects
 pub mod Objects
+pub mod PageExamples
+pub mod PageLaws
+pub mod PageTokens
+pub mod Pages
 pub mod Queries
 pub mod Reading
 pub mod ReflectorCodes
