@@ -1,5 +1,5 @@
 -- Pages, joined, and what remains after them.
-use Rattle.std.proofs.Common.{zero, suc, append-nil, ◌≡◌, ◌≤◌, ◌<◌, ◌+◌, ℕ, ◌==◌, ◌&&◌, List, [], ◌∷◌, ◌++◌, length, map, take, drop, filter, Bool, true, false, cond, Option, Some, None, Ordering, Less, Equal, Greater, refl, sym, ap, ap₂, ◌∙◌, subst, append_assoc, arith, nat_le, nat_eq}
+use Rattle.std.proofs.Common.{zero, suc, append-nil, ◌≡◌, ◌≤◌, ◌<◌, ◌+◌, ◌-◌, ℕ, ◌==◌, ◌&&◌, List, [], ◌∷◌, ◌++◌, length, map, take, drop, filter, Bool, true, false, cond, Option, Some, None, Ordering, Less, Equal, Greater, refl, sym, ap, ap₂, ◌∙◌, subst, append_assoc, arith, nat_le, nat_eq}
 use Rattle.std.specs.Cmp.{IsTotalOrder, then_total, on_total, nat_cmp_total}
 use Rattle.std.specs.Ordering.{is_lt, ordering_reverse, ordering_then, nat_cmp}
 use Rattle.std.specs.List.{AllByRecursion}
@@ -160,7 +160,7 @@ ascending_viewed v (e ∷ es) a = ascending_cond v (in_view v e.0 e.1) e es refl
 ascending_list : (h : History) (v : View) (r : ℕ) → IsAscending order (list h v r)
 ascending_list h v r = ascending_viewed v (members h r) (IsAscending-after_all [] (up_to r h) (tt {0}))
 
-all_after : (ms : Members) → after_place None ms ≡ ms
+pub all_after : (ms : Members) → after_place None ms ≡ ms
 all_after [] = refl
 all_after (m ∷ ms) = ap (λ z. m ∷ z) (all_after ms)
 
@@ -195,3 +195,8 @@ pub nothing_remains : (ms : Members) (n : ℕ) (p : Option Place) → (page_of m
 nothing_remains ms n p e =
     let all : length (page_of ms n p).items ≡ length (after_place p ms) = ap length (no_next ms n p (nat_eq n 0) (nat_le (length (after_place p ms)) n) refl refl e) in
     omega (arith, all, adds_up ms n p (nat_eq n 0) (nat_le (length (after_place p ms)) n) refl refl)
+
+pub next_is_last : (ms : Members) (n : ℕ) (p : Option Place) (b c : Bool) → nat_eq n 0 ≡ b → nat_le (length (after_place p ms)) n ≡ c → (page_of ms n p).next ≡ cond (remaining ms n p == 0) None (last_place (page_of ms n p).items)
+next_is_last ms n p true c h l = rw h refl
+next_is_last ms n p false true h l = let none : (length (after_place p ms) - n == 0) ≡ true = grind (arith, nat_tests) in rw (h, l, none) refl
+next_is_last ms n p false false h l = let some : (length (after_place p ms) - n == 0) ≡ false = grind (arith, nat_tests) in rw (h, l, some) refl

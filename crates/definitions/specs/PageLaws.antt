@@ -1,8 +1,8 @@
 -- What follows from the definitions of pages and of their tokens.
-use Rattle.std.specs.Prelude.{◌≡◌, ◌≤◌, ◌<◌, ◌+◌, ℕ, List, length, map, Option, None}
+use Rattle.std.specs.Prelude.{◌≡◌, ◌≤◌, ◌<◌, ◌+◌, ◌==◌, ℕ, List, length, map, Option, None, if◌then◌else◌}
 use Rattle.std.specs.List.Sorted.{IsStrictlySortedBy}
 use Rattle.definitions.specs.History.{History, View, Members, list}
-use Rattle.definitions.specs.Pages.{Place, place_of, place_cmp, after_place, Page, page_of, remaining, ArePages, joined}
+use Rattle.definitions.specs.Pages.{Place, place_of, place_cmp, after_place, last_place, Page, page_of, remaining, ArePages, joined}
 use Rattle.definitions.specs.PageTokens.{Token, IsToken}
 
 -- the members stand in strictly ascending order of their places
@@ -28,6 +28,11 @@ RemaindersAddUp = (ms : Members) (n : ℕ) (p : Option Place) → length (page_o
 -- where a page has no next, nothing remains
 abbrev pub PagesEnd : Type 0
 PagesEnd = (ms : Members) (n : ℕ) (p : Option Place) → (page_of ms n p).next ≡ None → remaining ms n p ≡ 0
+
+-- the next page begins after the last object of this one, if anything remains
+abbrev pub NextsAreLast : Type 0
+NextsAreLast =
+    (ms : Members) (n : ℕ) (p : Option Place) → (page_of ms n p).next ≡ (if remaining ms n p == 0 then None else last_place (page_of ms n p).items)
 
 -- a text is at most one token's
 abbrev pub TokensAreDistinct : Type 0

@@ -1,5 +1,5 @@
 //! Laws of pages.
-ghost use Rattle.definitions.specs.PageLaws.{ListsAreInPlace, PagesAreLists, PagesHaveLimits, RemaindersAddUp, PagesEnd, TokensAreDistinct};
+ghost use Rattle.definitions.specs.PageLaws.{ListsAreInPlace, PagesAreLists, PagesHaveLimits, RemaindersAddUp, PagesEnd, NextsAreLast, TokensAreDistinct};
 
 /// The list of a view goes by namespace, then name.
 pub fn lists_are_in_place()
@@ -24,6 +24,11 @@ pub fn remainders_add_up()
 /// After a page that has no next, nothing remains.
 pub fn pages_end()
     ensures { PagesEnd }
+{}
+
+/// The next page begins after the last object of this one, if anything remains.
+pub fn nexts_are_last()
+    ensures { NextsAreLast }
 {}
 
 /// A text is the text of one token at most.
