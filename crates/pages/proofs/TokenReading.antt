@@ -55,20 +55,3 @@ other_text text again d found held some written other t is =
     let both = sym (token_in-data t is.revision) ∙ ap token_in (sym (held t is)) ∙ some in
     let same : t ≡ found = cc both in
     other (written ∙ ap token_text (sym same) ∙ sym is.written)
-
--- ---- revisions that are read are none too great
-
-last_part : (a b : Bool) → (a && b) ≡ true → b ≡ true
-last_part true b h = h
-last_part false b h = cc
-
-bounded_by : (t : List ℕ) (b : Bool) (r : ℕ) → is_revision t ≡ b → cond b (Some (digits_value 10 t)) None ≡ Some r → r ≤ greatest_revision
-bounded_by t true r e h =
-    let small : nat_lt (digits_value 10 t) 9007199254740992 ≡ true = last_part (nat_lt 0 (length t) && list_all is_digit t && ((length t == 1) || not (slice_index t 0 == 48))) (nat_lt (digits_value 10 t) 9007199254740992) e in
-    let is : digits_value 10 t ≡ r = cc h in
-    let low : digits_value 10 t < 9007199254740992 = grind (arith, nat_tests) in
-    omega (arith, is, low)
-bounded_by t false r e h = cc h
-
-pub bounded : (t : List ℕ) (r : ℕ) → revision_of t ≡ Some r → r ≤ greatest_revision
-bounded t r h = bounded_by t (is_revision t) r refl h

@@ -13,12 +13,12 @@ returns-clause-refused c =
     inr (
       refl,
       other_text
-      c.args.text.now
-      (string_bytes c.in_ok-again.again)
-      (view c.in_ok-value.value)
-      (lent_token c.in-Some.members)
-      c.in_ok-value.ensures.read
-      (sym c.in-Some.ensures)
-      (c.in_ok-again.ensures ∙ ap token_text c.in_ok-token-in-Some.ensures)
-      (λ h. let same : c.as_str.result.now ≡ c.args.text.now = c.as_str.ensures.value ∙ h in search rules),
+          c.args.text.now
+          (string_bytes c.in_ok-again.again)
+          (view c.in_ok-value.value)
+          (lent_token c.in-Some.members)
+          c.in_ok-value.ensures.read
+          (sym c.in-Some.ensures)
+          (c.in_ok-again.ensures ∙ ap token_text c.in_ok-token-in-Some.ensures)
+          (λ h. let same : c.as_str.result.now ≡ c.args.text.now = c.as_str.ensures.value ∙ h in search rules),
     )
