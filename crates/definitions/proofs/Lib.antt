@@ -22,6 +22,7 @@ pub mod NestedOrder
 pub mod NoFloatsRead
 pub mod OnLiterals
 pub mod Past
+pub mod PastWindows
 pub mod Paths
 pub mod Played
 pub mod PutLaws

@@ -53,6 +53,7 @@ pub mod VerbExamples
 pub mod Verbs
 pub mod WatchExamples
 pub mod WatchLaws
+pub mod WindowCodes
 pub mod WindowExamples
 pub mod WindowLaws
 pub mod Windows
