@@ -39,7 +39,7 @@ impl Model for Cache {
 }
 
 impl Cache {
-    ghost use Rattle.std.specs.Prelude.{◌≡◌, ◌≤◌, ◌<◌, IfOk, IsOk, OnOk, Err, map};
+    ghost use Rattle.std.specs.Prelude.{◌≡◌, ◌≤◌, ◌<◌, IfOk, IsOk, Err, length, map};
     ghost use Rattle.std.specs.List.Sorted.{IsStrictlySortedBy};
     ghost use Rattle.std.specs.Map.{keys_of};
     ghost use Rattle.definitions.specs.Names.{name_cmp};
@@ -69,9 +69,10 @@ impl Cache {
         self.kind
     }
 
-    /// How many changes there is room for.
+    /// How many changes there is room for. No more are kept.
     pub fn window(&self) -> usize
-        ensures { result ≡ self.now.size }
+        ensures size { result ≡ self.now.size }
+        ensures room { length self.now.kept ≤ result }
     {
         self.changes.capacity()
     }
@@ -88,7 +89,8 @@ impl Cache {
         requires { last_revision 0 self.old.kept < change.revision }
         ensures { self.new ≡ recorded self.old (kept_seen change) }
     {
-        let _window = self.changes.capacity();
+        // says that no more changes are kept so far than there is room for
+        let _ = self.window();
         let dropped = self.changes.push_back(change);
         self.floor = raised(self.floor, dropped);
     }
