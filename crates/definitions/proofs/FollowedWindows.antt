@@ -5,9 +5,9 @@ use Rattle.std.proofs.Math.Seq.{take-add}
 use Rattle.definitions.specs.declared.kinds.Kind.{Kind}
 use Rattle.definitions.specs.History.{History, Write, write, compaction, writes}
 use Rattle.definitions.specs.WindowLaws.{WindowsOpen, WindowsRecord, WindowsStay, WindowsCompact}
-use Rattle.definitions.specs.Windows.{Kept, is_of, kept_of, kept_after, writes_of, all_but, last_n, last_revision, compacted}
+use Rattle.definitions.specs.Windows.{Kept, is_of, kept_of, kept_after, writes_of, all_but, last_n, last_revision, IsRising, compacted}
 use Rattle.definitions.proofs.Past.{writes-append}
-use Rattle.definitions.proofs.KeptWrites.{IsRising, rising, rising_least, rising_take, kept_after-append}
+use Rattle.definitions.proofs.KeptWrites.{rising, rising_least, rising_take, kept_after-append}
 
 last-append : (r : ℕ) (xs ys : List Kept) → last_revision r (xs ++ ys) ≡ last_revision (last_revision r xs) ys
 last-append r [] ys = refl

@@ -9,14 +9,9 @@ use Rattle.definitions.specs.declared.kinds.Kind.{Kind}
 use Rattle.definitions.specs.Names.{Name}
 use Rattle.definitions.specs.History.{Write, View, Members, last_of, viewed, after_all, put_or_remove, seen}
 use Rattle.definitions.specs.Changes.{Change, changes_after, write_change, play}
-use Rattle.definitions.specs.Windows.{Kept, is_of, kept_of, kept_after, all_but, last_n, last_revision, above, changes_kept, undone}
+use Rattle.definitions.specs.Windows.{Kept, is_of, kept_of, kept_after, all_but, last_n, last_revision, IsRising, above, changes_kept, undone}
 use Rattle.definitions.proofs.Played.{one_more}
 use Rattle.definitions.proofs.Undone.{write_undone}
-
--- each revision is above the one before it, the first above r
-abbrev pub IsRising : ℕ → List Kept → Type 0
-IsRising r [] = Unit {0}
-IsRising r (k ∷ ks) = (r < k.revision) × IsRising k.revision ks
 
 one_rising : (b : Bool) (x : Kept) (lo : ℕ) (ks : List Kept) → lo < x.revision → IsRising x.revision ks → IsRising lo ks → IsRising lo (cond b (x ∷ []) [] ++ ks)
 one_rising true x lo ks l later low = (l, later)
@@ -56,7 +51,7 @@ one_appended : (b : Bool) (x : Kept) (ks ls ms : List Kept) → ks ≡ ls ++ ms 
 one_appended true x ks ls ms is = ap (λ z. x ∷ z) is
 one_appended false x ks ls ms is = is
 
-pushed : (before : List Write) (w : Write) → length (before ++ w ∷ []) ≡ length before + 1
+pub pushed : (before : List Write) (w : Write) → length (before ++ w ∷ []) ≡ length before + 1
 pushed before w = length-append before (w ∷ [])
 
 module _ (kind : Kind) where

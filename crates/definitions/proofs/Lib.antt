@@ -25,6 +25,7 @@ pub mod NoFloatsRead
 pub mod OnLiterals
 pub mod PageLists
 pub mod Past
+pub mod PastWindows
 pub mod Paths
 pub mod Played
 pub mod PutLaws

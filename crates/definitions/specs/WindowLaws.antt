@@ -4,7 +4,7 @@ use Rattle.definitions.specs.declared.kinds.Kind.{Kind}
 use Rattle.definitions.specs.Names.{Name}
 use Rattle.definitions.specs.History.{History, Write, write, compaction, View, writes, present, state, list}
 use Rattle.definitions.specs.Changes.{changes}
-use Rattle.definitions.specs.Windows.{is_of, kept_of, writes_of, compacted, floor, since, list_within, Window, since_kept, list_kept, opened, recorded, compacted_to, Tracks}
+use Rattle.definitions.specs.Windows.{is_of, kept_of, writes_of, last_revision, compacted, floor, since, list_within, Window, since_kept, list_kept, opened, recorded, compacted_to, Tracks}
 
 -- a new window follows the empty history
 abbrev pub WindowsOpen : Type 0
@@ -21,6 +21,10 @@ WindowsStay = (s : Window) (h : History) (w : Write) → Tracks s h → is_of s.
 -- one that is compacted with the history goes on following
 abbrev pub WindowsCompact : Type 0
 WindowsCompact = (s : Window) (h : History) (r : ℕ) → Tracks s h → Tracks (compacted_to s r) (h ++ compaction r ∷ [])
+
+-- the writes that such a window keeps are no later than the present revision, so the next write comes after them all
+abbrev pub KeptWritesArePast : Type 0
+KeptWritesArePast = (s : Window) (h : History) → Tracks s h → last_revision 0 s.kept ≤ present h
 
 -- what a window that follows gives to a watch is what the history says
 abbrev pub WatchesAreServed : Type 0

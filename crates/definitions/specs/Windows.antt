@@ -1,5 +1,5 @@
 -- The window of a kind: its last writes, the revision from which they answer, and what they answer.
-use Rattle.std.specs.Prelude.{◌≡◌, ℕ, ◌+◌, ◌-◌, ◌==◌, Bool, List, [], ◌∷◌, ◌++◌, length, take, drop, filter, flat_map, max, nat_lt, Option, None, Result, Ok, Err, if◌then◌else◌}
+use Rattle.std.specs.Prelude.{◌≡◌, ◌<◌, ℕ, ◌+◌, ◌-◌, ◌==◌, Bool, List, [], ◌∷◌, ◌++◌, length, take, drop, filter, flat_map, max, nat_lt, Option, None, Result, Ok, Err, if◌then◌else◌}
 use Rattle.serde_json.specs.Data.{Data}
 use Rattle.definitions.specs.declared.kinds.Kind.{Kind}
 use Rattle.definitions.specs.Kinds.{rank}
@@ -48,6 +48,11 @@ all_but n ks = take (length ks - n) ks
 abbrev pub last_revision : ℕ → List Kept → ℕ
 last_revision r [] = r
 last_revision r (k ∷ ks) = last_revision k.revision ks
+
+-- each revision is above the one before it, the first above r
+abbrev pub IsRising : ℕ → List Kept → Type 0
+IsRising r [] = Unit {0}
+IsRising r (k ∷ ks) = (r < k.revision) × IsRising k.revision ks
 
 -- the greatest revision that a compaction names, 0 if there is none (etcd API, Compact)
 abbrev pub compacted : History → ℕ

@@ -1,5 +1,5 @@
 //! Laws of windows.
-ghost use Rattle.definitions.specs.WindowLaws.{WindowsOpen, WindowsRecord, WindowsStay, WindowsCompact, WatchesAreServed, ListsAreUndone, RevisionsAreServed, CompactionsChangeNothing, WideWindowsServeAll};
+ghost use Rattle.definitions.specs.WindowLaws.{WindowsOpen, WindowsRecord, WindowsStay, WindowsCompact, KeptWritesArePast, WatchesAreServed, ListsAreUndone, RevisionsAreServed, CompactionsChangeNothing, WideWindowsServeAll};
 
 /// A new window follows a history in which nothing has happened.
 pub fn windows_open()
@@ -19,6 +19,11 @@ pub fn windows_stay()
 /// A window that is told of each compaction goes on following what happens.
 pub fn windows_compact()
     ensures { WindowsCompact }
+{}
+
+/// What a window keeps is no later than the present revision, so each next write has a revision above all of it.
+pub fn kept_writes_are_past()
+    ensures { KeptWritesArePast }
 {}
 
 /// A watch that is served from a window gets just the changes that have happened since its revision: none is lost and

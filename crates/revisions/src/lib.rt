@@ -4,7 +4,8 @@
 mod changes;
 pub mod events;
 pub mod journal;
-mod past;
+pub mod making;
+pub mod past;
 
 pub use events::Event;
 pub use journal::Journal;

@@ -1,7 +1,8 @@
 //! What was there after some writes.
 ghost use Rattle.std.specs.Prelude.{◌≡◌, IfOk, OnOk, ◌-◌, take, option_map};
+ghost use Rattle.meta.specs.Keys.{name_of};
 ghost use Rattle.meta.specs.Writes.{write_of};
-ghost use Rattle.definitions.specs.History.{members, after, put_at};
+ghost use Rattle.definitions.specs.History.{members, after, put_at, put_or_remove};
 ghost use Rattle.revisions.specs.Journals.{history_of};
 ghost use Rattle.revisions.specs.Seen.{seen};
 
@@ -12,7 +13,7 @@ use std::alloc::{AllocError, Global};
 use std::collections::BTreeMap;
 
 /// The objects there after the writes up to a revision.
-pub fn state_at<'a>(
+pub(crate) fn state_at<'a>(
     alloc: Global,
     writes: &'a [Write],
     revision: u64,
@@ -27,25 +28,37 @@ pub fn state_at<'a>(
 }
 
 /// Takes one write into the state.
-pub fn apply<'a>(
+pub(crate) fn apply<'a>(
     state: &mut BTreeMap<&'a Key, &'a Object>,
     write: &'a Write,
 ) -> Result<(), AllocError>
     ensures { OnOk result (seen state.new.entries ≡ after (seen state.old.entries) (write_of write.now)) }
 {
-    match &write.put {
+    put_or_remove(state, &write.key, write.put.as_ref())
+}
+
+/// Puts an object under a key, or, with none, removes the one that is there. The error is want of memory.
+pub fn put_or_remove<'a>(
+    state: &mut BTreeMap<&'a Key, &'a Object>,
+    key: &'a Key,
+    object: Option<&'a Object>,
+) -> Result<(), AllocError>
+    ensures { OnOk result (seen state.new.entries
+        ≡ put_or_remove (seen state.old.entries) (name_of key.now) (option_map (λ o. o.now.value) object.entry)) }
+{
+    match object {
         Some(object) => {
-            state.insert(&write.key, object)?;
+            state.insert(key, object)?;
         }
         None => {
-            state.remove(&&write.key);
+            state.remove(&key);
         }
     }
     Ok(())
 }
 
 /// The writes up to a revision: the n-th has revision n + 1.
-pub fn up_to(writes: &[Write], revision: u64) -> &[Write]
+pub(crate) fn up_to(writes: &[Write], revision: u64) -> &[Write]
     ensures { result.now ≡ take (revision - 1) writes.now }
 {
     let count = revision.saturating_sub(1) as usize;
@@ -57,7 +70,7 @@ pub fn up_to(writes: &[Write], revision: u64) -> &[Write]
 }
 
 /// The object that the write at a place put.
-pub fn put_in(writes: &[Write], place: usize) -> Option<&Object>
+pub(crate) fn put_in(writes: &[Write], place: usize) -> Option<&Object>
     ensures { option_map (λ o. o.now.value) result ≡ put_at (history_of writes.now) place }
 {
     match writes.get(place) {

@@ -1,0 +1,71 @@
+//! How changes are made: what a view shows, and the event from what it showed to what it shows.
+ghost use Rattle.std.specs.Prelude.{◌≡◌, ◌++◌, IfOk, OnOk, map, option_map};
+ghost use Rattle.definitions.specs.History.{seen as shown};
+ghost use Rattle.definitions.specs.Changes.{change_of, gone_at};
+ghost use Rattle.meta.specs.Keys.{name_of};
+ghost use Rattle.selector.specs.Views.{view_of};
+ghost use Rattle.revisions.specs.Events.{change_seen};
+
+use crate::events::Event;
+use definitions::frames::ChangeKind;
+use meta::keys::Key;
+use meta::objects::Object;
+use selector::View;
+use std::alloc::{AllocError, Global};
+
+/// The object, if the view asks for it. It takes no memory.
+pub fn shown<'a>(view: &View, key: &Key, object: Option<&'a Object>) -> Option<&'a Object>
+    ensures { option_map (λ o. o.now.value) result
+        ≡ shown (view_of view.now) (name_of key.now) (option_map (λ o. o.now.value) object.entry) }
+{
+    match object {
+        Some(object) => {
+            if view.contains(key, object) {
+                Some(object)
+            } else {
+                None
+            }
+        }
+        None => None,
+    }
+}
+
+/// Adds the change, if there is one, from what was shown under a key to what is shown there. The error is want of memory.
+pub fn push_change(
+    alloc: Global,
+    changes: &mut Vec<Event>,
+    revision: u64,
+    key: &Key,
+    old: Option<&Object>,
+    new: Option<&Object>,
+) -> Result<(), AllocError>
+    ensures { OnOk result (map change_seen changes.new.items ≡ map change_seen changes.old.items
+        ++ change_of revision (name_of key.now) (option_map (λ o. o.now.value) old.entry) (option_map (λ o. o.now.value) new.entry)) }
+{
+    let (kind, object) = match (old, new) {
+        (None, None) => return Ok(()),
+        (None, Some(new)) => (ChangeKind::Added, new.try_copy()?),
+        (Some(_), Some(new)) => (ChangeKind::Modified, new.try_copy()?),
+        (Some(old), None) => (ChangeKind::Deleted, gone_at(alloc, revision, old)?),
+    };
+    let key = key.try_copy()?;
+    changes.push(Event {
+        kind,
+        revision,
+        key,
+        object,
+    })?;
+    Ok(())
+}
+
+/// A copy of an object, at the revision of the write by which it is gone.
+fn gone_at(alloc: Global, revision: u64, object: &Object) -> Result<Object, AllocError>
+    ensures value { IfOk result (λ o. o.value ≡ gone_at revision object.now.value) }
+    ensures kind { IfOk result (λ o. o.kind ≡ object.now.kind) }
+{
+    let digits = revision.to_string(alloc)?;
+    let mut draft = object.try_copy()?.open(alloc)?;
+    draft.set_text(alloc, "resourceVersion", digits.as_str())?;
+    let gone = draft.close(alloc)?;
+    Ok(gone)
+}

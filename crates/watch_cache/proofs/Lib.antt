@@ -1,0 +1,4 @@
+pub mod Rising
+pub mod Recorded
+pub mod Inserted
+pub mod NewestUndone

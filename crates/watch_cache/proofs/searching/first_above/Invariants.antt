@@ -1,0 +1,16 @@
+use Rattle.std.proofs.Common.{◌≡◌, ◌≤◌, ◌-◌, [], map, take, drop, length}
+use Rattle.definitions.specs.Windows.{above}
+use Rattle.watch_cache.specs.Changes.{kept_seen}
+use Rattle.watch_cache.proofs.searching.first_above.Given as goal
+
+-- no change before `low` is above the revision, and each from `high` on is
+abbrev pub invariant-loop-low : goal.invariant-loop-low
+invariant-loop-low l = record {
+  order : l.low ≤ l.high;
+  bound : l.high ≤ length l.changes.items;
+  before : above l.after (take l.low (map kept_seen l.changes.items)) ≡ [];
+  from : above l.after (drop l.high (map kept_seen l.changes.items)) ≡ drop l.high (map kept_seen l.changes.items);
+}
+
+abbrev pub decreases-loop-low : goal.decreases-loop-low
+decreases-loop-low l = l.high - l.low

@@ -1,0 +1,176 @@
+//! The cache of one kind.
+ghost use Rattle.std.specs.Prelude.{◌≡◌, ◌≤◌, max, option_map};
+ghost use Rattle.std.specs.Option.{option_to_list};
+ghost use Rattle.definitions.specs.Windows.{last_revision};
+ghost use Rattle.watch_cache.specs.Changes.{kept_seen};
+
+use crate::changes::Change;
+use crate::searching::events_above;
+use crate::undoing::undone_to;
+use circular_buffer::HeapCircularBuffer;
+use definitions::kinds::Kind;
+use meta::{Fault, Member};
+use revisions::Event;
+use selector::View;
+use std::alloc::{AllocError, Global};
+use std::marker::Model;
+
+/// The last changes of a kind, and the floor: the least revision from which they are served.
+#[derive(Drop)]
+pub struct Cache {
+    kind: Kind,
+    changes: HeapCircularBuffer<Change>,
+    floor: u64,
+}
+
+impl Model for Cache {
+    ghost use Rattle.std.specs.Prelude.{◌≤◌, map};
+    ghost use Rattle.definitions.specs.Windows.{Window, IsRising};
+    ghost use Rattle.definitions.specs.WindowCodes.{coded_window};
+    ghost use Rattle.watch_cache.specs.Changes.{kept_seen};
+
+    ghost Value = { Window };
+
+    ghost coded = { coded_window };
+
+    ghost view = { λ s. record { kind = s.kind; size = s.changes.capacity; kept = map kept_seen s.changes.items; floor = s.floor } };
+
+    ghost invariant = { λ s. (1 ≤ s.floor) × IsRising 0 (map kept_seen s.changes.items) };
+}
+
+impl Cache {
+    ghost use Rattle.std.specs.Prelude.{◌≡◌, ◌≤◌, ◌<◌, IfOk, IsOk, Err, length, map};
+    ghost use Rattle.std.specs.List.Sorted.{IsStrictlySortedBy};
+    ghost use Rattle.std.specs.Map.{keys_of};
+    ghost use Rattle.definitions.specs.Names.{name_cmp};
+    ghost use Rattle.definitions.specs.Windows.{opened, recorded, compacted_to, last_revision, since_kept, list_kept, within};
+    ghost use Rattle.meta.specs.Members.{member_of};
+    ghost use Rattle.meta.specs.declared.faults.Fault.TheVariants as fault;
+    ghost use Rattle.selector.specs.Views.{view_of};
+    ghost use Rattle.revisions.specs.Events.{change_seen};
+    ghost use Rattle.watch_cache.specs.Changes.{kept_seen};
+    ghost use Rattle.watch_cache.specs.Served.{Serves};
+
+    /// A cache of a kind that keeps the last `window` changes and has none so far. The error is want of memory.
+    pub fn new(alloc: Global, kind: Kind, window: usize) -> Result<Cache, AllocError>
+        ensures { IfOk result (λ c. c ≡ opened kind window) }
+    {
+        Ok(Cache {
+            kind,
+            changes: HeapCircularBuffer::with_capacity(alloc, window)?,
+            floor: 1,
+        })
+    }
+
+    /// The kind whose changes are kept.
+    pub fn kind(&self) -> Kind
+        ensures { result ≡ self.now.kind }
+    {
+        self.kind
+    }
+
+    /// How many changes there is room for. No more are kept.
+    pub fn window(&self) -> usize
+        ensures size { result ≡ self.now.size }
+        ensures room { length self.now.kept ≤ result }
+    {
+        self.changes.capacity()
+    }
+
+    /// The least revision from which watches and lists are served.
+    pub fn floor(&self) -> u64
+        ensures { result ≡ self.now.floor }
+    {
+        self.floor
+    }
+
+    /// Takes the next change of the kind. Where there is no room, the oldest one goes. It takes no memory.
+    pub fn record(&mut self, change: Change)
+        requires { last_revision 0 self.old.kept < change.revision }
+        ensures { self.new ≡ recorded self.old (kept_seen change) }
+    {
+        // says that no more changes are kept so far than there is room for
+        let _ = self.window();
+        let dropped = self.changes.push_back(change);
+        self.floor = raised(self.floor, dropped);
+    }
+
+    /// Serves nothing below a revision any more. The error is a revision above the present one, and changes nothing. It
+    /// takes no memory.
+    pub fn compact(&mut self, present: u64, revision: u64) -> Result<(), Fault>
+        ensures refused { present < revision → (result ≡ Err (fault.TooNew revision present)) × (self.new ≡ self.old) }
+        ensures ok { revision ≤ present → IsOk result × (self.new ≡ compacted_to self.old revision) }
+    {
+        if present < revision {
+            return Err(Fault::TooNew {
+                asked: revision,
+                present,
+            });
+        }
+        if self.floor < revision {
+            self.floor = revision;
+        }
+        Ok(())
+    }
+
+    /// Whether a revision is served: it is at least the floor, and at most the present one.
+    fn check(&self, asked: u64, present: u64) -> Result<(), Fault>
+        ensures { Serves (λ u. u) (within self.now.floor present asked tt) result }
+    {
+        let floor = self.floor;
+        if asked < floor {
+            return Err(Fault::Expired { asked, floor });
+        }
+        if present < asked {
+            return Err(Fault::TooNew { asked, present });
+        }
+        Ok(())
+    }
+
+    /// The first changes of a view after a revision, in order, at most as many as are asked for. The errors are a revision
+    /// below the floor, one above the present, and want of memory.
+    pub fn since(
+        &self,
+        alloc: Global,
+        present: u64,
+        view: &View,
+        after: u64,
+        max: usize,
+    ) -> Result<Vec<Event>, Fault>
+        ensures { Serves (λ es. map change_seen es.items) (since_kept self.now present (view_of view.now) after max) result }
+    {
+        self.check(after, present)?;
+        let events = events_above(alloc, &self.changes, view, after, max)?;
+        Ok(events)
+    }
+
+    /// The members of a view at a revision, in the order of their keys: those that are listed at the present one, with the
+    /// later changes undone. The errors are a revision below the floor, one above the present, and want of memory.
+    pub fn list_at<'a>(
+        &'a self,
+        alloc: Global,
+        listed: &[Member<'a>],
+        view: &View,
+        present: u64,
+        revision: u64,
+    ) -> Result<Vec<Member<'a>>, Fault>
+        requires { IsStrictlySortedBy name_cmp (keys_of (map member_of listed.now)) }
+        ensures { Serves (λ ms. map member_of ms.items)
+            (list_kept self.entry.now present (map member_of listed.entry.now) (view_of view.entry.now) revision) result }
+    {
+        self.check(revision, present)?;
+        let members = undone_to(alloc, &self.changes, listed, view, revision)?;
+        Ok(members)
+    }
+}
+
+/// The floor after a change was dropped, or none was.
+fn raised(floor: u64, dropped: Option<Change>) -> u64
+    requires { 1 ≤ floor }
+    ensures { result ≡ max floor (last_revision 1 (option_to_list (option_map kept_seen dropped))) }
+{
+    match dropped {
+        Some(change) => floor.max(change.revision),
+        None => floor,
+    }
+}

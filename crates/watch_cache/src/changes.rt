@@ -1,0 +1,15 @@
+//! Changes.
+
+use meta::{Key, Object};
+
+/// A write with its revision, and what was under its key before it.
+#[derive(Drop)]
+pub struct Change {
+    /// The revision of the write.
+    pub revision: u64,
+    pub key: Key,
+    /// The object before the write; none, where none was there.
+    pub old: Option<Object>,
+    /// The object after the write; none, where the write removed it.
+    pub new: Option<Object>,
+}
