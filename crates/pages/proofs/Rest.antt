@@ -1,10 +1,10 @@
 -- What comes after a place is the end of a list in the order of places.
-use Rattle.std.proofs.Common.{◌≡◌, ◌≤◌, ◌<◌, ◌+◌, ℕ, zero, suc, List, [], ◌∷◌, length, map, drop, filter, Bool, true, false, not, Some, Ordering, Less, Equal, Greater, refl, sym, ap, ◌∙◌, subst, arith, get_or}
+use Rattle.std.proofs.Common.{◌≡◌, ◌<◌, ℕ, zero, suc, List, [], ◌∷◌, length, map, drop, Bool, true, false, not, Some, Ordering, Less, Equal, Greater, refl, sym, ap, ◌∙◌, arith, get_or}
 use Rattle.std.specs.List.{AllByRecursion}
 use Rattle.std.specs.List.Sorted.{IsStrictlySortedBy, IsPartitionedBy, IsPartitionPoint}
 use Rattle.std.specs.Ordering.{is_lt}
 use Rattle.definitions.specs.PageLaws.{AreInPlace}
-use Rattle.definitions.specs.Pages.{Place, place_of, place_cmp, is_after, after_place}
+use Rattle.definitions.specs.Pages.{Place, place_of, place_cmp, is_after}
 use Rattle.definitions.specs.PageTokens.{Token, token_place}
 use Rattle.definitions.proofs.PageLists.{place_total}
 use Rattle.meta.specs.Members.{member_of}

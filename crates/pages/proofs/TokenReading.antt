@@ -1,9 +1,6 @@
 -- What a text that is a token's holds, and what a text that is none does not.
-use Rattle.std.proofs.Common.{◌≡◌, ◌≤◌, ◌<◌, ◌&&◌, ◌||◌, not, ◌==◌, ◌^◌, ℕ, List, Bool, true, false, cond, Option, Some, None, option_map, option_and_then, Ok, Err, decimal, refl, sym, ap, ◌∙◌, subst, arith, nat_lt, length, slice_index}
-use Rattle.std.specs.List.{list_all}
+use Rattle.std.proofs.Common.{◌≡◌, ◌≤◌, ◌<◌, ◌^◌, ℕ, List, Option, Some, None, option_map, Ok, Err, sym, ap, ◌∙◌, subst, arith}
 use Rattle.std.specs.Str.{IsUtf8}
-use Rattle.std.specs.Str.Parse.{digits_value}
-use Rattle.std.proofs.lemmas.Bool.Decides.{nat_tests}
 use Rattle.base64.specs.declared.decode.DecodeError.{DecodeError}
 use Rattle.base64.specs.Engines.{url_safe_no_pad}
 use Rattle.base64.specs.GeneralPurpose.{decode_of}
@@ -11,9 +8,8 @@ use Rattle.serde_json.specs.Data.{Data}
 use Rattle.serde_json.specs.Read.{read}
 use Rattle.serde_json.specs.Written.{compact_text}
 use Rattle.serde_json.proofs.OnLiterals.{serde_json_on_literals}
-use Rattle.definitions.specs.Moments.{is_digit}
 use Rattle.definitions.specs.PageTokens.{Token, token_data, token_text, IsToken}
-use Rattle.definitions.specs.Revisions.{revision_of, is_revision, greatest_revision}
+use Rattle.definitions.specs.Revisions.{greatest_revision}
 use Rattle.definitions.proofs.RevisionTexts.{revision_is}
 use Rattle.definitions.proofs.TokenTexts.{token_decodes, data_read_back, IsUtf8-token}
 use Rattle.pages.specs.Read.{token_in}
