@@ -63,3 +63,21 @@ dropped_at false n cs c h l =
 pub dropped : (n : ℕ) (cs : List Change) (c : Change) → length cs ≤ n
     → option_to_list (option_map kept_seen (cond (nat_lt (length cs) n) None (slice_get (cs ++ c ∷ []) 0))) ≡ all_but n (map kept_seen cs ++ kept_seen c ∷ [])
 dropped n cs c l = dropped_at (nat_lt (length cs) n) n cs c refl l
+
+-- ---- the last that is kept
+
+last_pushed : (r : ℕ) (ks : List Kept) (k : Kept) → last_revision r (ks ++ k ∷ []) ≡ k.revision
+last_pushed r [] k = refl
+last_pushed r (x ∷ ks) k = last_pushed x.revision ks k
+
+last_none : (i r : ℕ) → last_revision r (drop i []) ≡ r
+last_none zero r = refl
+last_none (suc i) r = refl
+
+last_drop : (i r : ℕ) (ks : List Kept) (k : Kept) → r ≤ k.revision → last_revision r (drop i (ks ++ k ∷ [])) ≤ k.revision
+last_drop zero r ks k l = let is = last_pushed r ks k in omega (arith, is)
+last_drop (suc i) r [] k l = let is = last_none i r in omega (arith, is, l)
+last_drop (suc i) r (x ∷ ks) k l = last_drop i r ks k l
+
+pub last_kept : (n : ℕ) (ks : List Kept) (k : Kept) → last_revision 0 (last_n n (ks ++ k ∷ [])) ≤ k.revision
+last_kept n ks k = last_drop (length (ks ++ k ∷ []) - n) 0 ks k (omega arith)

@@ -87,7 +87,8 @@ impl Cache {
     /// Takes the next change of the kind. Where there is no room, the oldest one goes. It takes no memory.
     pub fn record(&mut self, change: Change)
         requires { last_revision 0 self.old.kept < change.revision }
-        ensures { self.new ≡ recorded self.old (kept_seen change) }
+        ensures window { self.new ≡ recorded self.old (kept_seen change) }
+        ensures last { last_revision 0 self.new.kept ≤ change.revision }
     {
         // says that no more changes are kept so far than there is room for
         let _ = self.window();

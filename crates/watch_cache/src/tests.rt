@@ -1,3 +1,6 @@
+ghost use Rattle.std.specs.Prelude.{◌≤◌, ◌<◌, OnOk};
+ghost use Rattle.definitions.specs.Windows.{last_revision};
+
 use crate::{Cache, Change};
 use definitions::kinds::Kind;
 use meta::{Fault, Key, Member, Object};
@@ -38,25 +41,36 @@ fn stored_if_there(
     }
 }
 
+/// Records a change of a name, from an object of one version to an object of another.
+fn record(
+    alloc: Global,
+    cache: &mut Cache,
+    revision: u64,
+    name: &str,
+    old: Option<u64>,
+    new: Option<u64>,
+) -> Result<(), Fail>
+    requires { last_revision 0 cache.old.kept < revision }
+    ensures { OnOk result (last_revision 0 cache.new.kept ≤ revision) }
+{
+    cache.record(Change {
+        revision,
+        key: key(alloc, name)?,
+        old: stored_if_there(alloc, name, old)?,
+        new: stored_if_there(alloc, name, new)?,
+    });
+    Ok(())
+}
+
 /// A cache of four changes that has recorded six: a, b, a again, c, the removal of b, and a again, at revisions 2 to 7.
 fn six_changes(alloc: Global) -> Result<Cache, Fail> {
     let mut cache = Cache::new(alloc, Kind::ConfigMap, 4)?;
-    let changes = [
-        (2, "a", None, Some(2)),
-        (3, "b", None, Some(3)),
-        (4, "a", Some(2), Some(4)),
-        (5, "c", None, Some(5)),
-        (6, "b", Some(3), None),
-        (7, "a", Some(4), Some(7)),
-    ];
-    for (revision, name, old, new) in changes {
-        cache.record(Change {
-            revision,
-            key: key(alloc, name)?,
-            old: stored_if_there(alloc, name, old)?,
-            new: stored_if_there(alloc, name, new)?,
-        });
-    }
+    record(alloc, &mut cache, 2, "a", None, Some(2))?;
+    record(alloc, &mut cache, 3, "b", None, Some(3))?;
+    record(alloc, &mut cache, 4, "a", Some(2), Some(4))?;
+    record(alloc, &mut cache, 5, "c", None, Some(5))?;
+    record(alloc, &mut cache, 6, "b", Some(3), None)?;
+    record(alloc, &mut cache, 7, "a", Some(4), Some(7))?;
     Ok(cache)
 }
 
