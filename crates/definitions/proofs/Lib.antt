@@ -23,6 +23,7 @@ pub mod NeatMembers
 pub mod NestedOrder
 pub mod NoFloatsRead
 pub mod OnLiterals
+pub mod PageLists
 pub mod Past
 pub mod Paths
 pub mod Played
@@ -46,6 +47,7 @@ pub mod StandingWatches
 pub mod Streamed
 pub mod TaskOrder
 pub mod TextLengths
+pub mod TokenTexts
 pub mod Uids
 pub mod UidsOnce
 pub mod Undone

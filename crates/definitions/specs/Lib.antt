@@ -29,6 +29,8 @@ pub mod Moments
 pub mod Names
 pub mod NewObjects
 pub mod Objects
+pub mod PageExamples
+pub mod PageLaws
 pub mod PageTokens
 pub mod Pages
 pub mod Queries

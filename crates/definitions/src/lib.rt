@@ -16,6 +16,8 @@ pub mod kinds;
 pub mod laws;
 pub mod lifecycle_laws;
 pub mod methods;
+pub mod page_examples;
+pub mod page_laws;
 pub mod policies;
 pub mod reflector_examples;
 pub mod reflectors;

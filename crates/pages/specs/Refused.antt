@@ -1,0 +1,20 @@
+-- What is refused as a page token.
+use Rattle.std.specs.Prelude.{◌≡◌, ◌⊎◌, ℕ, List}
+use Rattle.serde_json.specs.Data.{Data}
+use Rattle.definitions.specs.declared.refusals.Part.TheVariants as part
+use Rattle.definitions.specs.PageTokens as tokens
+use Rattle.definitions.specs.PageTokens.{token_data, IsToken}
+use Rattle.meta.specs.declared.faults.Fault.{Fault}
+use Rattle.meta.specs.declared.faults.Fault.TheVariants as fault
+
+-- the text is no token's
+abbrev pub IsNoToken : List ℕ → Type 0
+IsNoToken text = (t : tokens.Token) → IsToken text t → ⊥
+
+-- the fault is want of memory, or the page token, and then the text is none
+abbrev pub RefusesToken : List ℕ → Fault → Type 0
+RefusesToken text e = (e ≡ fault.NoMemory) ⊎ ((e ≡ fault.BadRequest part.Token) × IsNoToken text)
+
+-- if the text is a token's, then the value is what that token says
+abbrev pub HoldsToken : List ℕ → Data → Type 0
+HoldsToken text d = (t : tokens.Token) → IsToken text t → d ≡ token_data t

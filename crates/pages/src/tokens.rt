@@ -1,0 +1,75 @@
+//! Page tokens.
+ghost use Rattle.std.specs.Prelude.{◌≡◌, IfOk, IfErr, string_bytes};
+
+use crate::reading::{members_of, value_of};
+use base64::engine::general_purpose::URL_SAFE_NO_PAD;
+use definitions::refusals::Part;
+use meta::{Fault, Member};
+use serde_json::{Map, Value};
+use std::alloc::{AllocError, Global};
+
+/// Where a page ended, and the revision of its list: what a client gives back to ask for the next page.
+#[derive(Debug, Drop)]
+pub struct Token {
+    /// The name of the page's last object.
+    pub name: String,
+    /// The namespace of the page's last object.
+    pub namespace: String,
+    /// The revision of the list.
+    pub revision: u64,
+}
+
+impl Token {
+    ghost use Rattle.std.specs.Prelude.{◌≡◌, IfOk, IfErr, string_bytes};
+    ghost use Rattle.definitions.specs.Pages.{place_of};
+    ghost use Rattle.definitions.specs.PageTokens.{token_place, token_text, IsToken};
+    ghost use Rattle.meta.specs.Keys.{name_of};
+    ghost use Rattle.pages.specs.Seen.{token_of};
+    ghost use Rattle.pages.specs.Refused.{RefusesToken};
+
+    /// The token that asks for what comes after an object, in the list of a revision. The error is want of memory.
+    pub fn after(member: &Member<'_>, revision: u64) -> Result<Token, AllocError>
+        ensures place { IfOk result (λ t. token_place (token_of t) ≡ place_of (name_of member.now.key.now)) }
+        ensures revision { IfOk result (λ t. t.revision ≡ revision) }
+    {
+        Ok(Token {
+            name: member.key.name.clone()?,
+            namespace: member.key.namespace.clone()?,
+            revision,
+        })
+    }
+
+    /// The token's text. The error is want of memory.
+    pub fn write(&self, alloc: Global) -> Result<String, AllocError>
+        ensures { IfOk result (λ s. string_bytes s ≡ token_text (token_of self.now)) }
+    {
+        let digits = self.revision.to_string(alloc)?;
+        let name = Value::String(self.name.clone()?);
+        let namespace = Value::String(self.namespace.clone()?);
+        let mut members = Map::new(alloc);
+        serde_json::put(&mut members, alloc, "name", name)?;
+        serde_json::put(&mut members, alloc, "namespace", namespace)?;
+        serde_json::put(&mut members, alloc, "rv", Value::String(digits))?;
+        let text = Value::Object(members).to_string(alloc)?;
+        URL_SAFE_NO_PAD.encode(alloc, text.as_bytes())
+    }
+
+    /// The token that a text is: just what `write` gives is read, up to the greatest revision. The errors are the page
+    /// token as the part of the request at fault, and want of memory.
+    pub fn read(alloc: Global, text: &str) -> Result<Token, Fault>
+        ensures read { IfOk result (λ t. IsToken text.now (token_of t)) }
+        ensures refused { IfErr result (RefusesToken text.now) }
+    {
+        let value = value_of(alloc, text)?;
+        let token = match members_of(&value) {
+            Some(members) => members.to_token(alloc)?,
+            None => return Err(Fault::BadRequest(Part::Token)),
+        };
+        let again = token.write(alloc)?;
+        if again.as_str() == text {
+            Ok(token)
+        } else {
+            Err(Fault::BadRequest(Part::Token))
+        }
+    }
+}
