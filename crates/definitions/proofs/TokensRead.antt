@@ -1,5 +1,5 @@
 -- The token that a text is read as is the one whose text it is.
-use Rattle.std.proofs.Common.{◌≡◌, ◌≤◌, ◌<◌, ◌&&◌, ◌||◌, not, ◌==◌, ◌^◌, ℕ, List, Bool, true, false, cond, Option, Some, None, option_map, option_and_then, codes, bytes_eq, refl, sym, ap, ◌∙◌, subst, arith, nat_lt, length, slice_index, if◌then◌else◌}
+use Rattle.std.proofs.Common.{◌≡◌, ◌≤◌, ◌<◌, ◌&&◌, ◌||◌, not, ◌==◌, ◌^◌, ℕ, List, Bool, true, false, cond, Option, Some, None, option_map, option_and_then, codes, bytes_eq, refl, ap, ◌∙◌, subst, arith, nat_lt, length, slice_index, if◌then◌else◌}
 use Rattle.std.specs.List.{list_all}
 use Rattle.std.specs.Result.{result_ok}
 use Rattle.std.specs.Str.{is_utf8}
