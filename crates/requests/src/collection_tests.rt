@@ -1,29 +1,30 @@
-use crate::collections::{Read, read_collection};
+use crate::collections::{Collection, Read, read_collection};
 use crate::faults::CollectionFault;
+use crate::list_options::ListOptions;
 use crate::watch_options::WatchOptions;
 use definitions::versions::At;
 use std::alloc::Global;
 use std::test::Fail;
 
+/// What a query asks of its collection.
+fn asked(alloc: Global, query: &[u8]) -> Result<Read, CollectionFault> {
+    let Collection { read, .. } = read_collection(alloc, query)?;
+    Ok(read)
+}
+
 /// The revision and the limit of the list that a query asks for.
 fn listed(alloc: Global, query: &[u8]) -> Option<(At, usize)> {
-    match read_collection(alloc, query) {
-        Ok(collection) => match collection.read {
-            Read::List(list) => Some((list.at, list.limit)),
-            Read::Watch(_) => None,
-        },
-        Err(_) => None,
+    match asked(alloc, query) {
+        Ok(Read::List(list)) => Some((list.at, list.limit)),
+        _ => None,
     }
 }
 
 /// The watch that a query asks for.
 fn watched(alloc: Global, query: &[u8]) -> Option<WatchOptions> {
-    match read_collection(alloc, query) {
-        Ok(collection) => match collection.read {
-            Read::List(_) => None,
-            Read::Watch(watch) => Some(watch),
-        },
-        Err(_) => None,
+    match asked(alloc, query) {
+        Ok(Read::Watch(watch)) => Some(watch),
+        _ => None,
     }
 }
 
@@ -72,13 +73,13 @@ fn versions_are_matched(rt: HostRuntime) -> Result<(), Fail> {
 fn tokens_go_on(rt: HostRuntime) -> Result<(), Fail> {
     let alloc = rt.alloc();
     let next = b"limit=2&continue=eyJuYW1lIjoiYiIsIm5hbWVzcGFjZSI6ImRlZmF1bHQiLCJydiI6IjYifQ";
-    let Read::List(list) = read_collection(alloc, next)?.read else {
+    let Read::List(ListOptions { at, limit, after }) = asked(alloc, next)? else {
         assert!(rt; false);
         return Ok(());
     };
-    assert_eq!(rt; list.at, At::Exact(6));
-    assert_eq!(rt; list.limit, 2);
-    let Some(token) = list.after else {
+    assert_eq!(rt; at, At::Exact(6));
+    assert_eq!(rt; limit, 2);
+    let Some(token) = after else {
         assert!(rt; false);
         return Ok(());
     };
