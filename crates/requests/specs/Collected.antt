@@ -1,5 +1,5 @@
 -- What the code's results say of queries of collections.
-use Rattle.std.specs.Prelude.{◌≡◌, Option, option_map, Result, Ok, Err}
+use Rattle.std.specs.Prelude.{◌≡◌, option_map, Result, Ok, Err}
 use Rattle.definitions.specs.declared.refusals.Part.{Part}
 use Rattle.definitions.specs.declared.refusals.Part.TheVariants as part
 use Rattle.definitions.specs.Collections as collections
