@@ -50,6 +50,7 @@ pub mod Streamed
 pub mod TaskOrder
 pub mod TextLengths
 pub mod TokenTexts
+pub mod TokensRead
 pub mod Uids
 pub mod UidsOnce
 pub mod Undone

@@ -1,9 +1,10 @@
 -- What follows from the definitions of pages and of their tokens.
-use Rattle.std.specs.Prelude.{◌≡◌, ◌≤◌, ◌<◌, ◌+◌, ◌==◌, ℕ, List, length, map, Option, None, if◌then◌else◌}
+use Rattle.std.specs.Prelude.{◌≡◌, ◌≤◌, ◌<◌, ◌+◌, ◌==◌, ◌↔◌, ℕ, List, length, map, Option, Some, None, if◌then◌else◌}
 use Rattle.std.specs.List.Sorted.{IsStrictlySortedBy}
 use Rattle.definitions.specs.History.{History, View, Members, list}
 use Rattle.definitions.specs.Pages.{Place, place_of, place_cmp, after_place, last_place, Page, page_of, remaining, ArePages, joined}
 use Rattle.definitions.specs.PageTokens.{Token, IsToken}
+use Rattle.definitions.specs.ReadTokens.{token_of}
 
 -- the members stand in strictly ascending order of their places
 abbrev pub AreInPlace : Members → Type 0
@@ -37,3 +38,7 @@ NextsAreLast =
 -- a text is at most one token's
 abbrev pub TokensAreDistinct : Type 0
 TokensAreDistinct = (text : List ℕ) (s t : Token) → IsToken text s → IsToken text t → s ≡ t
+
+-- a text is read as a token just if it is that token's
+abbrev pub TokensAreRead : Type 0
+TokensAreRead = (text : List ℕ) (t : Token) → IsToken text t ↔ (token_of text ≡ Some t)

@@ -1,5 +1,5 @@
 //! Laws of pages.
-ghost use Rattle.definitions.specs.PageLaws.{ListsAreInPlace, PagesAreLists, PagesHaveLimits, RemaindersAddUp, PagesEnd, NextsAreLast, TokensAreDistinct};
+ghost use Rattle.definitions.specs.PageLaws.{ListsAreInPlace, PagesAreLists, PagesHaveLimits, RemaindersAddUp, PagesEnd, NextsAreLast, TokensAreDistinct, TokensAreRead};
 
 /// The list of a view goes by namespace, then name.
 pub fn lists_are_in_place()
@@ -34,4 +34,9 @@ pub fn nexts_are_last()
 /// A text is the text of one token at most.
 pub fn tokens_are_distinct()
     ensures { TokensAreDistinct }
+{}
+
+/// A text is read as a token just if it is that token's text.
+pub fn tokens_are_read()
+    ensures { TokensAreRead }
 {}

@@ -1,3 +1,5 @@
+pub mod LimitTexts
+pub mod TokenTexts
 pub mod Wholes
 pub mod Texts
 pub mod Cuts

@@ -1,4 +1,6 @@
 pub mod Checked
+pub mod Collected
+pub mod Faults
 pub mod Lines
 pub mod Queried
 pub mod Seen

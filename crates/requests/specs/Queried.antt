@@ -1,9 +1,10 @@
 -- What the code's results say of queries.
 use Rattle.std.specs.Prelude.{◌≡◌, ℕ, List, Option, Some, None, Result, Ok, Err}
+use Rattle.definitions.specs.Collections.{refused_of_collections, unwatched_names}
 use Rattle.definitions.specs.Queries as queries
 use Rattle.definitions.specs.Queries.{refused_names, unserved_names}
-use Rattle.requests.specs.declared.query.Names.{Names}
-use Rattle.requests.specs.declared.query.Names.TheVariants.{Refused, Unserved}
+use Rattle.requests.specs.declared.members.Names.{Names}
+use Rattle.requests.specs.declared.members.Names.TheVariants.{Refused, Unserved, OfNoCollection, OfNoWatch}
 use Rattle.requests.specs.declared.query.Query.{Query}
 use Rattle.requests.specs.declared.query.QueryFault.{QueryFault}
 use Rattle.requests.specs.declared.query.QueryFault.TheVariants.{BadQuery, NoMemory}
@@ -15,6 +16,8 @@ query_seen q = record { labels = q.labels; fields = q.fields; watch = q.watch; p
 abbrev pub names_seen : Names → List (List ℕ)
 names_seen Refused = refused_names
 names_seen Unserved = unserved_names
+names_seen OfNoCollection = refused_of_collections
+names_seen OfNoWatch = unwatched_names
 
 -- the result is this, or that there is none; or memory ran out
 abbrev pub Reads : {A : Type 0} → Option A → Result A QueryFault → Type 0

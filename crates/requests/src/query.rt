@@ -1,21 +1,17 @@
 //! Queries of targets.
 ghost use Rattle.std.specs.Prelude.{◌≡◌, IfOk, None, Some, codes, option_map, if◌then◌else◌};
 ghost use Rattle.std.specs.Cow.{cow_str_bytes};
-ghost use Rattle.std.specs.List.{list_any};
-ghost use Rattle.std.specs.Str.{bytes_eq};
 ghost use Rattle.form_urlencoded.specs.Form.{raw_pairs};
 ghost use Rattle.definitions.specs.DeleteOptions.{policy_said};
-ghost use Rattle.definitions.specs.Queries.{query_of, has_any, member, is_true, list_version, watch_version, by_watch, or_empty, only_policy, collection_query, delete_query, other_query, refused_names, unserved_names};
-ghost use Rattle.definitions.specs.SelectorFields.{said_of_fields};
-ghost use Rattle.definitions.specs.SelectorTexts.{said_by_text};
+ghost use Rattle.definitions.specs.Queries.{query_of, has_any, member, list_version, watch_version, by_watch, only_policy, collection_query, delete_query, other_query, refused_names};
 ghost use Rattle.definitions.specs.Targets.{query_for};
 ghost use Rattle.routes.specs.Seen.{route_seen};
-ghost use Rattle.requests.specs.Queried.{Reads, Understands, names_seen};
+ghost use Rattle.requests.specs.Queried.{Reads, Understands};
 ghost use Rattle.requests.specs.declared.query.QueryFault.TheVariants.{NoMemory};
 
+use crate::members::{Names, fields, has_any, is_true, labels, member};
 use definitions::methods::Method;
 use definitions::policies::PolicySaid;
-use form_urlencoded::parse;
 use routes::targets::Target;
 use selector::{Fields, Selector};
 use stamps::revisions::read_revision;
@@ -52,83 +48,6 @@ impl From<AllocError> for QueryFault {
     }
 }
 
-/// Names of members that are not understood.
-#[derive(Clone, Copy)]
-enum Names {
-    /// No request may have them.
-    Refused,
-    /// No list or watch may have them, so far.
-    Unserved,
-}
-
-impl Names {
-    ghost use Rattle.std.specs.Prelude.{◌≡◌};
-    ghost use Rattle.std.specs.List.{list_any};
-    ghost use Rattle.std.specs.Str.{bytes_eq};
-    ghost use Rattle.requests.specs.Queried.{names_seen};
-
-    fn has(self, name: &str) -> bool
-        ensures { result ≡ list_any (bytes_eq name.now) (names_seen self) }
-    {
-        match self {
-            Names::Refused => is_refused(name),
-            Names::Unserved => is_unserved(name),
-        }
-    }
-}
-
-fn is_refused(name: &str) -> bool
-    ensures { result ≡ list_any (bytes_eq name.now) refused_names }
-{
-    name == "dryRun"
-}
-
-fn is_unserved(name: &str) -> bool
-    ensures { result ≡ list_any (bytes_eq name.now) unserved_names }
-{
-    matches!(
-        name,
-        "limit"
-            | "continue"
-            | "resourceVersionMatch"
-            | "allowWatchBookmarks"
-            | "sendInitialEvents"
-            | "dryRun"
-    )
-}
-
-/// Whether a member has one of these names.
-fn has_any(alloc: Global, query: &[u8], names: Names) -> Result<bool, AllocError>
-    ensures { IfOk result (λ b. b ≡ has_any (names_seen names) (raw_pairs query.now)) }
-{
-    for pair in parse(alloc, query) {
-        let (name, _) = pair?;
-        if names.has(name.as_str()) {
-            return Ok(true);
-        }
-    }
-    Ok(false)
-}
-
-/// The value of a member: of those with its name the first counts.
-fn member<'q>(alloc: Global, query: &'q [u8], name: &str) -> Result<Option<CowStr<'q>>, AllocError>
-    ensures { IfOk result (λ o. option_map cow_str_bytes o ≡ member name.now (raw_pairs query.now)) }
-{
-    for pair in parse(alloc, query) {
-        let (found, value) = pair?;
-        if found.as_str() == name {
-            return Ok(Some(value));
-        }
-    }
-    Ok(None)
-}
-
-fn is_true(value: &str) -> bool
-    ensures { result ≡ is_true value.now }
-{
-    value == "true" || value == "1"
-}
-
 /// What a list says of its revision: that it is the present one.
 fn list_version(version: Option<CowStr<'_>>) -> Option<Option<u64>>
     ensures { result ≡ list_version (option_map cow_str_bytes version.entry) }
@@ -158,40 +77,6 @@ fn by_watch(watch: Option<CowStr<'_>>, version: Option<CowStr<'_>>) -> Option<Op
         None => list_version(version),
         Some(value) if is_true(value.as_str()) => watch_version(version),
         Some(_) => None,
-    }
-}
-
-/// A text that is absent counts as empty.
-fn or_empty<'t>(text: &'t Option<CowStr<'_>>) -> &'t str
-    ensures { result.now ≡ or_empty (option_map cow_str_bytes text.now) }
-{
-    match text {
-        Some(text) => text.as_str(),
-        None => "",
-    }
-}
-
-/// The selector of labels in a query.
-fn labels(alloc: Global, query: &[u8]) -> Result<Selector, QueryFault>
-    ensures { Reads (said_by_text (or_empty (member (codes "labelSelector") (raw_pairs query.now)))) result }
-{
-    let text = member(alloc, query, "labelSelector")?;
-    match Selector::parse(alloc, or_empty(&text)) {
-        Ok(labels) => Ok(labels),
-        Err(selector::Fault::NoMemory) => Err(QueryFault::NoMemory),
-        Err(_) => Err(QueryFault::BadQuery),
-    }
-}
-
-/// The selector of fields in a query.
-fn fields(alloc: Global, query: &[u8]) -> Result<Fields, QueryFault>
-    ensures { Reads (said_of_fields (or_empty (member (codes "fieldSelector") (raw_pairs query.now)))) result }
-{
-    let text = member(alloc, query, "fieldSelector")?;
-    match Fields::parse(alloc, or_empty(&text)) {
-        Ok(fields) => Ok(fields),
-        Err(selector::Fault::NoMemory) => Err(QueryFault::NoMemory),
-        Err(_) => Err(QueryFault::BadQuery),
     }
 }
 

@@ -1,0 +1,61 @@
+//! Queries of collections.
+ghost use Rattle.std.specs.Prelude.{◌≡◌};
+ghost use Rattle.form_urlencoded.specs.Form.{raw_pairs};
+ghost use Rattle.definitions.specs.Collections.{read_by, collection_of};
+ghost use Rattle.requests.specs.Collected.{Gives, read_seen, collection_seen};
+
+use crate::faults::CollectionFault;
+use crate::list_options::{ListOptions, list_options};
+use crate::members::{Names, fields, has_any, is_asked, labels};
+use crate::watch_options::{WatchOptions, watch_options};
+use selector::{Fields, Selector};
+use std::alloc::Global;
+
+/// What the query of a collection asks for.
+#[derive(Drop)]
+pub struct Collection {
+    /// What the objects' labels have to meet.
+    pub labels: Selector,
+    /// What their fields have to meet.
+    pub fields: Fields,
+    /// Whether they are listed or watched.
+    pub read: Read,
+}
+
+/// How the objects of a collection are read.
+#[derive(Drop)]
+pub enum Read {
+    /// They are listed.
+    List(ListOptions),
+    /// They are watched.
+    Watch(WatchOptions),
+}
+
+/// Whether a query lists or watches.
+fn read_options(alloc: Global, query: &[u8]) -> Result<Read, CollectionFault>
+    ensures { Gives read_seen (read_by (raw_pairs query.now)) result }
+{
+    if is_asked(alloc, query, "watch")? {
+        Ok(Read::Watch(watch_options(alloc, query)?))
+    } else {
+        Ok(Read::List(list_options(alloc, query)?))
+    }
+}
+
+/// The query of a collection: what stands after the first `?` of its target. Members that are not known say nothing, and
+/// of those with one name the first counts. A fault of the page token is told only where all else is understood.
+pub fn read_collection(alloc: Global, query: &[u8]) -> Result<Collection, CollectionFault>
+    ensures { Gives collection_seen (collection_of (raw_pairs query.now)) result }
+{
+    if has_any(alloc, query, Names::OfNoCollection)? {
+        return Err(CollectionFault::BadQuery);
+    }
+    let labels = labels(alloc, query)?;
+    let fields = fields(alloc, query)?;
+    let read = read_options(alloc, query)?;
+    Ok(Collection {
+        labels,
+        fields,
+        read,
+    })
+}

@@ -1,0 +1,181 @@
+//! What the query of a list asks of it.
+ghost use Rattle.std.specs.Prelude.{◌≡◌, Some, codes, option_map};
+ghost use Rattle.std.specs.Cow.{cow_str_bytes};
+ghost use Rattle.std.specs.List.{list_all};
+ghost use Rattle.form_urlencoded.specs.Form.{raw_pairs};
+ghost use Rattle.definitions.specs.Collections.{limit_of, match_of, list_at, names_no_other, going_on, by_token, list_options};
+ghost use Rattle.definitions.specs.Moments.{is_digit};
+ghost use Rattle.definitions.specs.Queries.{member};
+ghost use Rattle.definitions.specs.ReadTokens.{token_of};
+ghost use Rattle.requests.specs.Collected.{Gives, list_seen};
+ghost use Rattle.requests.specs.Queried.{Reads};
+
+use crate::faults::CollectionFault;
+use crate::members::{member, version};
+use crate::query::QueryFault;
+use definitions::versions::{At, Match};
+use meta::Fault;
+use pages::Token;
+use std::alloc::Global;
+use std::borrow::CowStr;
+
+/// Which part of a list is asked for.
+#[derive(Drop)]
+pub struct ListOptions {
+    /// At which revision the list is.
+    pub at: At,
+    /// At most how many objects are asked for; 0 is no limit.
+    pub limit: usize,
+    /// The token of the page before, after whose place they begin.
+    pub after: Option<Token>,
+}
+
+/// Whether each byte of the text is a decimal digit.
+fn has_digits(text: &str) -> bool
+    ensures { result ≡ list_all is_digit text.now }
+{
+    text.bytes().all(|byte| b'0' <= byte && byte <= b'9')
+}
+
+/// The limit that a text names; no text names none, which is 0.
+fn limit_of(text: Option<CowStr<'_>>) -> Option<usize>
+    ensures { result ≡ limit_of (option_map cow_str_bytes text.entry) }
+{
+    match text {
+        None => Some(0),
+        Some(text) => read_limit(text.as_str()),
+    }
+}
+
+/// The number that one to nine digits write.
+fn read_limit(text: &str) -> Option<usize>
+    ensures { result ≡ limit_of (Some text.now) }
+{
+    if text.is_empty() || !has_digits(text) {
+        return None;
+    }
+    if text.len() > 9 {
+        return None;
+    }
+    match text.parse::<usize>() {
+        Ok(limit) => Some(limit),
+        Err(_) => None,
+    }
+}
+
+/// The limit that a query names.
+fn limit(alloc: Global, query: &[u8]) -> Result<usize, QueryFault>
+    ensures { Reads (limit_of (member (codes "limit") (raw_pairs query.now))) result }
+{
+    match limit_of(member(alloc, query, "limit")?) {
+        Some(limit) => Ok(limit),
+        None => Err(QueryFault::BadQuery),
+    }
+}
+
+fn match_of(name: Option<CowStr<'_>>) -> Option<Match>
+    ensures { result ≡ match_of (option_map cow_str_bytes name.entry) }
+{
+    match name {
+        None => Match::read(None),
+        Some(name) => Match::read(Some(name.as_str())),
+    }
+}
+
+/// How a query says that the revision is to be matched.
+fn matched(alloc: Global, query: &[u8]) -> Result<Match, QueryFault>
+    ensures { Reads (match_of (member (codes "resourceVersionMatch") (raw_pairs query.now))) result }
+{
+    match match_of(member(alloc, query, "resourceVersionMatch")?) {
+        Some(matched) => Ok(matched),
+        None => Err(QueryFault::BadQuery),
+    }
+}
+
+/// At which revision a list is, if how it is to be matched goes with the revision that is named. Where that is not said,
+/// a limited list is exact: its pages are pages of one list.
+fn list_at(limited: bool, matched: Match, version: Option<u64>) -> Option<At>
+    ensures { result ≡ list_at limited matched version }
+{
+    match (matched, version) {
+        (Match::Unset, None) => Some(At::Present),
+        (_, None) => None,
+        (Match::Exact, Some(0)) => None,
+        (_, Some(0)) => Some(At::Present),
+        (Match::Exact, Some(revision)) => Some(At::Exact(revision)),
+        (Match::NotOlderThan, Some(revision)) => Some(At::NotOlder(revision)),
+        (Match::Unset, Some(revision)) => {
+            if limited {
+                Some(At::Exact(revision))
+            } else {
+                Some(At::NotOlder(revision))
+            }
+        }
+    }
+}
+
+/// A list that goes on after a token names no revision of its own: the token has it.
+fn names_no_other(version: Option<u64>) -> bool
+    ensures { result ≡ names_no_other version }
+{
+    match version {
+        None => true,
+        Some(revision) => revision == 0,
+    }
+}
+
+/// The list that goes on after a token's place, at the token's revision.
+fn going_on(alloc: Global, limit: usize, text: &str) -> Result<ListOptions, CollectionFault>
+    ensures { Gives list_seen (going_on limit (token_of text.now)) result }
+{
+    match Token::read(alloc, text) {
+        Ok(token) => Ok(ListOptions {
+            at: At::Exact(token.revision),
+            limit,
+            after: Some(token),
+        }),
+        Err(Fault::BadRequest(_)) => Err(CollectionFault::BadToken),
+        // A token's reading has no other fault.
+        Err(_) => Err(CollectionFault::NoMemory),
+    }
+}
+
+/// The list by its page token, if it has one.
+fn by_token(
+    alloc: Global,
+    limit: usize,
+    version: Option<u64>,
+    token: Option<CowStr<'_>>,
+    at: At,
+) -> Result<ListOptions, CollectionFault>
+    ensures { Gives list_seen (by_token limit version (option_map cow_str_bytes token.entry) at) result }
+{
+    match token {
+        None => Ok(ListOptions {
+            at,
+            limit,
+            after: None,
+        }),
+        Some(text) => {
+            if names_no_other(version) {
+                going_on(alloc, limit, text.as_str())
+            } else {
+                Err(CollectionFault::BadQuery)
+            }
+        }
+    }
+}
+
+/// The options of a list. Its page token is looked at last.
+pub(crate) fn list_options(alloc: Global, query: &[u8]) -> Result<ListOptions, CollectionFault>
+    ensures { Gives list_seen (list_options (raw_pairs query.now)) result }
+{
+    let limit = limit(alloc, query)?;
+    let version = version(alloc, query)?;
+    let matched = matched(alloc, query)?;
+    let token = member(alloc, query, "continue")?;
+    match list_at(limit != 0, matched, version) {
+        Some(at) => by_token(alloc, limit, version, token, at),
+        None => Err(CollectionFault::BadQuery),
+    }
+}

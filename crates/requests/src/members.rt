@@ -1,0 +1,182 @@
+//! Members of queries.
+ghost use Rattle.std.specs.Prelude.{◌≡◌, IfOk, codes, option_map};
+ghost use Rattle.std.specs.Cow.{cow_str_bytes};
+ghost use Rattle.std.specs.List.{list_any};
+ghost use Rattle.std.specs.Str.{bytes_eq};
+ghost use Rattle.form_urlencoded.specs.Form.{raw_pairs};
+ghost use Rattle.definitions.specs.Collections.{is_asked, refused_of_collections, unwatched_names, version_of};
+ghost use Rattle.definitions.specs.Queries.{has_any, member, is_true, or_empty, refused_names, unserved_names};
+ghost use Rattle.definitions.specs.SelectorFields.{said_of_fields};
+ghost use Rattle.definitions.specs.SelectorTexts.{said_by_text};
+ghost use Rattle.requests.specs.Queried.{Reads, names_seen};
+
+use crate::query::QueryFault;
+use form_urlencoded::parse;
+use selector::{Fields, Selector};
+use stamps::revisions::read_revision;
+use std::alloc::{AllocError, Global};
+use std::borrow::CowStr;
+
+/// Names of members that are not understood.
+#[derive(Clone, Copy)]
+pub(crate) enum Names {
+    /// No request may have them.
+    Refused,
+    /// No list or watch may have them, so far.
+    Unserved,
+    /// No query of a collection may have them.
+    OfNoCollection,
+    /// No watch may have them.
+    OfNoWatch,
+}
+
+impl Names {
+    ghost use Rattle.std.specs.Prelude.{◌≡◌};
+    ghost use Rattle.std.specs.List.{list_any};
+    ghost use Rattle.std.specs.Str.{bytes_eq};
+    ghost use Rattle.requests.specs.Queried.{names_seen};
+
+    fn has(self, name: &str) -> bool
+        ensures { result ≡ list_any (bytes_eq name.now) (names_seen self) }
+    {
+        match self {
+            Names::Refused => is_refused(name),
+            Names::Unserved => is_unserved(name),
+            Names::OfNoCollection => is_of_no_collection(name),
+            Names::OfNoWatch => is_of_no_watch(name),
+        }
+    }
+}
+
+fn is_refused(name: &str) -> bool
+    ensures { result ≡ list_any (bytes_eq name.now) refused_names }
+{
+    name == "dryRun"
+}
+
+fn is_unserved(name: &str) -> bool
+    ensures { result ≡ list_any (bytes_eq name.now) unserved_names }
+{
+    matches!(
+        name,
+        "limit"
+            | "continue"
+            | "resourceVersionMatch"
+            | "allowWatchBookmarks"
+            | "sendInitialEvents"
+            | "dryRun"
+    )
+}
+
+fn is_of_no_collection(name: &str) -> bool
+    ensures { result ≡ list_any (bytes_eq name.now) refused_of_collections }
+{
+    matches!(name, "dryRun" | "sendInitialEvents")
+}
+
+fn is_of_no_watch(name: &str) -> bool
+    ensures { result ≡ list_any (bytes_eq name.now) unwatched_names }
+{
+    name == "resourceVersionMatch"
+}
+
+/// Whether a member has one of these names.
+pub(crate) fn has_any(alloc: Global, query: &[u8], names: Names) -> Result<bool, AllocError>
+    ensures { IfOk result (λ b. b ≡ has_any (names_seen names) (raw_pairs query.now)) }
+{
+    for pair in parse(alloc, query) {
+        let (name, _) = pair?;
+        if names.has(name.as_str()) {
+            return Ok(true);
+        }
+    }
+    Ok(false)
+}
+
+/// The value of a member: of those with its name the first counts.
+pub(crate) fn member<'q>(
+    alloc: Global,
+    query: &'q [u8],
+    name: &str,
+) -> Result<Option<CowStr<'q>>, AllocError>
+    ensures { IfOk result (λ o. option_map cow_str_bytes o ≡ member name.now (raw_pairs query.now)) }
+{
+    for pair in parse(alloc, query) {
+        let (found, value) = pair?;
+        if found.as_str() == name {
+            return Ok(Some(value));
+        }
+    }
+    Ok(None)
+}
+
+pub(crate) fn is_true(value: &str) -> bool
+    ensures { result ≡ is_true value.now }
+{
+    value == "true" || value == "1"
+}
+
+/// Whether a member is there and true.
+pub(crate) fn is_asked(alloc: Global, query: &[u8], name: &str) -> Result<bool, AllocError>
+    ensures { IfOk result (λ b. b ≡ is_asked (member name.now (raw_pairs query.now))) }
+{
+    match member(alloc, query, name)? {
+        Some(value) => Ok(is_true(value.as_str())),
+        None => Ok(false),
+    }
+}
+
+/// The revision that a text names; no text and an empty one name none.
+fn version_of(text: Option<CowStr<'_>>) -> Option<Option<u64>>
+    ensures { result ≡ version_of (option_map cow_str_bytes text.entry) }
+{
+    match text {
+        None => Some(None),
+        Some(text) if text.as_str().is_empty() => Some(None),
+        Some(text) => Some(Some(read_revision(text.as_str())?)),
+    }
+}
+
+/// The revision that a query names, if any.
+pub(crate) fn version(alloc: Global, query: &[u8]) -> Result<Option<u64>, QueryFault>
+    ensures { Reads (version_of (member (codes "resourceVersion") (raw_pairs query.now))) result }
+{
+    match version_of(member(alloc, query, "resourceVersion")?) {
+        Some(version) => Ok(version),
+        None => Err(QueryFault::BadQuery),
+    }
+}
+
+/// A text that is absent counts as empty.
+fn or_empty<'t>(text: &'t Option<CowStr<'_>>) -> &'t str
+    ensures { result.now ≡ or_empty (option_map cow_str_bytes text.now) }
+{
+    match text {
+        Some(text) => text.as_str(),
+        None => "",
+    }
+}
+
+/// The selector of labels in a query.
+pub(crate) fn labels(alloc: Global, query: &[u8]) -> Result<Selector, QueryFault>
+    ensures { Reads (said_by_text (or_empty (member (codes "labelSelector") (raw_pairs query.now)))) result }
+{
+    let text = member(alloc, query, "labelSelector")?;
+    match Selector::parse(alloc, or_empty(&text)) {
+        Ok(labels) => Ok(labels),
+        Err(selector::Fault::NoMemory) => Err(QueryFault::NoMemory),
+        Err(_) => Err(QueryFault::BadQuery),
+    }
+}
+
+/// The selector of fields in a query.
+pub(crate) fn fields(alloc: Global, query: &[u8]) -> Result<Fields, QueryFault>
+    ensures { Reads (said_of_fields (or_empty (member (codes "fieldSelector") (raw_pairs query.now)))) result }
+{
+    let text = member(alloc, query, "fieldSelector")?;
+    match Fields::parse(alloc, or_empty(&text)) {
+        Ok(fields) => Ok(fields),
+        Err(selector::Fault::NoMemory) => Err(QueryFault::NoMemory),
+        Err(_) => Err(QueryFault::BadQuery),
+    }
+}
