@@ -1,5 +1,5 @@
 -- What a delete asks for beside its object (Kubernetes API reference, DeleteOptions).
-use Rattle.std.specs.Prelude.{ℕ, List, not, Option, Some, None, Result, Ok, Err, option_and_then, codes, if◌then◌else◌}
+use Rattle.std.specs.Prelude.{ℕ, List, ◌==◌, length, not, Option, Some, None, Result, Ok, Err, option_and_then, codes, if◌then◌else◌}
 use Rattle.std.specs.Str.{bytes_eq}
 use Rattle.serde_json.specs.Data.{Data}
 use Rattle.serde_json.specs.Find.{get}
@@ -41,9 +41,13 @@ options_with p uid version Nothing = Ok (record { uid = uid; version = version; 
 options_with p uid version (Named policy) = Ok (record { uid = uid; version = version; policy = Some policy })
 options_with p uid version Unknown = Err p
 
+-- an empty text names nothing
+abbrev pub unless_empty : List ℕ → Option (List ℕ)
+unless_empty t = if length t == 0 then None else Some t
+
 -- a text that the object has to have
 abbrev pub precondition : List ℕ → Data → Option (List ℕ)
-precondition k d = option_and_then (text_at k) (get (codes "preconditions") d)
+precondition k d = option_and_then unless_empty (option_and_then (text_at k) (get (codes "preconditions") d))
 
 -- a value read as options, or the part of the request that is at fault
 abbrev pub options_of : Data → Result Options Part

@@ -63,7 +63,7 @@ fn text_at<'v>(value: &'v Value, name: &str) -> Option<&'v str>
     value.get(name)?.as_str()
 }
 
-/// A text that the object has to have.
+/// A text that the object has to have. An empty one names nothing.
 fn precondition(alloc: Global, value: &Value, name: &str) -> Result<Option<String>, AllocError>
     ensures { IfOk result (λ o. option_map string_bytes o ≡ precondition name.now (view value.now)) }
 {
@@ -71,8 +71,8 @@ fn precondition(alloc: Global, value: &Value, name: &str) -> Result<Option<Strin
         return Ok(None);
     };
     match text_at(preconditions, name) {
-        Some(text) => Ok(Some(String::from_str(alloc, text)?)),
-        None => Ok(None),
+        Some(text) if !text.is_empty() => Ok(Some(String::from_str(alloc, text)?)),
+        _ => Ok(None),
     }
 }
 

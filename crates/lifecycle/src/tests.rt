@@ -147,7 +147,7 @@ fn the_uid_is_compared_first(rt: HostRuntime) -> Result<(), Fail> {
     let met = r#"{"preconditions":{"uid":"u","resourceVersion":"7"}}"#;
     assert_eq!(rt; deleted(alloc, held, met)?.as_str(), "remove");
     let empty = r#"{"preconditions":{"resourceVersion":""}}"#;
-    assert_eq!(rt; deleted(alloc, held, empty)?.as_str(), "version");
+    assert_eq!(rt; deleted(alloc, held, empty)?.as_str(), "remove");
     Ok(())
 }
 
