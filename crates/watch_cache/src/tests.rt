@@ -62,7 +62,7 @@ fn record(
     Ok(())
 }
 
-/// A cache of four changes that has recorded six: a, b, a again, c, the removal of b, and a again, at revisions 2 to 7.
+/// A cache of four changes that has recorded six: a, b, a again, c, and the removals of b and c, at revisions 2 to 7.
 fn six_changes(alloc: Global) -> Result<Cache, Fail> {
     let mut cache = Cache::new(alloc, Kind::ConfigMap, 4)?;
     record(alloc, &mut cache, 2, "a", None, Some(2))?;
@@ -70,7 +70,7 @@ fn six_changes(alloc: Global) -> Result<Cache, Fail> {
     record(alloc, &mut cache, 4, "a", Some(2), Some(4))?;
     record(alloc, &mut cache, 5, "c", None, Some(5))?;
     record(alloc, &mut cache, 6, "b", Some(3), None)?;
-    record(alloc, &mut cache, 7, "a", Some(4), Some(7))?;
+    record(alloc, &mut cache, 7, "c", Some(5), None)?;
     Ok(cache)
 }
 
@@ -114,11 +114,11 @@ fn serves_watches_from_the_floor(rt: HostRuntime) -> Result<(), Fail> {
         (
             3,
             9,
-            "MODIFIED 4 a 4\nADDED 5 c 5\nDELETED 6 b 6\nMODIFIED 7 a 7\n",
+            "MODIFIED 4 a 4\nADDED 5 c 5\nDELETED 6 b 6\nDELETED 7 c 7\n",
         ),
         (3, 1, "MODIFIED 4 a 4\n"),
         (3, 0, ""),
-        (5, 9, "DELETED 6 b 6\nMODIFIED 7 a 7\n"),
+        (5, 9, "DELETED 6 b 6\nDELETED 7 c 7\n"),
         (7, 9, ""),
     ];
     for (after, max, lines) in cases {
@@ -132,20 +132,14 @@ fn serves_watches_from_the_floor(rt: HostRuntime) -> Result<(), Fail> {
     Ok(())
 }
 
-/// The names and the versions of the members at a revision, where a at 7 and c at 5 are present.
+/// The names and the versions of the members at a revision, where a at 4 is present.
 fn listed_at(alloc: Global, cache: &Cache, revision: u64) -> Result<String, Fail> {
-    let (a, c) = (key(alloc, "a")?, key(alloc, "c")?);
-    let (last_a, last_c) = (stored(alloc, "a", 7)?, stored(alloc, "c", 5)?);
-    let present = [
-        Member {
-            key: &a,
-            object: &last_a,
-        },
-        Member {
-            key: &c,
-            object: &last_c,
-        },
-    ];
+    let key = key(alloc, "a")?;
+    let object = stored(alloc, "a", 4)?;
+    let present = [Member {
+        key: &key,
+        object: &object,
+    }];
     let view = View::whole(alloc, Kind::ConfigMap, None);
     let members = match cache.list_at(alloc, &present, &view, PRESENT, revision) {
         Ok(members) => members,
@@ -176,7 +170,7 @@ fn lists_by_undoing(rt: HostRuntime) -> Result<(), Fail> {
         (4, "a 4, b 3, "),
         (5, "a 4, b 3, c 5, "),
         (6, "a 4, c 5, "),
-        (7, "a 7, c 5, "),
+        (7, "a 4, "),
         (8, "8 is above 7"),
     ];
     for (revision, text) in cases {
