@@ -1,9 +1,10 @@
 #!/usr/bin/env python3
-"""Measures `kcp replay`: creates, gets, updates, lists, watches, patches and deletes of ConfigMaps, in lines a second, and the memory
+"""Measures `kcp replay`: creates, gets, updates, patches, deletes, lists and watches of ConfigMaps, in lines a second, and the memory
 that it takes.
 
-Eight inputs are run, each in a process of its own: the creates; the creates and the gets; and so on, each with one part more.
-The time of each part is the difference of two runs, each the best of several. Beside it stands the time
+Eight inputs are run, each in a process of its own: the creates; the creates and the gets; and so on, each with one part more, but
+that the deletes are left out again, so that there is something to list. The time of each part is the difference of two runs, each
+the best of several. Beside it stands the time
 that a loop takes which only reads and writes the same bytes, line by line, and does nothing else: what the machine
 costs by itself. The beginning of each line of the replies is checked, so that a run that refuses its requests is not taken for a fast one.
 
@@ -66,7 +67,7 @@ def selections(count):
 
 
 def watches(count):
-    """Watches of all that has happened: a change for each create and each update."""
+    """Watches of all that has happened: a change for each create, each update and each patch."""
     return [f"GET {COLLECTION}?watch=true&resourceVersion=1"] * REPEATS
 
 
@@ -123,30 +124,34 @@ def check(written, codes):
 
 def measure(program, folder, asked):
     """For each part: its name, its seconds, those of the loop, and the memory by its end."""
-    changes = [b"200"] + [FRAME] * (2 * asked.count)
+    changes = [b"200"] + [FRAME] * (3 * asked.count)
     parts = [
         ("creates", creates, [b"201"] * asked.count),
         ("gets", gets, [b"200"] * asked.count),
         ("updates", updates, [b"200"] * asked.count),
-        (f"lists of {asked.count:,}", lists, [b"200"] * REPEATS),
-        ("the same by four requirements", selections, [b"200"] * REPEATS),
-        (f"watches of {2 * asked.count:,} changes", watches, changes * REPEATS),
         ("patches", patches, [b"200"] * asked.count),
         ("deletes", deletes, [b"200"] * asked.count),
+        (f"lists of {asked.count:,}", lists, [b"200"] * REPEATS),
+        ("the same by four requirements", selections, [b"200"] * REPEATS),
+        (f"watches of {3 * asked.count:,} changes", watches, changes * REPEATS),
     ]
     given, written = folder / "given", folder / "written"
     codes, before, before_loop, rows = [], 0.0, 0.0, []
     given.write_bytes(b"")
     for name, make, replies in parts:
         asks = make(asked.count)
+        length = given.stat().st_size
         with open(given, "ab") as lines:
             lines.writelines(line.encode() + b"\n" for line in asks)
-        codes += replies
         seconds, memory = best([program, "replay"], given, written, asked)
-        check(written, codes)
+        check(written, codes + replies)
         loop_seconds, _ = best([sys.executable, "-c", LOOP], given, written, asked)
         rows.append((name, len(asks), seconds - before, loop_seconds - before_loop, memory))
-        before, before_loop = seconds, loop_seconds
+        if make is deletes:
+            os.truncate(given, length)
+        else:
+            codes += replies
+            before, before_loop = seconds, loop_seconds
     return rows
 
 
