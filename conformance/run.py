@@ -4,6 +4,10 @@
 A case is a pair of files in cases/: NAME.replay has the bytes of standard input of `kcp replay`, NAME.expect those of its
 standard output. The program is built from the sources by `rt try`, which takes seconds and proves nothing;
 `--program PATH` runs one that is built already.
+
+A case of many or of long lines is written in short: NAME.replay.short and NAME.expect.short. Each of their lines is a number, a
+space, and a line that is meant so many times, for which Python's `%` fills in `number`, from 1 on over the whole file, `revision`,
+one more than that, and `blank`, which is empty: `%(blank)1000s` is a thousand blanks.
 Usage: run.py [--program PATH] [WORD]      WORD: only cases whose name has it
 """
 import argparse
@@ -20,16 +24,31 @@ SECONDS = 60
 
 def cases(word):
     """The names of the cases, in order."""
-    names = {path.stem for path in CASES.glob("*.replay")} | {path.stem for path in CASES.glob("*.expect")}
+    names = {path.name.split(".")[0] for path in CASES.iterdir()}
     return sorted(name for name in names if word in name)
+
+
+def whole(short):
+    """The bytes that a file in short means."""
+    lines, number = [], 0
+    for line in short.decode().splitlines():
+        count, text = line.split(" ", 1)
+        for number in range(number + 1, number + 1 + int(count)):
+            lines.append(text % {"number": number, "revision": number + 1, "blank": ""} + "\n")
+    return "".join(lines).encode()
+
+
+def read(name, end):
+    """The bytes of a file of a case."""
+    path = CASES / f"{name}.{end}"
+    return path.read_bytes() if path.exists() else whole((CASES / f"{name}.{end}.short").read_bytes())
 
 
 def by_program(program, names):
     """The names of the cases that a built program fails."""
     failed = []
     for name in names:
-        given = (CASES / f"{name}.replay").read_bytes()
-        wanted = (CASES / f"{name}.expect").read_bytes()
+        given, wanted = read(name, "replay"), read(name, "expect")
         run = subprocess.run([program, "replay"], input=given, capture_output=True, timeout=SECONDS)
         if run.stdout != wanted or run.returncode != 0:
             failed.append(name)
@@ -51,8 +70,8 @@ def by_try(names):
     """The names of the cases that the program fails as `rt try` builds it."""
     with tempfile.TemporaryDirectory() as folder:
         for name in names:
-            (pathlib.Path(folder) / name).write_bytes((CASES / f"{name}.replay").read_bytes())
-            (pathlib.Path(folder) / f"{name}.stdout").write_bytes((CASES / f"{name}.expect").read_bytes())
+            (pathlib.Path(folder) / name).write_bytes(read(name, "replay"))
+            (pathlib.Path(folder) / f"{name}.stdout").write_bytes(read(name, "expect"))
         command = ["rt", "try", "--seconds", str(SECONDS), "--cases", folder, "--", "replay"]
         run = subprocess.run(command, cwd=PROGRAM, capture_output=True, text=True, errors="replace")
         said = run.stdout + run.stderr

@@ -1,3 +1,4 @@
 pub mod Bodies
 pub mod Naming
 pub mod Serves
+pub mod PageTexts

@@ -1,10 +1,11 @@
-//! What the answers of all verbs are made of: bodies that are read, names and versions that are compared, generations, and
-//! objects put in the place of others.
+//! What the answers of all verbs are made of: bodies that are read, names and versions that are compared, generations,
+//! objects put in the place of others, and the texts of lists.
 #![tactic(auto)]
 
 pub mod bodies;
 pub mod first_status;
 pub mod generations;
 pub mod limits;
+pub mod list_texts;
 pub mod names_given;
 pub mod placing;

@@ -19,7 +19,7 @@ use Rattle.definitions.specs.Reading.{is_body, reading}
 use Rattle.definitions.specs.Refusals.{Refusal, bad_request, already_exists, conflict, invalid, too_large, storage_full}
 use Rattle.definitions.specs.Replacements.{in_place, is_let_go, says_the_same, updated, with_said_status}
 use Rattle.definitions.specs.Values.{merged}
-use Rattle.definitions.specs.Verbs.{Request, get_object, list_objects, create_object, update_object, update_status, patch_object, delete_object, Outcome, answered, refused, accept, shown, stored, removed, said, create_as, create_checked, create_read, new_name, put_in_place, let_go, replace_changed, replace_with, if_same, replace, update_read, restate, restate_with, status_read, patch_read, patch, by_fate, by_decision, delete, names_path, is_too_large, is_past_greatest, most_objects}
+use Rattle.definitions.specs.Verbs.{Request, get_object, list_objects, create_object, update_object, update_status, patch_object, delete_object, Outcome, answered, refused, accept_at, accept, shown, stored, removed, said, create_as, create_checked, create_read, new_name, put_in_place, let_go, replace_changed, replace_with, if_same, replace, update_read, restate, restate_with, status_read, patch_read, patch, by_fate, by_decision, delete, names_path, is_too_large, is_past_greatest, most_objects}
 use Rattle.definitions.proofs.Guards.{guard, guard_field, there, either}
 
 module _ (P : Outcome → Type 0) (refusal : (f : Refusal) → P (refused f)) where
@@ -147,59 +147,66 @@ module _ (P : Outcome → Type 0) (refusal : (f : Refusal) → P (refused f)) (q
 
 -- ---- all verbs
 
--- what may be written of a new object, by a create after a history
-abbrev pub Creates : (Outcome → Type 0) → History → List ℕ → Type 0
-Creates P h moment =
+-- what may be written of a new object, by a create
+abbrev pub Creates : (Outcome → Type 0) → history.Members → ℕ → List ℕ → Type 0
+Creates P ms r moment =
     (kind : Kind) (ns : List ℕ) (o : Data)
-    → is_too_large (created kind (present h + 1) ns (new_name kind ns o (members h (present h)) (present h)).name moment o) ≡ false
-    → is_some (found (new_name kind ns o (members h (present h)) (present h)) (members h (present h))) ≡ false
-    → (nat_le most_objects (length (members h (present h))) || is_past_greatest (present h + 1)) ≡ false
-    → P (stored 201 (new_name kind ns o (members h (present h)) (present h)) (created kind (present h + 1) ns (new_name kind ns o (members h (present h)) (present h)).name moment o))
+    → is_too_large (created kind (r + 1) ns (new_name kind ns o ms r).name moment o) ≡ false
+    → is_some (found (new_name kind ns o ms r) ms) ≡ false
+    → (nat_le most_objects (length ms) || is_past_greatest (r + 1)) ≡ false
+    → P (stored 201 (new_name kind ns o ms r) (created kind (r + 1) ns (new_name kind ns o ms r).name moment o))
 
 -- in the place of what is held, by an update or a patch
-abbrev pub Updates : (Outcome → Type 0) → History → Type 0
-Updates P h =
-    (k : Name) (o held : Data) → found k (members h (present h)) ≡ Some held → update_fault k.kind k.name (present h) held (in_place k.kind held o) ≡ None
-    → is_too_large (updated k.kind (present h + 1) held (in_place k.kind held o)) ≡ false
-    → is_past_greatest (present h + 1) ≡ false → P (stored 200 k (updated k.kind (present h + 1) held (in_place k.kind held o)))
+abbrev pub Updates : (Outcome → Type 0) → history.Members → ℕ → Type 0
+Updates P ms r =
+    (k : Name) (o held : Data) → found k ms ≡ Some held → update_fault k.kind k.name r held (in_place k.kind held o) ≡ None
+    → is_too_large (updated k.kind (r + 1) held (in_place k.kind held o)) ≡ false
+    → is_past_greatest (r + 1) ≡ false → P (stored 200 k (updated k.kind (r + 1) held (in_place k.kind held o)))
 
 -- where nothing keeps it any more
-abbrev pub Removes : (Outcome → Type 0) → History → Type 0
-Removes P h =
-    (k : Name) (o held : Data) → found k (members h (present h)) ≡ Some held → is_let_go held (updated k.kind (present h + 1) held (in_place k.kind held o)) ≡ true
-    → is_past_greatest (present h + 1) ≡ false → P (removed k (updated k.kind (present h + 1) held (in_place k.kind held o)))
+abbrev pub Removes : (Outcome → Type 0) → history.Members → ℕ → Type 0
+Removes P ms r =
+    (k : Name) (o held : Data) → found k ms ≡ Some held → is_let_go held (updated k.kind (r + 1) held (in_place k.kind held o)) ≡ true
+    → is_past_greatest (r + 1) ≡ false → P (removed k (updated k.kind (r + 1) held (in_place k.kind held o)))
 
 -- by an update of the status
-abbrev pub Restates : (Outcome → Type 0) → History → Type 0
-Restates P h =
-    (k : Name) (o held : Data) → found k (members h (present h)) ≡ Some held
-    → is_too_large (at_revision (present h + 1) (metadata_of (with_said_status k.kind held o)) (with_said_status k.kind held o)) ≡ false → is_past_greatest (present h + 1) ≡ false
-    → P (stored 200 k (at_revision (present h + 1) (metadata_of (with_said_status k.kind held o)) (with_said_status k.kind held o)))
+abbrev pub Restates : (Outcome → Type 0) → history.Members → ℕ → Type 0
+Restates P ms r =
+    (k : Name) (o held : Data) → found k ms ≡ Some held
+    → is_too_large (at_revision (r + 1) (metadata_of (with_said_status k.kind held o)) (with_said_status k.kind held o)) ≡ false → is_past_greatest (r + 1) ≡ false
+    → P (stored 200 k (at_revision (r + 1) (metadata_of (with_said_status k.kind held o)) (with_said_status k.kind held o)))
 
 -- by a delete that leaves finalizers
-abbrev pub Marks : (Outcome → Type 0) → History → List ℕ → Type 0
-Marks P h moment =
-    (k : Name) (o : Options) (held : Data) → found k (members h (present h)) ≡ Some held → is_past_greatest (present h + 1) ≡ false
+abbrev pub Marks : (Outcome → Type 0) → history.Members → ℕ → List ℕ → Type 0
+Marks P ms r moment =
+    (k : Name) (o : Options) (held : Data) → found k ms ≡ Some held → is_past_greatest (r + 1) ≡ false
     → P (stored (kept_code o.policy) k
-    (at_revision (present h + 1) (metadata_of (marked k.kind moment (left_by o.policy (finalizers held)) held)) (marked k.kind moment (left_by o.policy (finalizers held)) held)))
+    (at_revision (r + 1) (metadata_of (marked k.kind moment (left_by o.policy (finalizers held)) held)) (marked k.kind moment (left_by o.policy (finalizers held)) held)))
 
 -- by a delete that leaves none
-abbrev pub Deletes : (Outcome → Type 0) → History → Type 0
-Deletes P h =
-    (k : Name) (o : Options) (held : Data) → found k (members h (present h)) ≡ Some held → (items_len (left_by o.policy (finalizers held)) == 0) ≡ true
-    → is_past_greatest (present h + 1) ≡ false → P (removed k (removal_of k.kind k (present h + 1) held))
+abbrev pub Deletes : (Outcome → Type 0) → history.Members → ℕ → Type 0
+Deletes P ms r =
+    (k : Name) (o : Options) (held : Data) → found k ms ≡ Some held → (items_len (left_by o.policy (finalizers held)) == 0) ≡ true
+    → is_past_greatest (r + 1) ≡ false → P (removed k (removal_of k.kind k (r + 1) held))
 
 module _ (P : Outcome → Type 0) (refusal : (f : Refusal) → P (refused f)) (quiet : (code : ℕ) (body : Data) → P (answered (record { code = code; body = body; write = None }))) where
-  pub of_accept : (q : Request) (h : History) (moment : List ℕ) → Creates P h moment → Updates P h → Removes P h → Restates P h → Marks P h moment → Deletes P h → P (accept q h moment)
-  of_accept (get_object k) h moment new put gone status marks deletes = there P refusal k shown (found k (members h (present h))) (λ d is. quiet 200 d)
-  of_accept (list_objects v) h moment new put gone status marks deletes = quiet 200 _
-  of_accept (create_object kind ns d) h moment new put gone status marks deletes =
-      of_create P refusal kind ns (said kind d) (members h (present h)) (present h) moment (new kind ns)
-  of_accept (update_object k d) h moment new put gone status marks deletes =
-      of_update P refusal (quiet 200) k (said k.kind d) (members h (present h)) (present h) (λ o held read is same. put k o held is) (λ o held read is same. gone k o held is)
-  of_accept (update_status k d) h moment new put gone status marks deletes =
-      of_status P refusal (quiet 200) k (reading k.kind d) (members h (present h)) (present h) (λ o held read is same. status k o held is)
-  of_accept (patch_object k d) h moment new put gone status marks deletes =
-      of_patch P refusal (quiet 200) k d (members h (present h)) (present h) (λ o held read is same. put k o held is) (λ o held read is same. gone k o held is)
-  of_accept (delete_object k o) h moment new put gone status marks deletes =
-      of_delete P refusal quiet k o (members h (present h)) (present h) moment (λ held is same same_version. marks k o held is) (λ held is same same_version. deletes k o held is)
+  pub of_accept_at : (q : Request) (ms : history.Members) (r : ℕ) (moment : List ℕ) → Creates P ms r moment → Updates P ms r → Removes P ms r → Restates P ms r → Marks P ms r moment → Deletes P ms r
+      → P (accept_at q ms r moment)
+  of_accept_at (get_object k) ms r moment new put gone status marks deletes = there P refusal k shown (found k ms) (λ d is. quiet 200 d)
+  of_accept_at (list_objects v) ms r moment new put gone status marks deletes = quiet 200 _
+  of_accept_at (create_object kind ns d) ms r moment new put gone status marks deletes =
+      of_create P refusal kind ns (said kind d) ms r moment (new kind ns)
+  of_accept_at (update_object k d) ms r moment new put gone status marks deletes =
+      of_update P refusal (quiet 200) k (said k.kind d) ms r (λ o held read is same. put k o held is) (λ o held read is same. gone k o held is)
+  of_accept_at (update_status k d) ms r moment new put gone status marks deletes =
+      of_status P refusal (quiet 200) k (reading k.kind d) ms r (λ o held read is same. status k o held is)
+  of_accept_at (patch_object k d) ms r moment new put gone status marks deletes =
+      of_patch P refusal (quiet 200) k d ms r (λ o held read is same. put k o held is) (λ o held read is same. gone k o held is)
+  of_accept_at (delete_object k o) ms r moment new put gone status marks deletes =
+      of_delete P refusal quiet k o ms r moment (λ held is same same_version. marks k o held is) (λ held is same same_version. deletes k o held is)
+
+  -- after a history
+  pub of_accept : (q : Request) (h : History) (moment : List ℕ) → Creates P (members h (present h)) (present h) moment → Updates P (members h (present h)) (present h)
+      → Removes P (members h (present h)) (present h) → Restates P (members h (present h)) (present h) → Marks P (members h (present h)) (present h) moment
+      → Deletes P (members h (present h)) (present h) → P (accept q h moment)
+  of_accept q h moment new put gone status marks deletes = of_accept_at q (members h (present h)) (present h) moment new put gone status marks deletes

@@ -6,13 +6,14 @@ use Rattle.serde_json.specs.Data.{Data}
 use Rattle.definitions.specs.declared.kinds.Kind.{Kind}
 use Rattle.definitions.specs.declared.kinds.Kind.TheVariants.{ConfigMap, Pod, ReplicaSet, Deployment}
 use Rattle.definitions.specs.Kinds.{rank}
-use Rattle.definitions.specs.History.{History, Write, write, compaction, Members, writes, Follows, CanHappen, present, members, found, after, after_all}
+use Rattle.definitions.specs.History.{History, Write, write, compaction, Members, writes, CanHappen, present, members, found, after, after_all}
 use Rattle.definitions.specs.Refusals.{too_new}
 use Rattle.definitions.specs.Verbs.{accept_at, accept, write_of, with_write}
 use Rattle.definitions.specs.Snapshots.{Snapshot, snapshot, written}
 use Rattle.definitions.specs.Windows.{Kept, Window, is_of, kept_of, recorded, compacted_to}
 use Rattle.definitions.specs.Servers.{Server, opened_server, window_of, with_window, kept_at, after_write, after_writing, after_compaction, after_entries, IsWindow, Holds}
 use Rattle.definitions.specs.ServerLaws.{ServersOpen, ServersWrite, ServersFollow, HoldOrRefuse, ServersCompact, CompactionsHappen, ServersAccept}
+use Rattle.definitions.proofs.Compacted.{snapshot-compaction, follows_compaction}
 use Rattle.definitions.proofs.Past.{writes-append, whole}
 use Rattle.definitions.proofs.PutLaws.{found-after_all}
 use Rattle.definitions.proofs.SentChanges.{same_kind}
@@ -26,10 +27,6 @@ members_now h = ap (after_all []) (whole (present h - 1) (writes h) (omega arith
 abbrev snapshot_with : Members → ℕ → Snapshot
 snapshot_with ms r = record { members = ms; revision = r }
 
-snapshot_of : (h more : History) → writes h ≡ writes more → snapshot h ≡ snapshot more
-snapshot_of h more same =
-    ap₂ snapshot_with (members_now h ∙ ap (after_all []) same ∙ sym (members_now more)) (ap (λ ws. length ws + 1) same)
-
 after_all-last : (ms : Members) (ws : List Write) (w : Write) → after_all ms (ws ++ w ∷ []) ≡ after (after_all ms ws) w
 after_all-last ms [] w = refl
 after_all-last ms (u ∷ ws) w = after_all-last (after ms u) ws w
@@ -40,9 +37,6 @@ snapshot_written h w =
     ap₂ snapshot_with
     (ap (λ ms. after ms w) (members_now h) ∙ sym (after_all-last [] (writes h) w) ∙ ap (after_all []) (sym all) ∙ sym (members_now (h ++ write w ∷ [])))
     (ap (λ n. n + 1) (sym (length-append (writes h) (w ∷ []))) ∙ ap (λ ws. length ws + 1) (sym all))
-
-snapshot_compacted : (h : History) (r : ℕ) → snapshot h ≡ snapshot (h ++ compaction r ∷ [])
-snapshot_compacted h r = snapshot_of h (h ++ compaction r ∷ []) (sym (writes-append h (compaction r ∷ []) ∙ append-nil (writes h)))
 
 abbrev kept_with : Write → ℕ → Option Data → Kept
 kept_with w r o = record { revision = r; key = w.key; old = o; new = w.put }
@@ -133,7 +127,7 @@ written_holds size s h w is = (
 
 compacted_holds : (size : ℕ) (s : Server) (h : History) (r : ℕ) → Holds size s h → Holds size (after_compaction s r) (h ++ compaction r ∷ [])
 compacted_holds size s h r is =
-    (is.0 ∙ snapshot_compacted h r, λ k. subst (IsWindow size k (h ++ compaction r ∷ [])) (sym (window_compacted k s r)) ((is.1 k).0, (is.1 k).1, follows_compacted (window_of k s) h r (is.1 k).2))
+    (is.0 ∙ sym (snapshot-compaction h r), λ k. subst (IsWindow size k (h ++ compaction r ∷ [])) (sym (window_compacted k s r)) ((is.1 k).0, (is.1 k).1, follows_compacted (window_of k s) h r (is.1 k).2))
 
 pub entries_hold : ServersFollow
 entries_hold size s h [] is = subst (Holds size s) (sym (append-nil h)) is
@@ -152,11 +146,6 @@ pub compaction_holds : ServersCompact
 compaction_holds size s h r is =
     subst (λ now. HoldOrRefuse size (cond (nat_lt now r) (Err (too_new r now)) (Ok (after_compaction s r))) (cond (nat_lt (present h) r) (Err (too_new r (present h))) (Ok (h ++ compaction r ∷ []))))
     (sym (ap (λ z. z.revision) is.0)) (hold_or_refuse (nat_lt (present h) r) size (present h) r (after_compaction s r) (h ++ compaction r ∷ []) (compacted_holds size s h r is))
-
-follows_compaction : (r n c : ℕ) (h : History) → n ≡ r + length (writes h) → c ≤ n → Follows r h → Follows r (h ++ compaction c ∷ [])
-follows_compaction r n c [] is le f = (omega (arith, is, le), tt)
-follows_compaction r n c (write w ∷ h) is le f = follows_compaction (r + 1) n c h (omega (arith, is)) le f
-follows_compaction r n c (compaction d ∷ h) is le f = (f.0, follows_compaction r n c h is le f.1)
 
 happens_at : (b : Bool) (now r : ℕ) (h more : History) → nat_lt now r ≡ b → cond b (Err (too_new r now)) (Ok h) ≡ Ok more → (r ≤ now → CanHappen h) → CanHappen more
 happens_at true now r h more m is f = cc

@@ -2,6 +2,7 @@ pub mod Alarms
 pub mod BoardRuns
 pub mod Cases
 pub mod CheckLaws
+pub mod Compacted
 pub mod DefaultsRead
 pub mod Due
 pub mod Expected
@@ -44,6 +45,7 @@ pub mod SentObjects
 pub mod SentRuns
 pub mod SentVerbs
 pub mod ServedWindows
+pub mod ShownWatches
 pub mod SnapshotSteps
 pub mod StandingWatches
 pub mod Streamed

@@ -153,7 +153,7 @@ ascending_cond : (v : View) (b : Bool) (e : Name × Data) (es : Members) → in_
 ascending_cond v true e es g a s = (above_viewed v e.0 e.1 es g a, s)
 ascending_cond v false e es g a s = s
 
-ascending_viewed : (v : View) (es : Members) → IsAscending name_cmp es → IsAscending order (viewed v es)
+pub ascending_viewed : (v : View) (es : Members) → IsAscending name_cmp es → IsAscending order (viewed v es)
 ascending_viewed v [] a = tt
 ascending_viewed v (e ∷ es) a = ascending_cond v (in_view v e.0 e.1) e es refl a.0 (ascending_viewed v es a.1)
 
@@ -171,7 +171,7 @@ all_below : (k : Name) (ms : Members) → IsAbove order k ms → AllByRecursion 
 all_below k [] a = tt
 all_below k (m ∷ ms) a = (a.0, all_below k ms a.1)
 
-in_place_from : (ms : Members) → IsAscending order ms → AreInPlace ms
+pub in_place_from : (ms : Members) → IsAscending order ms → AreInPlace ms
 unfolding IsStrictlySortedBy
 in_place_from [] a = tt
 in_place_from (m ∷ ms) a = (all_below m.0 ms a.0, in_place_from ms a.1)

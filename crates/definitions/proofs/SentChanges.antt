@@ -1,5 +1,5 @@
 -- What the changes of a watch show, after any lines.
-use Rattle.std.proofs.Common.{◌≡◌, ◌≤◌, ◌+◌, ◌-◌, ◌==◌, ◌&&◌, ℕ, List, [], ◌∷◌, ◌++◌, length, drop, Bool, true, false, cond, not, nat_le, nat_lt, map, codes, decimal, is_some, bytes_eq, option_and_then, IsSome, IfSome, unwrap_or, Option, Some, None, Ok, Err, refl, sym, ap, ◌∙◌, subst, arith, length-append}
+use Rattle.std.proofs.Common.{◌≡◌, ◌≤◌, ◌+◌, ◌-◌, ◌==◌, ◌&&◌, ℕ, List, [], ◌∷◌, ◌++◌, length, drop, Bool, true, false, cond, not, nat_le, codes, decimal, is_some, bytes_eq, option_and_then, IsSome, IfSome, unwrap_or, Option, Some, None, Ok, refl, sym, ap, ◌∙◌, subst, arith, length-append}
 use Rattle.std.proofs.lemmas.Bool.{leb-true}
 use Rattle.std.proofs.lemmas.List.{length-take}
 use Rattle.std.specs.List.{AllByRecursion}
@@ -9,18 +9,15 @@ use Rattle.serde_json.specs.Written.{compact_text, has_float}
 use Rattle.definitions.specs.declared.kinds.Kind.{Kind}
 use Rattle.definitions.specs.declared.kinds.Kind.TheVariants.{ConfigMap, Pod, ReplicaSet, Deployment}
 use Rattle.definitions.specs.Kinds.{rank}
-use Rattle.definitions.specs.Changes.{Change, change_of, changes_after, changes, gone_at}
-use Rattle.definitions.specs.History.{History, Write, View, writes, present, up_to, last_of, in_view, seen}
+use Rattle.definitions.specs.Changes.{Change, change_of, changes_after, gone_at}
+use Rattle.definitions.specs.History.{Write, writes, present, up_to, last_of, in_view, seen}
 use Rattle.definitions.specs.Metadata.{at_revision, metadata_of, metadata_text, name, namespace, uid}
 use Rattle.definitions.specs.Names.{Name}
-use Rattle.definitions.specs.Refusals.{too_new}
-use Rattle.definitions.specs.Frames.{frame_text}
-use Rattle.definitions.specs.Lines.{frames_text}
-use Rattle.definitions.specs.Streams.{change, change_event, Goes, text_of}
+use Rattle.definitions.specs.Lines.{history_of}
 use Rattle.definitions.specs.Reading.{reading, is_body, fits, tidied, filled, whole_of}
 use Rattle.definitions.specs.Reflectors.{shown, shown_read, has_identity, revision, name_in}
 use Rattle.definitions.specs.Revisions.{revision_of}
-use Rattle.definitions.specs.SentLaws.{IsKept, IsTold, IsShort, ChangesAreTold, WatchesAreStreams, whole, history_of}
+use Rattle.definitions.specs.SentLaws.{IsKept, IsTold, IsShort, ChangesAreTold, whole}
 use Rattle.definitions.specs.Values.{members_of}
 use Rattle.definitions.proofs.HeldMembers.{version-at_revision}
 use Rattle.definitions.proofs.JsonMembers.{text_in-put_other, metadata_text-with}
@@ -156,23 +153,3 @@ changes_told lines k a b le =
     let long : length (up_to a h) + length ws ≡ length (up_to b h) = sym (length-append (up_to a h) ws) ∙ ap length split in
     let short = length-take (b - 1) (writes h) in
     both k _ (after_told k (up_to a h) ws parts.0 (subst (λ n. AreStored n ws) place parts.1) (omega (arith, long, short, few)))
-
--- ---- what a watch is shown
-
-goes_alone : (at b : ℕ) (cs : List Change) → Goes at b cs (map change cs)
-goes_alone at b [] = tt
-goes_alone at b (c ∷ cs) = (refl, goes_alone c.revision b cs)
-
-one_text : (k : Kind) (cs : List Change) → frames_text cs ≡ text_of k (map change cs)
-one_text k [] = refl
-one_text k (c ∷ cs) = ap (λ t. frame_text (change_event c) ++ t) (one_text k cs)
-
-shown_at : (h : History) (v : View) (a : ℕ) (cs : List Change) (b : Bool) → nat_lt (present h) a ≡ b → cond b (Err (too_new a (present h))) (Ok (changes h v a (present h))) ≡ Ok cs
-    → (a ≤ present h) × (changes h v a (present h) ≡ cs)
-shown_at h v a cs true is e = cc
-shown_at h v a cs false is e = (grind arith, cc)
-
-pub watches_stream : WatchesAreStreams
-watches_stream h v a cs e =
-    let at = shown_at h v a cs (nat_lt (present h) a) refl e in
-    (at.0, subst (λ x. Goes a (present h) x (map change cs)) (sym at.1) (goes_alone a (present h) cs), one_text v.kind cs)

@@ -26,7 +26,8 @@ use Rattle.definitions.specs.Schemas.{kept, member_at}
 use Rattle.definitions.specs.Values.{members_of, without, is_null}
 use Rattle.definitions.specs.Verbs.{as_item, list_body}
 use Rattle.definitions.specs.Reflectors.{Shown, shown, shown_read, name_in, all_shown, apart, items_shown, repeats, is_list, revision, list_in, list_of, put_all}
-use Rattle.definitions.specs.SentLaws.{whole, history_of, objects_in, ListsAreRead, ListsNest}
+use Rattle.definitions.specs.Lines.{history_of}
+use Rattle.definitions.specs.SentLaws.{whole, objects_in, ListsAreRead, ListsNest}
 use Rattle.definitions.proofs.JsonMembers.{get_member-without_other}
 use Rattle.definitions.proofs.JsonOrder.{IsOrdered, IsOrdered-without, put_back, gone}
 use Rattle.definitions.proofs.Limits.{limits}

@@ -1,29 +1,35 @@
 -- What holds of what is stored, after any lines.
-use Rattle.std.proofs.Common.{◌≡◌, ◌+◌, ◌-◌, ◌==◌, ◌&&◌, ℕ, List, [], ◌∷◌, ◌++◌, length, drop, Bool, true, false, cond, not, nat_le, nat_lt, codes, bytes_eq, IfSome, Option, Some, None, Result, Ok, Err, refl, sym, subst, arith}
+use Rattle.std.proofs.Common.{◌≡◌, ◌≤◌, ◌+◌, ◌-◌, ◌==◌, ◌&&◌, ℕ, List, [], ◌∷◌, ◌++◌, length, drop, Bool, true, false, cond, not, nat_le, nat_lt, codes, bytes_eq, IfSome, Option, Some, None, Result, Ok, Err, refl, sym, subst, arith}
 use Rattle.std.proofs.lemmas.List.{take-append-drop}
 use Rattle.std.specs.Str.{is_utf8}
 use Rattle.serde_json.specs.Data.{Data}
 use Rattle.serde_json.specs.Read.{read}
 use Rattle.definitions.specs.declared.methods.Method.{Method}
 use Rattle.definitions.specs.declared.methods.Method.TheVariants.{Get, Post, Put, Patch, Delete}
+use Rattle.definitions.specs.declared.refusals.Part.{Part}
 use Rattle.definitions.specs.declared.refusals.Part.TheVariants as part
-use Rattle.definitions.specs.Changes.{Change, changes_since}
-use Rattle.definitions.specs.History.{History, Write, write, writes, last_of, members, found, present, up_to}
-use Rattle.definitions.specs.Lines.{Session, start, Line, ask, at, unreadable, ask_if, cut, target_alone, target_and_body, line_from, line_of, reply_for, watch_reply, history_from, session_after, next, after_lines}
+use Rattle.definitions.specs.History.{History, Write, write, compaction, writes, last_of, members, found, present, up_to}
+use Rattle.definitions.specs.Lines.{Session, start, default_window, history_of, Line, ask, at, compact, compact_at, unreadable, ask_if, cut, target_alone, target_and_body, line_from, line_of, reply_for, history_from, session_after, next, after_lines}
 use Rattle.definitions.specs.Moments as moments
 use Rattle.definitions.specs.Moments.{has_form, is_day, is_digit, is_moment}
 use Rattle.definitions.specs.Names.{Name, is_named, is_namespace}
-use Rattle.definitions.specs.Queries.{Query}
+use Rattle.definitions.specs.Collections as collections
+use Rattle.definitions.specs.Collections.{Read}
+use Rattle.definitions.specs.RequestQueries.{Query}
+use Rattle.definitions.specs.Revisions.{revision_of}
+use Rattle.definitions.specs.Values.{data_of}
 use Rattle.definitions.specs.Refusals.{Refusal, bad_request, method_not_allowed, too_large}
-use Rattle.definitions.specs.Targets.{Asked, request, watch, Route, collection, object_at, status_of, route, path_of, decoded, query_for, names_namespace, is_allowed, data_of, body_or, body_of, asks_with, with_body, delete_options, deletes_with, list_or_watch, selected, asked, asked_with, asked_at, read_request}
+use Rattle.definitions.specs.Targets.{Asked, request, list, watch, Route, collection, object_at, status_of, route, path_of, decoded, query_for, names_namespace, is_allowed, body_or, body_of, asks_with, with_body, delete_options, deletes_with, read_as, selected, asked, asked_with, asked_at, read_request}
 use Rattle.definitions.specs.Verbs.{Request, create_object, update_object, update_status, patch_object, accept, with_write, write_of}
 use Rattle.definitions.specs.DeleteOptions.{Options}
 use Rattle.definitions.specs.History as history
-use Rattle.definitions.specs.SentLaws.{IsKept, AreKept, RunsKeepObjects, history_of}
+use Rattle.definitions.specs.SentLaws.{IsKept, AreKept, RunsKeepObjects}
 use Rattle.definitions.proofs.NeatMembers.{IsFilled}
 use Rattle.definitions.proofs.NestedOrder.{HasOrders, orders_read}
 use Rattle.definitions.proofs.NoFloatsRead.{both_true}
 use Rattle.definitions.proofs.Past.{writes-append}
+use Rattle.definitions.proofs.Compacted.{same_writes}
+use Rattle.definitions.proofs.Runs.{kept_asked, kept_watched, by_compaction}
 use Rattle.definitions.proofs.PutLaws.{found-after_all, same_name}
 use Rattle.definitions.proofs.SentObjects.{IsStored, IsAsked, IsHeld, filled_long}
 use Rattle.definitions.proofs.SentVerbs.{IsTime, stores}
@@ -33,7 +39,8 @@ use Rattle.definitions.proofs.SentVerbs.{IsTime, stores}
 abbrev AsksWell : Result Asked Refusal → Type 0
 AsksWell (Err f) = Unit {0}
 AsksWell (Ok (request q)) = IsAsked q
-AsksWell (Ok (watch v r)) = Unit {0}
+AsksWell (Ok (list v o)) = Unit {0}
+AsksWell (Ok (watch v o)) = Unit {0}
 
 well_or : (b : Bool) (f : Refusal) (r : Result Asked Refusal) → (b ≡ false → AsksWell r) → AsksWell (cond b (Err f) r)
 well_or true f r each = tt
@@ -73,12 +80,12 @@ filled_namespace : (ns : List ℕ) → is_namespace ns ≡ true → IsFilled ns
 filled_namespace [] h = cc
 filled_namespace (b ∷ bs) h = filled_long (b ∷ bs) (omega arith)
 
-well_view : (v : history.View) (from : Option ℕ) → AsksWell (Ok (list_or_watch v from))
-well_view v None = tt
-well_view v (Some r) = tt
+well_read : (v : history.View) (r : Read) → AsksWell (Ok (read_as v r))
+well_read v (collections.list o) = tt
+well_read v (collections.watch o) = tt
 
 well_asked : (method : Method) (r : Route) (q : Query) (text : List ℕ) → names_namespace r ≡ true → AsksWell (asked method r q text)
-well_asked Get (collection k ns) q text h = well_view (selected k ns q) q.watch
+well_asked Get (collection k ns) q text h = well_read (selected k ns q.collection) q.collection.read
 well_asked Get (object_at n) q text h = tt
 well_asked Get (status_of n) q text h = tt
 well_asked Post (collection k None) q text h = tt
@@ -95,9 +102,9 @@ well_asked Delete (collection k ns) q text h = tt
 well_asked Delete (object_at n) q text h = well_deletes n (delete_options q text)
 well_asked Delete (status_of n) q text h = tt
 
-well_query : (method : Method) (r : Route) (text : List ℕ) (o : Option Query) → names_namespace r ≡ true → AsksWell (asked_with method r text o)
-well_query method r text None h = tt
-well_query method r text (Some q) h = well_asked method r q text h
+well_query : (method : Method) (r : Route) (text : List ℕ) (o : Result Query Part) → names_namespace r ≡ true → AsksWell (asked_with method r text o)
+well_query method r text (Err p) h = tt
+well_query method r text (Ok q) h = well_asked method r q text h
 
 not_false : (b : Bool) → not b ≡ false → b ≡ true
 not_false true h = refl
@@ -118,6 +125,7 @@ well_request method target text = well_at method (decoded target) text (route (p
 abbrev IsTimed : Line → Type 0
 IsTimed (ask method target body) = Unit {0}
 IsTimed (at moment) = IsTime moment
+IsTimed (compact r) = Unit {0}
 IsTimed unreadable = Unit {0}
 
 -- a text of a form is as long as the form
@@ -157,10 +165,14 @@ timed_both : (method : Method) (o : Option (List ℕ × List ℕ)) → IsTimed (
 timed_both method None = tt
 timed_both method (Some p) = timed_if method p.0 p.1
 
-timed_at : (a b : Bool) (t : List ℕ) → (b ≡ true → IsTime t) → IsTimed (cond (a && b) (at t) unreadable)
-timed_at true true t h = h refl
-timed_at true false t h = tt
-timed_at false b t h = tt
+timed_compact : (o : Option ℕ) → IsTimed (compact_at o)
+timed_compact None = tt
+timed_compact (Some r) = tt
+
+timed_at : (a b : Bool) (t : List ℕ) (y : Line) → (b ≡ true → IsTime t) → IsTimed y → IsTimed (cond (a && b) (at t) y)
+timed_at true true t y h q = h refl
+timed_at true false t y h q = q
+timed_at false b t y h q = q
 
 timed_from : (o : Option (List ℕ × List ℕ)) → IsTimed (line_from o)
 timed_from None = tt
@@ -170,27 +182,26 @@ timed_from (Some p) =
     (timed_either (bytes_eq p.0 (codes "POST")) (target_and_body Post (cut p.1)) _ (timed_both Post (cut p.1))
     (timed_either (bytes_eq p.0 (codes "PUT")) (target_and_body Put (cut p.1)) _ (timed_both Put (cut p.1))
     (timed_either (bytes_eq p.0 (codes "PATCH")) (target_and_body Patch (cut p.1)) _ (timed_both Patch (cut p.1))
-    (timed_at (bytes_eq p.0 (codes "AT")) (is_moment p.1) p.1 (timed_moment p.1))))))
+    (timed_at (bytes_eq p.0 (codes "AT")) (is_moment p.1) p.1 _ (timed_moment p.1)
+    (timed_either (bytes_eq p.0 (codes "COMPACT")) (compact_at (revision_of p.1)) unreadable (timed_compact (revision_of p.1)) tt))))))
 
 -- ---- after any lines
 
 -- a property of histories that a write leaves, where requests come of lines
-module _ (P : History → Type 0) (each : (q : Request) (h : History) (moment : List ℕ) → IsAsked q → IsTime moment → P h → P (with_write h (write_of (accept q h moment)))) where
+module _ (P : History → Type 0) (each : (q : Request) (h : History) (moment : List ℕ) → IsAsked q → IsTime moment → P h → P (with_write h (write_of (accept q h moment)))) (still : (h : History) (r : ℕ) → r ≤ present h → P h → P (h ++ compaction r ∷ [])) where
   abbrev Holds : Session → Type 0
   Holds s = IsTime s.moment × P s.history
-
-  by_watch : (s : Session) (changes : Result (List Change) Refusal) → P s.history → P (history_from s.history (watch_reply changes))
-  by_watch s (Err f) p = p
-  by_watch s (Ok changes) p = p
 
   by_request : (s : Session) (r : Result Asked Refusal) → AsksWell r → Holds s → P (history_from s.history (reply_for s r))
   by_request s (Err f) well p = p.1
   by_request s (Ok (request q)) well p = each q s.history s.moment well p.0 p.1
-  by_request s (Ok (watch v r)) well p = by_watch s (changes_since s.history v r) p.1
+  by_request s (Ok (list v o)) well p = subst P (sym (kept_asked s v o)) p.1
+  by_request s (Ok (watch v o)) well p = subst P (sym (kept_watched s v o)) p.1
 
   by_line : (s : Session) (line : Line) → IsTimed line → Holds s → Holds (session_after s line)
   by_line s (ask method target body) timed p = (p.0, by_request s (read_request method target body) (well_request method target body) p)
   by_line s (at moment) timed p = (timed, p.1)
+  by_line s (compact r) timed p = (p.0, by_compaction P still s.history r p.1)
   by_line s unreadable timed p = p
 
   by_text : (b : Bool) (s : Session) (t : List ℕ) → Holds s → Holds (cond b s (session_after s (line_of t)))
@@ -202,7 +213,7 @@ module _ (P : History → Type 0) (each : (q : Request) (h : History) (moment : 
   by_session s (t ∷ ts) p = by_session (next s t) ts (by_text (length t == 0) s t p)
 
   pub by_asked : (lines : List (List ℕ)) → P [] → P (history_of lines)
-  by_asked lines p = (by_session start lines ((refl, omega arith), p)).1
+  by_asked lines p = (by_session (start default_window) lines ((refl, omega arith), p)).1
 
 -- ---- what is stored
 
@@ -249,7 +260,8 @@ found_held h r k a = subst (λ o. IfSome o (IsHeld k)) (sym (found-after_all k [
 
 pub all_stored : (lines : List (List ℕ)) → AreStored 2 (writes (history_of lines))
 all_stored lines =
-    by_asked (λ h. AreStored 2 (writes h)) (λ q h moment well filled a. stored_write h (write_of (accept q h moment)) (stores q h moment well filled (λ k. found_held h (present h) k a)) a) lines tt
+    by_asked (λ h. AreStored 2 (writes h)) (λ q h moment well filled a. stored_write h (write_of (accept q h moment)) (stores q h moment well filled (λ k. found_held h (present h) k a)) a)
+    (same_writes (AreStored 2)) lines tt
 
 one_kept : (k : Name) (r : ℕ) (o : Option Data) → IfSome o (IsStored k r) → IfSome o (IsKept k r)
 one_kept k r None a = tt

@@ -63,7 +63,7 @@ first_changes h v a n le =
 -- ---- where it stands
 
 -- what is given are all changes up to where the watch stands
-abbrev Stands : History → View → ℕ → Watched → Type 0
+abbrev pub Stands : History → View → ℕ → Watched → Type 0
 Stands h v a w = (a ≤ w.stands) × (w.stands ≤ present h) × (last_change a w.changes ≤ w.stands) × (changes h v a w.stands ≡ w.changes)
 
 stands_at : (b : Bool) (h : History) (v : View) (a n : ℕ) → a ≤ present h → nat_le (length (changes h v a (present h))) n ≡ b
@@ -104,13 +104,13 @@ lines_go : (cs : List Change) (a b : ℕ) (ls : List Line) → Goes (last_change
 lines_go [] a b ls g = g
 lines_go (c ∷ cs) a b ls g = (refl, lines_go cs c.revision b ls g)
 
-lines_stream : (h : History) (v : View) (a : ℕ) (w : Watched) → Stands h v a w → IsStream h v a w.stands (lines_from a w)
+pub lines_stream : (h : History) (v : View) (a : ℕ) (w : Watched) → Stands h v a w → IsStream h v a w.stands (lines_from a w)
 lines_stream h v a w s =
     subst (λ cs. Goes a w.stands cs (lines_from a w)) (sym s.3)
     (lines_go w.changes a w.stands (bookmark_above (last_change a w.changes) w.stands) (bookmark_goes (nat_lt (last_change a w.changes) w.stands) (last_change a w.changes) w.stands refl))
 
 -- a watch that is given something stands
-given_stands : (size : ℕ) (h : History) (v : View) (a n : ℕ) (w : Watched) → watched_from size h v a n ≡ Ok w
+pub given_stands : (size : ℕ) (h : History) (v : View) (a n : ℕ) (w : Watched) → watched_from size h v a n ≡ Ok w
     → (floor v.kind size h ≤ a) × (a ≤ present h) × (watched (present h) a n (changes h v a (present h)) ≡ w) × Stands h v a w
 given_stands size h v a n w is =
     let given = given_at (nat_lt a (floor v.kind size h)) (nat_lt (present h) a) (floor v.kind size h) (present h) a (watched (present h) a n) (take (n + 1) (changes h v a (present h))) w refl refl is in

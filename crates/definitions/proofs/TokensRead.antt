@@ -18,7 +18,7 @@ use Rattle.definitions.specs.Moments.{is_digit}
 use Rattle.definitions.specs.PageTokens.{Token, token_data, token_text, IsToken}
 use Rattle.definitions.specs.ReadTokens.{token_with, token_said, if_written, decoded, token_of}
 use Rattle.definitions.specs.Revisions.{revision_of, is_revision, greatest_revision}
-use Rattle.definitions.specs.Targets.{data_of}
+use Rattle.definitions.specs.Values.{data_of}
 use Rattle.definitions.proofs.RevisionTexts.{revision_is}
 use Rattle.definitions.proofs.TokenTexts.{token_decodes, data_read_back, IsUtf8-token}
 

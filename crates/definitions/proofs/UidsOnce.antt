@@ -1,12 +1,12 @@
 -- No two objects that are created get one uid, whatever lines are read.
-use Rattle.std.proofs.Common.{◌≡◌, ◌≤◌, ◌+◌, ◌-◌, ℕ, List, [], ◌∷◌, ◌++◌, Bool, true, false, cond, codes, IfSome, Option, Some, None, arith, refl, sym, subst, ap, ◌∙◌}
+use Rattle.std.proofs.Common.{◌≡◌, ◌≤◌, ◌+◌, ◌-◌, ℕ, List, [], ◌∷◌, ◌++◌, length, Bool, true, false, cond, codes, IfSome, Option, Some, None, arith, refl, sym, subst, ap, ◌∙◌}
 use Rattle.serde_json.specs.Data.{Data}
 use Rattle.definitions.specs.Checks.{finalizers}
 use Rattle.definitions.specs.Deletion.{left_by, marked}
 use Rattle.definitions.specs.History.{History, Write, write, writes, found, last_of, members, present, up_to}
 use Rattle.definitions.specs.Laws.{OfStored, KeepsText}
 use Rattle.definitions.specs.LifecycleLaws.{NoneHas, UidsAreGivenOnce}
-use Rattle.definitions.specs.Lines.{start, after_lines}
+use Rattle.definitions.specs.Lines.{start, default_window, history_of}
 use Rattle.definitions.specs.Metadata.{metadata_of, uid, at_revision}
 use Rattle.definitions.specs.Names.{Name, is_named}
 use Rattle.definitions.specs.Replacements.{in_place, updated, with_said_status}
@@ -16,6 +16,7 @@ use Rattle.definitions.proofs.Cases.{of_accept, of_create}
 use Rattle.definitions.proofs.HeldMembers.{uid-created}
 use Rattle.definitions.proofs.Limits.{limits}
 use Rattle.definitions.proofs.Past.{whole, writes-append}
+use Rattle.definitions.proofs.Compacted.{same_writes}
 use Rattle.definitions.proofs.Runs.{by_lines}
 use Rattle.definitions.proofs.Uids.{held}
 use Rattle.definitions.proofs.VerbLaws.{found-state, kept_in_place, present-write, text-marked, text-restated}
@@ -85,8 +86,8 @@ born_write h (Some w) v b =
     subst (λ n. AreBorn n (writes (with_write h (Some w)))) (sym (present-write h w))
     (subst (AreBorn (present h + 1)) (sym (writes-append h (write w ∷ []))) (born_append (present h + 1) (writes h) w (later_all (present h) (present h + 1) (writes h) (omega arith) b) v))
 
-born : (lines : List (List ℕ)) → AreBorn (present (after_lines start lines).history) (writes (after_lines start lines).history)
-born lines = by_lines (λ h. AreBorn (present h) (writes h)) (λ q h moment b. born_write h (write_of (accept q h moment)) (born_by q h moment b) b) start lines tt
+born : (lines : List (List ℕ)) → AreBorn (present (history_of lines)) (writes (history_of lines))
+born lines = by_lines (λ h. AreBorn (present h) (writes h)) (λ q h moment b. born_write h (write_of (accept q h moment)) (born_by q h moment b) b) (same_writes (λ ws. AreBorn (length ws + 1) ws)) (start default_window) lines tt
 
 -- a uid of an earlier create is another
 not_next : (n r : ℕ) (d : Data) → n ≤ 9007199254740991 → r ≤ n → uid d ≡ Some (uid_text cluster_word r) → uid d ≡ Some (uid_text cluster_word (n + 1)) → ⊥
@@ -108,7 +109,7 @@ none_has n (w ∷ ws) low b = (one_has_not n w.put low b.0, none_has n ws low b.
 
 pub given_once : UidsAreGivenOnce
 given_once lines kind ns d moment =
-    let h = (after_lines start lines).history in
+    let h = (history_of lines) in
     of_create (λ u. OfStored u (λ k new. (t : List ℕ) × (uid new ≡ Some t) × NoneHas t (writes h))) (λ f. tt) kind ns (said kind d) (members h (present h)) (present h) moment
     (λ o fits free room.
     (uid_text cluster_word (present h + 1), uid-created kind (present h + 1) ns (new_name kind ns o (members h (present h)) (present h)).name moment o, none_has (present h) (writes h) (limits lines).1 (born lines)))

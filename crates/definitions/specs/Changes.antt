@@ -1,10 +1,9 @@
 -- The changes of a view: what each write does to the objects that the view asks for.
-use Rattle.std.specs.Prelude.{ℕ, ◌+◌, ◌-◌, List, [], ◌∷◌, ◌++◌, length, drop, nat_lt, Option, Some, None, Result, Ok, Err, if◌then◌else◌}
+use Rattle.std.specs.Prelude.{ℕ, ◌+◌, ◌-◌, List, [], ◌∷◌, ◌++◌, length, drop, Option, Some, None}
 use Rattle.serde_json.specs.Data.{Data}
 use Rattle.definitions.specs.Names.{Name}
-use Rattle.definitions.specs.History.{History, Write, View, Members, up_to, last_of, put_or_remove, seen, present}
+use Rattle.definitions.specs.History.{History, Write, View, Members, up_to, last_of, put_or_remove, seen}
 use Rattle.definitions.specs.Metadata.{metadata_of, at_revision}
-use Rattle.definitions.specs.Refusals.{Refusal, too_new}
 use Rattle.definitions.specs.declared.frames.ChangeKind.{ChangeKind}
 use Rattle.definitions.specs.declared.frames.ChangeKind.TheVariants.{Added, Modified, Deleted}
 
@@ -38,10 +37,6 @@ changes_after v before (w ∷ ws) = write_change v before w ++ changes_after v (
 -- the changes of the writes with a revision above a and up to b, in order
 abbrev pub changes : History → View → ℕ → ℕ → List Change
 changes h v a b = changes_after v (up_to a h) (drop (a - 1) (up_to b h))
-
--- the changes after a revision and up to the present one, which it may not be above (Kubernetes API Concepts, Efficient detection of changes)
-abbrev pub changes_since : History → View → ℕ → Result (List Change) Refusal
-changes_since h v a = if nat_lt (present h) a then Err (too_new a (present h)) else Ok (changes h v a (present h))
 
 -- ---- playing them
 

@@ -9,7 +9,7 @@ use Rattle.definitions.specs.Moments.{is_digit}
 use Rattle.definitions.specs.PageTokens.{Token, token_place}
 use Rattle.definitions.specs.Pages.{Place}
 use Rattle.definitions.specs.ReadTokens.{token_of}
-use Rattle.definitions.specs.Queries.{Pairs, member, has_any, is_true, or_empty}
+use Rattle.definitions.specs.Queries.{Pairs, member, has_any, is_true, or_empty, refused_names}
 use Rattle.definitions.specs.Revisions.{revision_of}
 use Rattle.definitions.specs.SelectorFields.{FieldRequirement, said_of_fields}
 use Rattle.definitions.specs.SelectorTexts.{said_by_text}
@@ -136,6 +136,10 @@ pub record Collection : Type 0 where
   pub fields : List FieldRequirement
   pub read : Read
 
+-- all objects, as they are at present
+abbrev pub everything : Collection
+everything = record { labels = []; fields = []; read = list (from_first 0 Present) }
+
 abbrev pub listing : Result ListOptions Part → Result Read Part
 listing (Err p) = Err p
 listing (Ok o) = Ok (list o)
@@ -150,7 +154,7 @@ read_by pairs = if is_asked (member (codes "watch") pairs) then watching (watch_
 
 -- what no collection may be asked (Kubernetes API Concepts, Dry-run), and what is not served so far (Streaming lists)
 abbrev pub refused_of_collections : List (List ℕ)
-refused_of_collections = codes "dryRun" ∷ codes "sendInitialEvents" ∷ []
+refused_of_collections = codes "sendInitialEvents" ∷ refused_names
 
 abbrev pub with_read : List Requirement → List FieldRequirement → Result Read Part → Result Collection Part
 with_read labels fields (Err p) = Err p

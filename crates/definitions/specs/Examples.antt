@@ -327,7 +327,7 @@ LinesAreRead =
     ++ codes "GET /api/v1/namespaces//configmaps\n"
     ++ codes "GET /apis/apps/v1/configmaps\n"
     ++ codes "GET /api/v1\n"
-    ++ codes "COMPACT 1\n"
+    ++ codes "COMPACT 01\n"
     ++ codes "get /api/v1/configmaps\n"
     ++ codes "AT 2026-01-01T00:00:60Z\n")
     ≡ codes "400 {\"apiVersion\":\"v1\",\"code\":400,\"kind\":\"Status\",\"message\":\"bad request: head\",\"metadata\":{},\"reason\":\"BadRequest\",\"status\":\"Failure\"}\n"

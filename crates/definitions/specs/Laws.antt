@@ -5,15 +5,15 @@ use Rattle.std.specs.List.Sorted.{IsStrictlySortedBy}
 use Rattle.serde_json.specs.Data.{Data}
 use Rattle.serde_json.specs.Written.{compact_text}
 use Rattle.definitions.specs.declared.kinds.Kind.{Kind}
-use Rattle.definitions.specs.Lines.{Session, start, after_lines}
+use Rattle.definitions.specs.Lines.{Session, start, after_lines, history_of}
 use Rattle.definitions.specs.Names.{Name, name_cmp, is_named}
-use Rattle.definitions.specs.History.{History, Write, write, writes, CanHappen, present, found, members, state, View, list, seen}
+use Rattle.definitions.specs.History.{History, Members, Write, write, writes, CanHappen, present, found, members, state, View, list, seen}
 use Rattle.definitions.specs.Refusals.{Refusal}
 use Rattle.definitions.specs.Metadata.{metadata_text, uid, version}
 use Rattle.definitions.specs.Reading.{reading}
 use Rattle.definitions.specs.Targets.{Asked, Route, route, path_text, with_body}
 use Rattle.definitions.specs.Uids.{uid_text, uid_revision, cluster_word}
-use Rattle.definitions.specs.Verbs.{Request, get_object, list_objects, create_object, update_object, update_status, patch_object, delete_object, Outcome, refused, accept, write_of, outcome_body, history_after, overflows}
+use Rattle.definitions.specs.Verbs.{Request, get_object, list_objects, create_object, update_object, update_status, patch_object, delete_object, Outcome, refused, accept_at, accept, write_of, outcome_body, history_after, overflows}
 
 -- ---- history
 
@@ -87,9 +87,9 @@ is_delete (delete_object k o) = true
 abbrev pub WritesFit : Type 0
 WritesFit = (q : Request) (h : History) (moment : List ℕ) → is_delete q ≡ false → OfStored (accept q h moment) (λ k d. length (compact_text d) ≤ 1572864)
 
--- a write that is accepted has room
+-- a write that is accepted has room, whatever is there and at whatever revision
 abbrev pub WritesHaveRoom : Type 0
-WritesHaveRoom = (q : Request) (h : History) (moment : List ℕ) → IfSome (write_of (accept q h moment)) (λ w. overflows (members h (present h)) (present h) w ≡ false)
+WritesHaveRoom = (q : Request) (ms : Members) (r : ℕ) (moment : List ℕ) → IfSome (write_of (accept_at q ms r moment)) (λ w. overflows ms r w ≡ false)
 
 -- a refusal writes nothing
 abbrev pub RefusalsWriteNothing : Type 0
@@ -125,9 +125,13 @@ BodiesFit = (f : Data → Request) (text : List ℕ) (q : Asked) → with_body f
 abbrev pub RunsOnlyAdd : Type 0
 RunsOnlyAdd = (s : Session) (lines : List (List ℕ)) → (more : History) × ((after_lines s lines).history ≡ s.history ++ more)
 
+-- what has happened is the same whatever windows are kept
+abbrev pub WindowsOnlyForget : Type 0
+WindowsOnlyForget = (m n : ℕ) (lines : List (List ℕ)) → (after_lines (start m) lines).history ≡ (after_lines (start n) lines).history
+
 -- whatever lines are read, what has happened by then can happen
 abbrev pub RunsCanHappen : Type 0
-RunsCanHappen = (lines : List (List ℕ)) → CanHappen (after_lines start lines).history
+RunsCanHappen = (lines : List (List ℕ)) → CanHappen (history_of lines)
 
 -- these writes in order, the first at revision r: each object carries the revision of its write
 abbrev pub Carry : ℕ → List Write → Type 0
@@ -136,13 +140,13 @@ Carry r (w ∷ ws) = IfSome w.put (λ d. version d ≡ Some (decimal r)) × Carr
 
 -- whatever lines are read, each object that was ever stored carries the revision of its write, the first of which is 2
 abbrev pub RunsCarryRevisions : Type 0
-RunsCarryRevisions = (lines : List (List ℕ)) → Carry 2 (writes (after_lines start lines).history)
+RunsCarryRevisions = (lines : List (List ℕ)) → Carry 2 (writes (history_of lines))
 
 -- whatever lines are read, there are no more objects and no greater revision than there may be
 abbrev pub RunsStayWithinLimits : Type 0
 RunsStayWithinLimits =
     (lines : List (List ℕ))
-    → (length (members (after_lines start lines).history (present (after_lines start lines).history)) ≤ 65536) × (present (after_lines start lines).history ≤ 9007199254740991)
+    → (length (members (history_of lines) (present (history_of lines))) ≤ 65536) × (present (history_of lines) ≤ 9007199254740991)
 
 -- ---- reading
 

@@ -41,6 +41,7 @@ pub mod ReflectorExamples
 pub mod Reflectors
 pub mod Refusals
 pub mod Replacements
+pub mod RequestQueries
 pub mod Revisions
 pub mod Schemas
 pub mod SelectorCodes
@@ -56,6 +57,7 @@ pub mod ServerCodes
 pub mod ServerExamples
 pub mod ServerLaws
 pub mod Servers
+pub mod ServingExamples
 pub mod SnapshotCodes
 pub mod SnapshotLaws
 pub mod Snapshots

@@ -11,7 +11,7 @@ use Rattle.definitions.specs.Deletion.{is_of_policy, of_policy}
 use Rattle.definitions.specs.History.{History, Write, writes, present, state}
 use Rattle.definitions.specs.Kinds.{has_generation}
 use Rattle.definitions.specs.Laws.{OfStored, KeepsText, is_delete}
-use Rattle.definitions.specs.Lines.{start, after_lines}
+use Rattle.definitions.specs.Lines.{history_of}
 use Rattle.definitions.specs.Metadata.{metadata, uid, version, is_being_deleted}
 use Rattle.definitions.specs.Names.{Name}
 use Rattle.definitions.specs.Reading.{reading}
@@ -76,8 +76,8 @@ NoneHas t (w ∷ ws) = IfSome w.put (λ d. uid d ≡ Some t → ⊥) × NoneHas 
 abbrev pub UidsAreGivenOnce : Type 0
 UidsAreGivenOnce =
     (lines : List (List ℕ)) (kind : Kind) (ns : List ℕ) (d : Data) (moment : List ℕ)
-    → OfStored (accept (create_object kind ns d) (after_lines start lines).history moment)
-    (λ k new. (t : List ℕ) × (uid new ≡ Some t) × NoneHas t (writes (after_lines start lines).history))
+    → OfStored (accept (create_object kind ns d) (history_of lines) moment)
+    (λ k new. (t : List ℕ) × (uid new ≡ Some t) × NoneHas t (writes (history_of lines)))
 
 -- ---- generations
 

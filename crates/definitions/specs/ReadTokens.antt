@@ -8,7 +8,7 @@ use Rattle.serde_json.specs.Data.{Data}
 use Rattle.definitions.specs.Metadata.{text_at}
 use Rattle.definitions.specs.PageTokens.{Token, token_text}
 use Rattle.definitions.specs.Revisions.{revision_of}
-use Rattle.definitions.specs.Targets.{data_of}
+use Rattle.definitions.specs.Values.{data_of}
 
 abbrev pub token_with : List ℕ → List ℕ → ℕ → Token
 token_with name namespace revision = record { name = name; namespace = namespace; revision = revision }

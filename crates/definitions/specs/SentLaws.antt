@@ -1,5 +1,5 @@
 -- What the server stores and sends is what a client of it takes in.
-use Rattle.std.specs.Prelude.{◌≡◌, ◌≤◌, ◌+◌, ℕ, List, [], ◌∷◌, length, true, Some, None, Ok, IfSome, IsSome, decimal, is_some, map}
+use Rattle.std.specs.Prelude.{◌≡◌, ◌≤◌, ◌+◌, ℕ, List, [], ◌∷◌, length, Bool, true, Some, None, Ok, IfSome, IsSome, decimal, is_some, map}
 use Rattle.std.specs.List.{AllByRecursion}
 use Rattle.std.specs.Str.{is_utf8}
 use Rattle.serde_json.specs.Data.{Data, depth}
@@ -13,15 +13,12 @@ use Rattle.definitions.specs.History.{History, Write, View, Members, writes, pre
 use Rattle.definitions.specs.Objects.{Object}
 use Rattle.definitions.specs.Metadata.{name, namespace, uid, version}
 use Rattle.definitions.specs.Reading.{reading}
-use Rattle.definitions.specs.Changes.{Change, changes, changes_since}
-use Rattle.definitions.specs.Lines.{start, after_lines, frames_text}
-use Rattle.definitions.specs.Streams.{change, IsStream, text_of}
+use Rattle.definitions.specs.Changes.{Change, changes}
+use Rattle.definitions.specs.Lines.{history_of}
+use Rattle.definitions.specs.Streams.{Line, IsStream}
+use Rattle.definitions.specs.WatchReplies.{watch_lines}
 use Rattle.definitions.specs.Verbs.{list_body}
 use Rattle.definitions.specs.Reflectors.{Listed, shown, name_in, list_of, put_all}
-
--- what has happened once these lines were read
-abbrev pub history_of : List (List ℕ) → History
-history_of lines = (after_lines start lines).history
 
 -- ---- what is stored
 
@@ -68,11 +65,11 @@ ChangesAreTold =
     (lines : List (List ℕ)) (k : Kind) (a b : ℕ) → a ≤ b
     → AllByRecursion (IsTold k) (changes (history_of lines) (whole k) a b) × AllByRecursion IsShort (changes (history_of lines) (whole k) a b)
 
--- what is shown of the changes after a revision is the text of a stream from there to the present revision
+-- the lines that a watch after a revision shows are a stream from there to the present revision, with bookmarks or without
 abbrev pub WatchesAreStreams : Type 0
 WatchesAreStreams =
-    (h : History) (v : View) (a : ℕ) (cs : List Change) → changes_since h v a ≡ Ok cs
-    → (a ≤ present h) × IsStream h v a (present h) (map change cs) × (frames_text cs ≡ text_of v.kind (map change cs))
+    (size : ℕ) (h : History) (v : View) (a : ℕ) (bookmarks : Bool) (ls : List Line) → watch_lines size h v (record { from = Some a; bookmarks = bookmarks }) ≡ Ok ls
+    → (a ≤ present h) × IsStream h v a (present h) ls
 
 -- ---- lists
 

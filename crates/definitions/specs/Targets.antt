@@ -4,7 +4,6 @@ use Rattle.std.specs.List.{slice_split, list_all, before_first}
 use Rattle.std.specs.Str.{bytes_eq, is_utf8}
 use Rattle.std.specs.Str.Lossy.{utf8_lossy}
 use Rattle.serde_json.specs.Data.{Data}
-use Rattle.serde_json.specs.Read.{read}
 use Rattle.definitions.specs.declared.kinds.Group.{Group}
 use Rattle.definitions.specs.declared.kinds.Group.TheVariants.{Core, Apps}
 use Rattle.definitions.specs.declared.kinds.Kind.{Kind}
@@ -16,9 +15,13 @@ use Rattle.definitions.specs.Kinds.{group, plural, kind_named, has_status}
 use Rattle.definitions.specs.Names.{Name, is_namespace}
 use Rattle.definitions.specs.History.{View}
 use Rattle.definitions.specs.DeleteOptions.{Options, options_of, options_with}
-use Rattle.definitions.specs.Queries.{Query, pairs_of, collection_query, delete_query, other_query}
+use Rattle.definitions.specs.Collections as collections
+use Rattle.definitions.specs.Collections.{ListOptions, WatchOptions, Collection, Read}
+use Rattle.definitions.specs.Queries.{pairs_of}
+use Rattle.definitions.specs.RequestQueries.{Query, collection_query, delete_query, other_query}
+use Rattle.definitions.specs.Values.{data_of}
 use Rattle.definitions.specs.Refusals.{Refusal, bad_request, no_such_path, method_not_allowed, too_large}
-use Rattle.definitions.specs.Verbs.{Request, get_object, list_objects, create_object, update_object, update_status, patch_object, delete_object}
+use Rattle.definitions.specs.Verbs.{Request, get_object, create_object, update_object, update_status, patch_object, delete_object}
 
 -- a collection of a kind, in one namespace or in all; an object; the status of an object (Kubernetes API Concepts, Resource URIs)
 pub data Route : Type 0 where
@@ -140,14 +143,11 @@ path_of target = before_first (λ b. b == 63) target
 abbrev pub longest_body : ℕ
 longest_body = 1048576
 
--- a body is JSON in UTF-8 (RFC 8259, Character Encoding)
-abbrev pub data_of : List ℕ → Option Data
-data_of text = if is_utf8 text then read text else None
-
--- what is asked: a request, or to be shown the changes of a view after a revision (Kubernetes API Concepts, API verbs)
+-- what is asked: a request of an object, the list of a view, or a watch of it (Kubernetes API Concepts, API verbs)
 pub data Asked : Type 0 where
   request : Request → Asked
-  watch : View → ℕ → Asked
+  list : View → ListOptions → Asked
+  watch : View → WatchOptions → Asked
 
 abbrev pub body_or : Option Data → Result Data Refusal
 body_or None = Err (bad_request part.Body)
@@ -182,22 +182,22 @@ deletes_with n (Err e) = Err e
 deletes_with n (Ok o) = Ok (request (delete_object n o))
 
 -- the query that a method and a route take
-abbrev pub query_for : Method → Route → List ℕ → Option Query
+abbrev pub query_for : Method → Route → List ℕ → Result Query Part
 query_for Get (collection k ns) target = collection_query (pairs_of target)
 query_for Delete r target = delete_query (pairs_of target)
 query_for method r target = other_query (pairs_of target)
 
 -- what is selected of a collection
-abbrev pub selected : Kind → Option (List ℕ) → Query → View
-selected k ns q = record { kind = k; namespace = ns; labels = q.labels; fields = q.fields }
+abbrev pub selected : Kind → Option (List ℕ) → Collection → View
+selected k ns c = record { kind = k; namespace = ns; labels = c.labels; fields = c.fields }
 
-abbrev pub list_or_watch : View → Option ℕ → Asked
-list_or_watch v None = request (list_objects v)
-list_or_watch v (Some r) = watch v r
+abbrev pub read_as : View → Read → Asked
+read_as v (collections.list o) = list v o
+read_as v (collections.watch o) = watch v o
 
 -- what a method asks of a route (Kubernetes API Concepts, API verbs)
 abbrev pub asked : Method → Route → Query → List ℕ → Result Asked Refusal
-asked Get (collection k ns) q text = Ok (list_or_watch (selected k ns q) q.watch)
+asked Get (collection k ns) q text = Ok (read_as (selected k ns q.collection) q.collection.read)
 asked Get (object_at n) q text = Ok (request (get_object n))
 asked Get (status_of n) q text = Ok (request (get_object n))
 asked Post (collection k None) q text = Err method_not_allowed
@@ -214,9 +214,9 @@ asked Delete (collection k ns) q text = Err method_not_allowed
 asked Delete (object_at n) q text = deletes_with n (delete_options q text)
 asked Delete (status_of n) q text = Err method_not_allowed
 
-abbrev pub asked_with : Method → Route → List ℕ → Option Query → Result Asked Refusal
-asked_with method r text None = Err (bad_request part.Query)
-asked_with method r text (Some q) = asked method r q text
+abbrev pub asked_with : Method → Route → List ℕ → Result Query Part → Result Asked Refusal
+asked_with method r text (Err p) = Err (bad_request p)
+asked_with method r text (Ok q) = asked method r q text
 
 abbrev pub asked_at : Method → List ℕ → List ℕ → Option Route → Result Asked Refusal
 asked_at method target text None = Err no_such_path

@@ -1,9 +1,15 @@
 -- What is done to JSON values (RFC 8259): members set and taken out, merge patches.
 use Rattle.std.specs.Ordering.{nat_cmp, is_eq}
 use Rattle.std.specs.Cmp.Lexicographic.{slice_cmp}
+use Rattle.std.specs.Str.{is_utf8}
+use Rattle.serde_json.specs.Read.{read}
 use Rattle.std.specs.Prelude.{unwrap_or, ℕ, List, Bool, if◌then◌else◌, is_some, Option, Some, None}
 use Rattle.serde_json.specs.Data.{Data, null, boolean, number, string, array, object, Members, no_members, member, put}
 use Rattle.serde_json.specs.Find.{as_null, get_member, get}
+
+-- the data that a text says: JSON in UTF-8 (RFC 8259, Character Encoding)
+abbrev pub data_of : List ℕ → Option Data
+data_of text = if is_utf8 text then read text else None
 
 -- the value with d at the member k, if it is an object
 abbrev pub with_member : List ℕ → Data → Data → Data

@@ -1,5 +1,5 @@
 -- Worked facts of watches, computed from the definitions: exact bytes of frames, and what bytes are read as.
-use Rattle.std.specs.Prelude.{◌≡◌, ℕ, List, [], ◌∷◌, ◌++◌, map, length, Option, Some, None, codes, replicate, true, false}
+use Rattle.std.specs.Prelude.{◌≡◌, ℕ, List, [], ◌∷◌, ◌++◌, map, length, Some, None, Result, Ok, Err, codes, replicate, true, false}
 use Rattle.serde_json.specs.Data.{Data, string, object, no_members, member}
 use Rattle.definitions.specs.declared.kinds.Kind.TheVariants.{ConfigMap, Pod, Deployment}
 use Rattle.definitions.specs.declared.frames.FrameKind.TheVariants.{Added, Error}
@@ -12,8 +12,9 @@ use Rattle.definitions.specs.Frames.{frame_text, bookmark_event, error_event, re
 use Rattle.definitions.specs.Streams.{change, text_of}
 use Rattle.form_urlencoded.specs.Form.{raw_pairs}
 use Rattle.definitions.specs.Lines.{replay}
-use Rattle.definitions.specs.declared.policies.PolicySaid.TheVariants.{Nothing}
-use Rattle.definitions.specs.Queries.{Query, plain, collection_query}
+use Rattle.definitions.specs.declared.refusals.Part.{Part}
+use Rattle.definitions.specs.declared.refusals.Part.TheVariants as part
+use Rattle.definitions.specs.Collections.{Collection, watch, everything, collection_of}
 use Rattle.definitions.specs.declared.selectors.Operator.TheVariants.{In, DoesNotExist}
 use Rattle.definitions.specs.declared.selectors.SelectableField.TheVariants.{Name as NameField}
 
@@ -123,37 +124,35 @@ WatchesAreReplayed =
     ++ codes "200 watch 0\n"
     ++ codes "504 {\"apiVersion\":\"v1\",\"code\":504,\"kind\":\"Status\",\"message\":\"Timeout: Too large resource version: 4, current: 3\",\"metadata\":{},\"reason\":\"Timeout\",\"status\":\"Failure\"}\n"
 
-abbrev query_in : List ℕ → Option Query
-query_in query = collection_query (raw_pairs query)
+abbrev query_in : List ℕ → Result Collection Part
+query_in query = collection_of (raw_pairs query)
 
-abbrev watching : ℕ → Query
-watching r = record { labels = []; fields = []; watch = Some r; policy = Nothing }
+abbrev watching : ℕ → Collection
+watching r = record { labels = []; fields = []; read = watch (record { from = Some r; bookmarks = false }) }
 
 -- of repeated members the first counts, names and values are decoded, and what is not known says nothing
 abbrev pub QueriesAreRead : Type 0
 QueriesAreRead =
-    (query_in (codes "") ≡ Some plain)
-    × (query_in (codes "pretty=1&&x") ≡ Some plain)
-    × (query_in (codes "resourceVersion=&labelSelector=&fieldSelector") ≡ Some plain)
-    × (query_in (codes "watch=true&resourceVersion=7&watch=false&resourceVersion=x") ≡ Some (watching 7))
-    × (query_in (codes "w%61tch=%31&resource%56ersion=9007199254740991") ≡ Some (watching 9007199254740991))
+    (query_in (codes "") ≡ Ok everything)
+    × (query_in (codes "pretty=1&&x") ≡ Ok everything)
+    × (query_in (codes "resourceVersion=&labelSelector=&fieldSelector") ≡ Ok everything)
+    × (query_in (codes "watch=true&resourceVersion=7&watch=false&resourceVersion=x") ≡ Ok (watching 7))
+    × (query_in (codes "w%61tch=%31&resource%56ersion=9007199254740991") ≡ Ok (watching 9007199254740991))
     × (query_in (codes "labelSelector=a+in+(b),%21c&fieldSelector=metadata.name!%3Dx")
-    ≡ Some
+    ≡ Ok
     (record {
       labels = record { key = codes "a"; operator = In; values = codes "b" ∷ [] } ∷ record { key = codes "c"; operator = DoesNotExist; values = [] } ∷ [];
       fields = record { field = NameField; wanted = false; value = codes "x" } ∷ [];
-      watch = None;
-      policy = Nothing;
+      read = everything.read;
     }))
 
 -- what a watch or a list does not understand, or does not serve so far
 abbrev pub QueriesAreRefused : Type 0
 QueriesAreRefused =
     map query_in
-    (codes "watch=true" ∷ codes "watch=true&resourceVersion=" ∷ codes "watch=true&resourceVersion=0" ∷ codes "watch=true&resourceVersion=00" ∷ codes "watch=true&resourceVersion=-1"
-    ∷ codes "watch=true&resourceVersion=9007199254740992" ∷ codes "watch=TRUE&resourceVersion=1" ∷ codes "watch=false" ∷ codes "watch&resourceVersion=1" ∷ codes "resourceVersion=1" ∷ codes "limit=1"
-    ∷ codes "dryRun=" ∷ codes "labelSelector=k+in+()" ∷ codes "fieldSelector=spec.x%3Dy" ∷ [])
-    ≡ replicate 14 None
+    (codes "watch=true&resourceVersion=00" ∷ codes "watch=true&resourceVersion=-1" ∷ codes "watch=true&resourceVersion=9007199254740992" ∷ codes "limit=" ∷ codes "limit=-1" ∷ codes "resourceVersion=1.0"
+    ∷ codes "resourceVersionMatch=" ∷ codes "sendInitialEvents=" ∷ codes "dryRun=" ∷ codes "labelSelector=k+in+()" ∷ codes "fieldSelector=spec.x%3Dy" ∷ codes "fieldSelector=x&continue=!!" ∷ [])
+    ≡ replicate 12 (Err part.Query)
 
 abbrev labelled_a : List ℕ → List ℕ → List ℕ
 labelled_a labels version =

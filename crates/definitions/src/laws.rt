@@ -1,5 +1,5 @@
 //! Laws of the definitions.
-ghost use Rattle.definitions.specs.Laws.{MembersAreState, MembersAreInOrder, ListsShowTheState, ListsAreInOrder, PastStands, WritesSetState, WritesCarryTheirRevision, CreatesAreNew, NamedVersionsAreReplaced, WritesKeepIdentity, WritesFit, WritesHaveRoom, RefusalsWriteNothing, AnswersAreRead, UidsHoldRevisions, PathsAreRoutes, BodiesFit, RunsOnlyAdd, RunsCanHappen, RunsCarryRevisions, RunsStayWithinLimits, ReadsAgain};
+ghost use Rattle.definitions.specs.Laws.{MembersAreState, MembersAreInOrder, ListsShowTheState, ListsAreInOrder, PastStands, WritesSetState, WritesCarryTheirRevision, CreatesAreNew, NamedVersionsAreReplaced, WritesKeepIdentity, WritesFit, WritesHaveRoom, RefusalsWriteNothing, AnswersAreRead, UidsHoldRevisions, PathsAreRoutes, BodiesFit, RunsOnlyAdd, WindowsOnlyForget, RunsCanHappen, RunsCarryRevisions, RunsStayWithinLimits, ReadsAgain};
 
 /// What is there under a key at a revision is what the last write to that key put there.
 pub fn members_are_state()
@@ -89,6 +89,11 @@ pub fn bodies_fit()
 /// Whatever is asked, nothing that has happened is changed or forgotten.
 pub fn runs_only_add()
     ensures { RunsOnlyAdd }
+{}
+
+/// How many writes are kept for watches and older lists is no matter to what happens.
+pub fn windows_only_forget()
+    ensures { WindowsOnlyForget }
 {}
 
 /// Whatever is asked, the history stays one that can happen: none is compacted that is yet to come.

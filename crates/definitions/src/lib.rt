@@ -29,6 +29,7 @@ pub mod selectors;
 pub mod sent_laws;
 pub mod server_examples;
 pub mod server_laws;
+pub mod serving_examples;
 pub mod snapshot_laws;
 pub mod verb_examples;
 pub mod versions;

@@ -14,5 +14,5 @@ pub mod wants;
 pub use decoder::{Decoded, Decoder};
 pub use definitions::frames::{FrameFault, FrameKind};
 pub use frames::Frame;
-pub use texts::{bookmark_text, error_text, frame_text};
+pub use texts::{added_text, bookmark_text, error_text, frame_text};
 pub use wants::Want;

@@ -1,6 +1,6 @@
 //! Runs on bytes from outside.
 use crate::decoder::Decoder;
-use crate::texts::{bookmark_text, error_text, frame_text};
+use crate::texts::{added_text, bookmark_text, error_text, frame_text};
 use definitions::frames::{ChangeKind, FrameFault, FrameKind};
 use meta::{Fault, Key, Kind, Object};
 use revisions::Event;
@@ -13,6 +13,9 @@ const STREAM: &str =
 
 const MODIFIED: &str =
     "{\"object\":{\"apiVersion\":\"v1\",\"data\":{\"k\":\"w\"},\"kind\":\"ConfigMap\",\"metadata\":{\"creationTimestamp\":\"2026-01-01T00:00:00Z\",\"name\":\"a\",\"namespace\":\"default\",\"resourceVersion\":\"3\",\"uid\":\"00000000-0000-8000-8000-000000000002\"}},\"type\":\"MODIFIED\"}\n";
+
+const ADDED: &str =
+    "{\"object\":{\"apiVersion\":\"v1\",\"data\":{\"k\":\"w\"},\"kind\":\"ConfigMap\",\"metadata\":{\"creationTimestamp\":\"2026-01-01T00:00:00Z\",\"name\":\"a\",\"namespace\":\"default\",\"resourceVersion\":\"3\",\"uid\":\"00000000-0000-8000-8000-000000000002\"}},\"type\":\"ADDED\"}\n";
 
 const OBJECT: &str =
     "{\"apiVersion\":\"v1\",\"data\":{\"k\":\"w\"},\"kind\":\"ConfigMap\",\"metadata\":{\"creationTimestamp\":\"2026-01-01T00:00:00Z\",\"name\":\"a\",\"namespace\":\"default\",\"resourceVersion\":\"3\",\"uid\":\"00000000-0000-8000-8000-000000000002\"}}";
@@ -133,6 +136,16 @@ fn written_frame(rt: HostRuntime) -> Result<(), Fail> {
     };
     let line = frame_text(rt.alloc(), &event)?;
     assert_eq!(rt; line.as_str(), MODIFIED);
+    Ok(())
+}
+
+/// An object that is there, byte for byte.
+#[test]
+fn written_object(rt: HostRuntime) -> Result<(), Fail> {
+    let value = Value::from_str(rt.alloc(), OBJECT)?;
+    let object = Object::from_value(rt.alloc(), Kind::ConfigMap, value)?;
+    let line = added_text(rt.alloc(), &object)?;
+    assert_eq!(rt; line.as_str(), ADDED);
     Ok(())
 }
 

@@ -4,13 +4,14 @@ ghost use Rattle.serde_json.specs.View.{view};
 ghost use Rattle.serde_json.specs.Data.{object};
 ghost use Rattle.serde_json.specs.Written.{has_float};
 ghost use Rattle.definitions.specs.Frames.{kind_text, frame_text, bookmark_metadata, bookmark_data, bookmark_event, error_event};
+ghost use Rattle.definitions.specs.declared.frames.FrameKind.TheVariants.{Added};
 ghost use Rattle.meta.specs.Faults.{refusal_of};
 ghost use Rattle.framing.specs.Events.{event_seen};
 ghost use Rattle.framing.specs.Texts.{framed_text, IsWithin, ReadsAs};
 
 use definitions::frames::FrameKind;
 use definitions::kinds::Kind;
-use meta::Fault;
+use meta::{Fault, Object};
 use revisions::Event;
 use serde_json::{Value, json};
 use std::alloc::{AllocError, Global};
@@ -40,15 +41,33 @@ fn line_of(alloc: Global, kind: FrameKind, object: &Value) -> Result<String, All
     Ok(line)
 }
 
+/// The line of a frame with an object that was read.
+fn object_text(alloc: Global, kind: FrameKind, object: &Object) -> Result<String, AllocError>
+    ensures text { IfOk result (λ t. string_bytes t ≡ frame_text (record { kind = kind; object = object.now.value })) }
+    ensures reads_back { IfOk result (λ t. IsWithin (record { kind = kind; object = object.now.value })
+        → ReadsAs (string_bytes t) (record { kind = kind; object = object.now.value })) }
+{
+    let text = object.text(alloc)?;
+    let line = framed(alloc, kind, text.as_str())?;
+    Ok(line)
+}
+
 /// The line of a change: ADDED, MODIFIED or DELETED, and an object. The error is want of memory.
 pub fn frame_text(alloc: Global, event: &Event) -> Result<String, AllocError>
     ensures text { IfOk result (λ t. string_bytes t ≡ frame_text (event_seen event.now)) }
     ensures reads_back { IfOk result (λ t. IsWithin (event_seen event.now)
         → ReadsAs (string_bytes t) (event_seen event.now)) }
 {
-    let object = event.object.text(alloc)?;
-    let line = framed(alloc, event.kind.frame_kind(), object.as_str())?;
-    Ok(line)
+    object_text(alloc, event.kind.frame_kind(), &event.object)
+}
+
+/// The line of an object that is there when a watch begins: ADDED, and the object. The error is want of memory.
+pub fn added_text(alloc: Global, object: &Object) -> Result<String, AllocError>
+    ensures text { IfOk result (λ t. string_bytes t ≡ frame_text (record { kind = Added; object = object.now.value })) }
+    ensures reads_back { IfOk result (λ t. IsWithin (record { kind = Added; object = object.now.value })
+        → ReadsAs (string_bytes t) (record { kind = Added; object = object.now.value })) }
+{
+    object_text(alloc, FrameKind::Added, object)
 }
 
 /// The metadata of a bookmark.

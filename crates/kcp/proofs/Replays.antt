@@ -1,5 +1,5 @@
--- The replies of a session as those of a service.
-use Rattle.std.proofs.Common.{◌≡◌, ℕ, List, [], ◌∷◌, ◌++◌, Option, Some, None, IfSome, Result, Ok, Err, OnOk, OnErr, IfErr, refl, ap, sym, subst, ◌∙◌}
+-- The replies of a session that holds a server, as those of the definitions, as the run of a service.
+use Rattle.std.proofs.Common.{◌≡◌, ℕ, List, [], ◌∷◌, ◌++◌, Option, Some, None, IfSome, Result, Ok, Err, OnOk, OnErr, IfErr, refl, ap, ap₂, sym, subst, ◌∙◌}
 use Rattle.std.proofs.lemmas.List.{append-nil}
 use Rattle.std.specs.Io.KnownBytes.{Appends}
 use Rattle.definitions.specs.Lines as lines
@@ -7,41 +7,95 @@ use Rattle.kcp.specs.Replays.{AnswersSome}
 use Rattle.line_service.proofs.Progress.{want-other}
 use Rattle.line_service.proofs.Splitting.{replies-split}
 use Rattle.line_service.specs.Replies as service
+use Rattle.line_service.specs.Replies.{AppendsBeginning, IsCutAtLast, EndsEarly}
 use Rattle.line_service.specs.declared.fault.RunFault.{RunFault}
 use Rattle.line_service.specs.declared.fault.RunFault.TheVariants as fault
+use Rattle.session.proofs.Followed.{sessions_follow}
+use Rattle.session.specs.Held.{Held, begun, reply_held, next_held}
+use Rattle.session.specs.Laws.{Follows}
 
--- a session is a service
+-- ---- the definitions' session is a service
+
 replies-fold : (s : lines.Session) (ts : List (List ℕ)) → lines.replies s ts ≡ service.replies lines.reply lines.next s ts
 replies-fold s [] = refl
 replies-fold s (t ∷ ts) = ap (λ r. lines.reply s t ++ r) (replies-fold (lines.next s t) ts)
 
 -- a replay is the run of a session over the lines that a service reads
-pub replay-run : (input : List ℕ) → service.replies lines.reply lines.next lines.start (service.lines_of input) ≡ lines.replay input
-replay-run input = sym (replies-fold lines.start (lines.lines_of input) ∙ replies-split lines.reply lines.next (λ s. refl) lines.start input)
+replay-run : (window : ℕ) (input : List ℕ) → service.replies lines.reply lines.next (lines.start window) (service.lines_of input) ≡ lines.replay_with window input
+replay-run window input = sym (replies-fold (lines.start window) (lines.lines_of input) ∙ replies-split lines.reply lines.next (λ s. refl) (lines.start window) input)
 
--- what holds of the run's text holds of the replay's
-along : (P : List ℕ → Type 0) (s : lines.Session) → s ≡ lines.start → (input : Option (List ℕ))
-    → IfSome input (λ i. P (service.replies lines.reply lines.next s (service.lines_of i))) → IfSome input (λ i. P (lines.replay i))
-along P s is None h = tt
-along P s is (Some input) h = subst P (ap (λ s. service.replies lines.reply lines.next s (service.lines_of input)) is ∙ replay-run input) h
+-- ---- a session that holds a server goes with it
 
-pub along-ok : {T E : Type 0} (r : Result T E) (P : List ℕ → Type 0) (s : lines.Session) → s ≡ lines.start → (input : Option (List ℕ))
-    → OnOk r (IfSome input (λ i. P (service.replies lines.reply lines.next s (service.lines_of i)))) → OnOk r (IfSome input (λ i. P (lines.replay i)))
-along-ok (Ok v) P s is input h = along P s is input h
-along-ok (Err e) P s is input h = tt
+-- line by line its replies are the same
+same-replies : (held : Held) (s : lines.Session) → Follows held s → (ts : List (List ℕ))
+    → service.replies reply_held next_held held ts ≡ service.replies lines.reply lines.next s ts
+same-replies held s is [] = refl
+same-replies held s is (t ∷ ts) =
+    let step = sessions_follow.1 held s t is in
+    ap₂ (λ x y. x ++ y) step.0 (same-replies (next_held held t) (lines.next s t) step.1 ts)
 
-pub along-err : {T E : Type 0} (r : Result T E) (P : List ℕ → Type 0) (s : lines.Session) → s ≡ lines.start → (input : Option (List ℕ))
-    → OnErr r (IfSome input (λ i. P (service.replies lines.reply lines.next s (service.lines_of i)))) → OnErr r (IfSome input (λ i. P (lines.replay i)))
-along-err (Ok v) P s is input h = tt
-along-err (Err e) P s is input h = along P s is input h
+-- and it goes on so
+goes-on : (held : Held) (s : lines.Session) → Follows held s → (ts : List (List ℕ)) → Follows (service.after next_held held ts) (service.after lines.next s ts)
+goes-on held s is [] = is
+goes-on held s is (t ∷ ts) = goes-on (next_held held t) (lines.next s t) (sessions_follow.1 held s t is).1 ts
+
+same-cut : (held : Held) (s : lines.Session) → Follows held s → (old new : Option (List ℕ)) (answered : List (List ℕ))
+    → IsCutAtLast reply_held next_held held old new answered → IsCutAtLast lines.reply lines.next s old new answered
+same-cut held s is old new answered cut =
+    let before = cut.0 in
+    let line = cut.1 in
+    let written = cut.2 in (
+      before,
+      line,
+      written,
+      cut.3,
+      cut.4,
+      subst (λ r. Appends old new (r ++ written)) (same-replies held s is before) cut.5,
+      cut.6 ∙ (sessions_follow.1 (service.after next_held held before) (service.after lines.next s before) line (goes-on held s is before)).0,
+    )
+
+-- what ends the one early ends the other so
+same-end : (held last : Held) (s : lines.Session) → Follows held s → (why : RunFault) (old new : Option (List ℕ)) (ts : List (List ℕ))
+    → EndsEarly reply_held next_held why held last old new ts → (t : lines.Session) × EndsEarly lines.reply lines.next why s t old new ts
+same-end held last s is why old new ts e =
+    let answered = e.0 in
+    let same = same-replies held s is answered in (
+      service.after lines.next s answered,
+      (answered, e.1, e.2, refl, subst (AppendsBeginning old new) same e.4, λ n. subst (Appends old new) same (e.5 n), λ w. same-cut held s is old new answered (e.6 w)),
+    )
+
+-- ---- what holds of the run's text holds of the replay's
+
+held-run : (window : ℕ) (held : Held) → held ≡ begun window → (input : List ℕ) → service.replies reply_held next_held held (service.lines_of input) ≡ lines.replay_with window input
+held-run window held is input =
+    ap (λ h. service.replies reply_held next_held h (service.lines_of input)) is
+    ∙ same-replies (begun window) (lines.start window) (sessions_follow.0 window) (service.lines_of input)
+    ∙ replay-run window input
+
+along : (P : List ℕ → Type 0) (window : ℕ) (held : Held) → held ≡ begun window → (input : Option (List ℕ))
+    → IfSome input (λ i. P (service.replies reply_held next_held held (service.lines_of i))) → IfSome input (λ i. P (lines.replay_with window i))
+along P window held is None h = tt
+along P window held is (Some input) h = subst P (held-run window held is input) h
+
+pub along-ok : {T E : Type 0} (r : Result T E) (P : List ℕ → Type 0) (window : ℕ) (held : Held) → held ≡ begun window → (input : Option (List ℕ))
+    → OnOk r (IfSome input (λ i. P (service.replies reply_held next_held held (service.lines_of i)))) → OnOk r (IfSome input (λ i. P (lines.replay_with window i)))
+along-ok (Ok v) P window held is input h = along P window held is input h
+along-ok (Err e) P window held is input h = tt
+
+pub along-err : {T E : Type 0} (r : Result T E) (P : List ℕ → Type 0) (window : ℕ) (held : Held) → held ≡ begun window → (input : Option (List ℕ))
+    → OnErr r (IfSome input (λ i. P (service.replies reply_held next_held held (service.lines_of i)))) → OnErr r (IfSome input (λ i. P (lines.replay_with window i)))
+along-err (Ok v) P window held is input h = tt
+along-err (Err e) P window held is input h = along P window held is input h
 
 -- a run of a session from the start that ends early is a replay that does
-pub along-ended : {T : Type 0} (r : Result T RunFault) (s last : lines.Session) → s ≡ lines.start → (input old new : Option (List ℕ))
-    → IfErr r (λ why. IfSome input (λ i. service.EndsEarly lines.reply lines.next why s last old new (service.lines_of i)))
-    → IfErr r (λ why. IfSome input (AnswersSome why old new))
-along-ended (Ok v) s last is input old new h = tt
-along-ended (Err why) s last is None old new h = tt
-along-ended (Err why) s last is (Some input) old new h = (last, subst (λ s. service.EndsEarly lines.reply lines.next why s last old new (service.lines_of input)) is h)
+pub along-ended : {T : Type 0} (r : Result T RunFault) (window : ℕ) (held last : Held) → held ≡ begun window → (input old new : Option (List ℕ))
+    → IfErr r (λ why. IfSome input (λ i. EndsEarly reply_held next_held why held last old new (service.lines_of i)))
+    → IfErr r (λ why. IfSome input (AnswersSome window why old new))
+along-ended (Ok v) window held last is input old new h = tt
+along-ended (Err why) window held last is None old new h = tt
+along-ended (Err why) window held last is (Some input) old new h =
+    same-end (begun window) last (lines.start window) (sessions_follow.0 window) why old new (service.lines_of input)
+    (subst (λ s. EndsEarly reply_held next_held why s last old new (service.lines_of input)) is h)
 
 -- nothing is appended
 nothing : (old : Option (List ℕ)) → Appends old old []
@@ -49,6 +103,7 @@ nothing None = tt
 nothing (Some xs) = sym (append-nil xs)
 
 -- a replay that has no memory to begin has answered no line
-pub none-answered : (input old : Option (List ℕ)) → IfSome input (AnswersSome fault.Want old old)
-none-answered None old = tt
-none-answered (Some input) old = (lines.start, ([], service.lines_of input, refl, refl, ([], [], nothing old, refl), λ _. nothing old, λ e. absurd (want-other e)))
+pub none-answered : (window : ℕ) (input old : Option (List ℕ)) → IfSome input (AnswersSome window fault.Want old old)
+none-answered window None old = tt
+none-answered window (Some input) old =
+    (lines.start window, ([], service.lines_of input, refl, refl, ([], [], nothing old, refl), λ _. nothing old, λ e. absurd (want-other e)))

@@ -16,7 +16,7 @@ fault_text fault.Read = codes "read"
 fault_text fault.Write = codes "write"
 fault_text fault.Want = codes "no memory"
 
--- a session has answered some lines of the input, from the start and the first on, and no others; their replies were appended: all of them,
--- unless writing failed, and then all but the last one's and a beginning of that
-abbrev pub AnswersSome : RunFault → Option (List ℕ) → Option (List ℕ) → List ℕ → Type 0
-AnswersSome why old new input = (last : lines.Session) × EndsEarly lines.reply lines.next why lines.start last old new (lines_of input)
+-- a session with windows of this size has answered some lines of the input, from the start and the first on, and no others; their replies
+-- were appended: all of them, unless writing failed, and then all but the last one's and a beginning of that
+abbrev pub AnswersSome : ℕ → RunFault → Option (List ℕ) → Option (List ℕ) → List ℕ → Type 0
+AnswersSome window why old new input = (last : lines.Session) × EndsEarly lines.reply lines.next why (lines.start window) last old new (lines_of input)

@@ -14,11 +14,37 @@ use std::io::{BufRead, BufReader, BufWriter, Write};
 use std::process::ExitCode;
 use std::{env, io};
 
+#[cfg(test)]
+mod tests;
+
+/// How many changes of each kind are kept where nothing else is said.
+const DEFAULT_WINDOW: usize = 1024;
+
 /// Answers the request lines that are read, from the empty store at the start of 2026 on, and writes the reply lines
-/// and nothing else. Each reply is flushed before the next line is waited for.
+/// and nothing else. Each reply is flushed before the next line is waited for. The last `window` changes of each kind
+/// are kept for watches and older lists.
 ///
 /// At an error a beginning of all the replies was written: no line after the one at which the error came is answered.
 /// The replies to those before it were written whole.
+pub fn replay_with<R: BufRead, W: Write>(
+    alloc: Global,
+    window: usize,
+    reader: &mut R,
+    writer: &mut W,
+) -> Result<(), RunFault>
+    ensures ok { OnOk result (IfSome (R.remaining reader.old) (λ input.
+        Appends (W.contents writer.old) (W.contents writer.new) (lines.replay_with window input))) }
+    ensures err { OnErr result (IfSome (R.remaining reader.old) (λ input.
+        AppendsBeginning (W.contents writer.old) (W.contents writer.new) (lines.replay_with window input))) }
+    ensures ended { IfErr result (λ fault. IfSome (R.remaining reader.old) (AnswersSome window fault (W.contents writer.old) (W.contents writer.new))) }
+{
+    match Session::new(alloc, window) {
+        Ok(mut session) => line_service::run(alloc, &mut session, reader, writer),
+        Err(_) => Err(RunFault::Want),
+    }
+}
+
+/// Answers the request lines that are read as `replay_with` does, keeping the last 1024 changes of each kind.
 pub fn replay<R: BufRead, W: Write>(
     alloc: Global,
     reader: &mut R,
@@ -28,12 +54,9 @@ pub fn replay<R: BufRead, W: Write>(
         Appends (W.contents writer.old) (W.contents writer.new) (lines.replay input))) }
     ensures err { OnErr result (IfSome (R.remaining reader.old) (λ input.
         AppendsBeginning (W.contents writer.old) (W.contents writer.new) (lines.replay input))) }
-    ensures ended { IfErr result (λ fault. IfSome (R.remaining reader.old) (AnswersSome fault (W.contents writer.old) (W.contents writer.new))) }
+    ensures ended { IfErr result (λ fault. IfSome (R.remaining reader.old) (AnswersSome lines.default_window fault (W.contents writer.old) (W.contents writer.new))) }
 {
-    match Session::new(alloc) {
-        Ok(mut session) => line_service::run(alloc, &mut session, reader, writer),
-        Err(_) => Err(RunFault::Want),
-    }
+    replay_with(alloc, DEFAULT_WINDOW, reader, writer)
 }
 
 /// Whether the word after the program's name, with no more after it, asks for a replay.

@@ -1,14 +1,20 @@
 -- Bytes that are text, and bytes that are none.
-use Rattle.std.proofs.Common.{◌≡◌, ℕ, ◌≤◌, List, Bool, true, false, Option, Some, None, Ok, Err, length, nat_lt, if◌then◌else◌, refl, ap, ◌∙◌, arith, IsUtf8}
+use Rattle.std.proofs.Common.{◌≡◌, ◌==◌, ◌&&◌, ◌||◌, not, ℕ, zero, suc, ◌<◌, ◌≤◌, List, [], ◌∷◌, Bool, true, false, Option, Some, None, Ok, Err, length, nat_le, nat_lt, slice_index, if◌then◌else◌, refl, ap, ◌∙◌, arith, IsUtf8, IsAscii}
+use Rattle.std.specs.List.{list_all}
+use Rattle.std.specs.Str.Parse.{digits_value}
 use Rattle.std.specs.Str.{is_utf8}
 use Rattle.std.specs.Str.Lossy.{utf8_lossy}
-use Rattle.std.proofs.lemmas.Str.{is_utf8-from_IsUtf8, IsUtf8-from_is_utf8}
+use Rattle.std.proofs.lemmas.Str.{is_utf8-from_IsUtf8, IsUtf8-from_is_utf8, IsUtf8-from_ascii}
 use Rattle.std.proofs.lemmas.Bool.Decides.{nat_tests}
 use Rattle.serde_json.specs.Data.{Data}
 use Rattle.serde_json.specs.Read.{read}
 use Rattle.definitions.specs.declared.refusals.Part.TheVariants as part
+use Rattle.definitions.specs.Moments.{is_digit}
+use Rattle.definitions.specs.Revisions.{revision_of}
+use Rattle.stamps.proofs.Forms.{both}
 use Rattle.definitions.specs.Refusals.{bad_request, too_large}
-use Rattle.definitions.specs.Targets.{decoded, data_of, longest_body, body_of, body_or}
+use Rattle.definitions.specs.Targets.{decoded, longest_body, body_of, body_or}
+use Rattle.definitions.specs.Values.{data_of}
 
 is_not : (b : Bool) → (b ≡ true → ⊥) → b ≡ false
 is_not true h = absurd (h refl)
@@ -39,3 +45,26 @@ body_of-unread t s h = body_of-short t None s (by (is_utf8 t) (λ e. h (IsUtf8-f
     by : (v : Bool) → (v ≡ true → read t ≡ None) → (if v then read t else None) ≡ None
     by true g = g refl
     by false g = refl
+
+-- ---- revisions
+
+digit-ascii : (x : ℕ) → is_digit x ≡ true → x < 128
+digit-ascii x h =
+    let m : nat_le x 57 ≡ true = (both (nat_le 48 x) (nat_le x 57) h).1 in
+    grind (arith, nat_tests)
+
+digits-ascii : (t : List ℕ) → list_all is_digit t ≡ true → IsAscii t
+digits-ascii [] h i = omega arith
+digits-ascii (x ∷ t) h zero = digit-ascii x (both (is_digit x) (list_all is_digit t) h).0
+digits-ascii (x ∷ t) h (suc i) = digits-ascii t (both (is_digit x) (list_all is_digit t) h).1 i
+
+no_revision : (a b c d : Bool) (n : ℕ) → b ≡ false → (if a && b && c && d then Some n else None) ≡ None
+no_revision false b c d n e = refl
+no_revision true false c d n e = refl
+no_revision true true c d n e = cc
+
+-- bytes that are no text are no revision
+pub revision_of-other : (t : List ℕ) → (IsUtf8 t → ⊥) → revision_of t ≡ None
+revision_of-other t h =
+    no_revision (nat_lt 0 (length t)) (list_all is_digit t) ((length t == 1) || not (slice_index t 0 == 48)) (nat_lt (digits_value 10 t) 9007199254740992) (digits_value 10 t)
+    (is_not (list_all is_digit t) (λ e. h (IsUtf8-from_ascii t (digits-ascii t e))))

@@ -10,8 +10,8 @@ use Rattle.pages.specs.declared.tokens.Token.{Token}
 use Rattle.requests.specs.declared.collections.Collection.{Collection}
 use Rattle.requests.specs.declared.collections.Read.{Read}
 use Rattle.requests.specs.declared.collections.Read.TheVariants.{List, Watch}
-use Rattle.requests.specs.declared.faults.CollectionFault.{CollectionFault}
-use Rattle.requests.specs.declared.faults.CollectionFault.TheVariants.{BadQuery, BadToken, NoMemory}
+use Rattle.requests.specs.declared.faults.QueryFault.{QueryFault}
+use Rattle.requests.specs.declared.faults.QueryFault.TheVariants.{BadQuery, BadToken, NoMemory}
 use Rattle.requests.specs.declared.list_options.ListOptions.{ListOptions}
 use Rattle.requests.specs.declared.watch_options.WatchOptions.{WatchOptions}
 
@@ -34,7 +34,7 @@ abbrev pub collection_seen : Collection → collections.Collection
 collection_seen c = record { labels = c.labels; fields = c.fields; read = read_seen c.read }
 
 -- the result, seen so, is the one wanted, or the fault is of the part that is not understood; or memory ran out
-abbrev pub Gives : {A B : Type 0} → (A → B) → Result B Part → Result A CollectionFault → Type 0
+abbrev pub Gives : {A B : Type 0} → (A → B) → Result B Part → Result A QueryFault → Type 0
 Gives seen wanted (Ok a) = wanted ≡ Ok (seen a)
 Gives seen wanted (Err BadQuery) = wanted ≡ Err part.Query
 Gives seen wanted (Err BadToken) = wanted ≡ Err part.Token

@@ -1,10 +1,10 @@
--- Why a query of a collection is not read.
-use Rattle.requests.specs.declared.faults.CollectionFault.{CollectionFault}
-use Rattle.requests.specs.declared.faults.CollectionFault.TheVariants as collection
-use Rattle.requests.specs.declared.query.QueryFault.{QueryFault}
-use Rattle.requests.specs.declared.query.QueryFault.TheVariants as query
+-- Why a query is not read.
+use Rattle.requests.specs.declared.faults.MemberFault.{MemberFault}
+use Rattle.requests.specs.declared.faults.MemberFault.TheVariants as member
+use Rattle.requests.specs.declared.faults.QueryFault.{QueryFault}
+use Rattle.requests.specs.declared.faults.QueryFault.TheVariants as query
 
--- a fault of what is not a page token, as one of a collection's query
-abbrev pub fault_of : QueryFault → CollectionFault
-fault_of query.BadQuery = collection.BadQuery
-fault_of query.NoMemory = collection.NoMemory
+-- a fault of a member that is no page token, as one of its query
+abbrev pub fault_of : MemberFault → QueryFault
+fault_of member.BadQuery = query.BadQuery
+fault_of member.NoMemory = query.NoMemory

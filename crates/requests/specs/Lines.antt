@@ -3,7 +3,7 @@ use Rattle.std.specs.Prelude.{ℕ, List}
 use Rattle.std.specs.Borrow.{Bor}
 use Rattle.definitions.specs.Lines as said
 use Rattle.requests.specs.declared.line.Line.{Line}
-use Rattle.requests.specs.declared.line.Line.TheVariants.{Ask, At, Unreadable}
+use Rattle.requests.specs.declared.line.Line.TheVariants.{Ask, At, Compact, Unreadable}
 
 abbrev pub both_now : Bor (List ℕ) × Bor (List ℕ) → List ℕ × List ℕ
 both_now (a, b) = (a.now, b.now)
@@ -12,4 +12,5 @@ both_now (a, b) = (a.now, b.now)
 abbrev pub line_seen : Line → said.Line
 line_seen (Ask method target body) = said.ask method target.now body.now
 line_seen (At moment) = said.at moment
+line_seen (Compact revision) = said.compact revision
 line_seen Unreadable = said.unreadable

@@ -1,5 +1,5 @@
 use crate::collections::{Collection, Read, read_collection};
-use crate::faults::CollectionFault;
+use crate::faults::QueryFault;
 use crate::list_options::ListOptions;
 use crate::watch_options::WatchOptions;
 use definitions::versions::At;
@@ -7,7 +7,7 @@ use std::alloc::Global;
 use std::test::Fail;
 
 /// What a query asks of its collection.
-fn asked(alloc: Global, query: &[u8]) -> Result<Read, CollectionFault> {
+fn asked(alloc: Global, query: &[u8]) -> Result<Read, QueryFault> {
     let Collection { read, .. } = read_collection(alloc, query)?;
     Ok(read)
 }
@@ -28,7 +28,7 @@ fn watched(alloc: Global, query: &[u8]) -> Option<WatchOptions> {
     }
 }
 
-fn fault(alloc: Global, query: &[u8]) -> Option<CollectionFault> {
+fn fault(alloc: Global, query: &[u8]) -> Option<QueryFault> {
     read_collection(alloc, query).err()
 }
 
@@ -42,7 +42,7 @@ fn from(revision: Option<u64>, bookmarks: bool) -> Option<WatchOptions> {
 #[test]
 fn versions_are_matched(rt: HostRuntime) -> Result<(), Fail> {
     let alloc = rt.alloc();
-    let bad = Some(CollectionFault::BadQuery);
+    let bad = Some(QueryFault::BadQuery);
     assert_eq!(rt; listed(alloc, b""), Some((At::Present, 0)));
     assert_eq!(rt; listed(alloc, b"resourceVersion=0"), Some((At::Present, 0)));
     assert_eq!(rt;
@@ -86,16 +86,13 @@ fn tokens_go_on(rt: HostRuntime) -> Result<(), Fail> {
     assert_eq!(rt; token.namespace.as_str(), "default");
     assert_eq!(rt; token.name.as_str(), "b");
     let padded = b"continue=eyJuYW1lIjoiYiIsIm5hbWVzcGFjZSI6ImRlZmF1bHQiLCJydiI6IjYifQ==";
-    assert_eq!(rt;
-        fault(alloc, b"continue=!!"),
-        Some(CollectionFault::BadToken)
-    );
-    assert_eq!(rt; fault(alloc, padded), Some(CollectionFault::BadToken));
+    assert_eq!(rt; fault(alloc, b"continue=!!"), Some(QueryFault::BadToken));
+    assert_eq!(rt; fault(alloc, padded), Some(QueryFault::BadToken));
     let beside = b"continue=!!&resourceVersion=6";
-    assert_eq!(rt; fault(alloc, beside), Some(CollectionFault::BadQuery));
+    assert_eq!(rt; fault(alloc, beside), Some(QueryFault::BadQuery));
     assert_eq!(rt;
         fault(alloc, b"continue=!!&limit=x"),
-        Some(CollectionFault::BadQuery)
+        Some(QueryFault::BadQuery)
     );
     Ok(())
 }
@@ -103,7 +100,7 @@ fn tokens_go_on(rt: HostRuntime) -> Result<(), Fail> {
 #[test]
 fn watches_are_asked(rt: HostRuntime) -> Result<(), Fail> {
     let alloc = rt.alloc();
-    let bad = Some(CollectionFault::BadQuery);
+    let bad = Some(QueryFault::BadQuery);
     assert_eq!(rt;
         watched(alloc, b"watch=true&resourceVersion=5"),
         from(Some(5), false)

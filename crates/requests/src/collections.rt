@@ -4,10 +4,11 @@ ghost use Rattle.form_urlencoded.specs.Form.{raw_pairs};
 ghost use Rattle.definitions.specs.Collections.{read_by, collection_of};
 ghost use Rattle.requests.specs.Collected.{Gives, read_seen, collection_seen};
 
-use crate::faults::CollectionFault;
+use crate::faults::QueryFault;
 use crate::list_options::{ListOptions, list_options};
 use crate::members::{Names, fields, has_any, is_asked, labels};
 use crate::watch_options::{WatchOptions, watch_options};
+use definitions::versions::At;
 use selector::{Fields, Selector};
 use std::alloc::Global;
 
@@ -22,6 +23,27 @@ pub struct Collection {
     pub read: Read,
 }
 
+impl Collection {
+    ghost use Rattle.std.specs.Prelude.{◌≡◌};
+    ghost use Rattle.definitions.specs.Collections.{everything};
+    ghost use Rattle.requests.specs.Collected.{collection_seen};
+
+    /// All objects, as they are at present.
+    pub fn everything(alloc: Global) -> Collection
+        ensures { collection_seen result ≡ everything }
+    {
+        Collection {
+            labels: Selector::everything(alloc),
+            fields: Fields::everything(alloc),
+            read: Read::List(ListOptions {
+                at: At::Present,
+                limit: 0,
+                after: None,
+            }),
+        }
+    }
+}
+
 /// How the objects of a collection are read.
 #[derive(Drop)]
 pub enum Read {
@@ -32,7 +54,7 @@ pub enum Read {
 }
 
 /// Whether a query lists or watches.
-fn read_options(alloc: Global, query: &[u8]) -> Result<Read, CollectionFault>
+fn read_options(alloc: Global, query: &[u8]) -> Result<Read, QueryFault>
     ensures { Gives read_seen (read_by (raw_pairs query.now)) result }
 {
     if is_asked(alloc, query, "watch")? {
@@ -44,11 +66,11 @@ fn read_options(alloc: Global, query: &[u8]) -> Result<Read, CollectionFault>
 
 /// The query of a collection: what stands after the first `?` of its target. Members that are not known say nothing, and
 /// of those with one name the first counts. A fault of the page token is told only where all else is understood.
-pub fn read_collection(alloc: Global, query: &[u8]) -> Result<Collection, CollectionFault>
+pub fn read_collection(alloc: Global, query: &[u8]) -> Result<Collection, QueryFault>
     ensures { Gives collection_seen (collection_of (raw_pairs query.now)) result }
 {
     if has_any(alloc, query, Names::OfNoCollection)? {
-        return Err(CollectionFault::BadQuery);
+        return Err(QueryFault::BadQuery);
     }
     let labels = labels(alloc, query)?;
     let fields = fields(alloc, query)?;

@@ -1,14 +1,14 @@
-//! Why a query of a collection is not read.
+//! Why a query is not read.
 ghost use Rattle.std.specs.Prelude.{◌≡◌};
 ghost use Rattle.requests.specs.Faults.{fault_of};
-ghost use Rattle.requests.specs.declared.faults.CollectionFault.TheVariants.{NoMemory};
+ghost use Rattle.requests.specs.declared.faults.MemberFault.TheVariants as member;
+ghost use Rattle.requests.specs.declared.faults.QueryFault.TheVariants as query;
 
-use crate::query::QueryFault;
 use std::alloc::AllocError;
 
-/// Why the query of a collection is not read.
+/// Why a query is not read.
 #[derive(Clone, Copy, Debug, PartialEq, Eq)]
-pub enum CollectionFault {
+pub enum QueryFault {
     /// It is not understood, or not served so far.
     BadQuery,
     /// All else is understood, but its page token is none.
@@ -17,21 +17,38 @@ pub enum CollectionFault {
     NoMemory,
 }
 
-impl From<AllocError> for CollectionFault {
-    ghost from_gives = { λ _ e. e ≡ NoMemory };
+/// Why a member of a query, which is no page token, is not read.
+#[derive(Clone, Copy, Debug, PartialEq, Eq)]
+pub enum MemberFault {
+    /// It is not understood.
+    BadQuery,
+    /// Memory was wanted and refused.
+    NoMemory,
+}
 
-    fn from(_: AllocError) -> CollectionFault {
-        CollectionFault::NoMemory
+impl From<AllocError> for QueryFault {
+    ghost from_gives = { λ _ e. e ≡ query.NoMemory };
+
+    fn from(_: AllocError) -> QueryFault {
+        QueryFault::NoMemory
     }
 }
 
-impl From<QueryFault> for CollectionFault {
+impl From<AllocError> for MemberFault {
+    ghost from_gives = { λ _ e. e ≡ member.NoMemory };
+
+    fn from(_: AllocError) -> MemberFault {
+        MemberFault::NoMemory
+    }
+}
+
+impl From<MemberFault> for QueryFault {
     ghost from_gives = { λ fault e. e ≡ fault_of fault };
 
-    fn from(fault: QueryFault) -> CollectionFault {
+    fn from(fault: MemberFault) -> QueryFault {
         match fault {
-            QueryFault::BadQuery => CollectionFault::BadQuery,
-            QueryFault::NoMemory => CollectionFault::NoMemory,
+            MemberFault::BadQuery => QueryFault::BadQuery,
+            MemberFault::NoMemory => QueryFault::NoMemory,
         }
     }
 }

@@ -1,12 +1,14 @@
 //! Lines of a replay.
 ghost use Rattle.std.specs.Prelude.{◌≡◌, codes, option_map, if◌then◌else◌};
 ghost use Rattle.std.specs.Str.{bytes_eq};
-ghost use Rattle.definitions.specs.Lines.{cut, ask_if, target_alone, target_and_body, line_of, at, unreadable};
+ghost use Rattle.definitions.specs.Lines.{cut, ask_if, target_alone, target_and_body, compact_at, line_of, at, unreadable};
 ghost use Rattle.definitions.specs.Moments.{is_moment};
+ghost use Rattle.definitions.specs.Revisions.{revision_of};
 ghost use Rattle.requests.specs.Lines.{both_now, line_seen};
 
 use definitions::methods::Method;
 use stamps::moments::Moment;
+use stamps::revisions::read_revision;
 
 /// What a line says.
 #[derive(Clone, Copy, Debug, PartialEq, Eq)]
@@ -19,6 +21,8 @@ pub enum Line<'l> {
     },
     /// From here on it is this moment.
     At(Moment),
+    /// What happened up to this revision is compacted.
+    Compact(u64),
     /// Anything else.
     Unreadable,
 }
@@ -86,6 +90,19 @@ fn moment<'l>(rest: &'l [u8]) -> Line<'l>
     }
 }
 
+/// `{revision}`
+fn compact<'l>(rest: &'l [u8]) -> Line<'l>
+    ensures { line_seen result ≡ compact_at (revision_of rest.now) }
+{
+    match str::from_utf8(rest) {
+        Ok(text) => match read_revision(text) {
+            Some(revision) => Line::Compact(revision),
+            None => Line::Unreadable,
+        },
+        Err(_) => Line::Unreadable,
+    }
+}
+
 /// What a line says, without the newline at its end.
 pub fn read_line<'l>(line: &'l [u8]) -> Line<'l>
     ensures { line_seen result ≡ line_of line.now }
@@ -104,6 +121,8 @@ pub fn read_line<'l>(line: &'l [u8]) -> Line<'l>
                 target_and_body(Method::Patch, rest)
             } else if is(word, "AT") {
                 moment(rest)
+            } else if is(word, "COMPACT") {
+                compact(rest)
             } else {
                 Line::Unreadable
             }

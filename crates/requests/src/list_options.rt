@@ -10,9 +10,8 @@ ghost use Rattle.definitions.specs.ReadTokens.{token_of};
 ghost use Rattle.requests.specs.Collected.{Gives, list_seen};
 ghost use Rattle.requests.specs.Queried.{Reads};
 
-use crate::faults::CollectionFault;
+use crate::faults::{MemberFault, QueryFault};
 use crate::members::{member, version};
-use crate::query::QueryFault;
 use definitions::versions::{At, Match};
 use meta::Fault;
 use pages::Token;
@@ -64,12 +63,12 @@ fn read_limit(text: &str) -> Option<usize>
 }
 
 /// The limit that a query names.
-fn limit(alloc: Global, query: &[u8]) -> Result<usize, QueryFault>
+fn limit(alloc: Global, query: &[u8]) -> Result<usize, MemberFault>
     ensures { Reads (limit_of (member (codes "limit") (raw_pairs query.now))) result }
 {
     match limit_of(member(alloc, query, "limit")?) {
         Some(limit) => Ok(limit),
-        None => Err(QueryFault::BadQuery),
+        None => Err(MemberFault::BadQuery),
     }
 }
 
@@ -83,12 +82,12 @@ fn match_of(name: Option<CowStr<'_>>) -> Option<Match>
 }
 
 /// How a query says that the revision is to be matched.
-fn matched(alloc: Global, query: &[u8]) -> Result<Match, QueryFault>
+fn matched(alloc: Global, query: &[u8]) -> Result<Match, MemberFault>
     ensures { Reads (match_of (member (codes "resourceVersionMatch") (raw_pairs query.now))) result }
 {
     match match_of(member(alloc, query, "resourceVersionMatch")?) {
         Some(matched) => Ok(matched),
-        None => Err(QueryFault::BadQuery),
+        None => Err(MemberFault::BadQuery),
     }
 }
 
@@ -125,7 +124,7 @@ fn names_no_other(version: Option<u64>) -> bool
 }
 
 /// The list that goes on after a token's place, at the token's revision.
-fn going_on(alloc: Global, limit: usize, text: &str) -> Result<ListOptions, CollectionFault>
+fn going_on(alloc: Global, limit: usize, text: &str) -> Result<ListOptions, QueryFault>
     ensures { Gives list_seen (going_on limit (token_of text.now)) result }
 {
     match Token::read(alloc, text) {
@@ -134,9 +133,9 @@ fn going_on(alloc: Global, limit: usize, text: &str) -> Result<ListOptions, Coll
             limit,
             after: Some(token),
         }),
-        Err(Fault::BadRequest(_)) => Err(CollectionFault::BadToken),
+        Err(Fault::BadRequest(_)) => Err(QueryFault::BadToken),
         // A token's reading has no other fault.
-        Err(_) => Err(CollectionFault::NoMemory),
+        Err(_) => Err(QueryFault::NoMemory),
     }
 }
 
@@ -147,7 +146,7 @@ fn by_token(
     version: Option<u64>,
     token: Option<CowStr<'_>>,
     at: At,
-) -> Result<ListOptions, CollectionFault>
+) -> Result<ListOptions, QueryFault>
     ensures { Gives list_seen (by_token limit version (option_map cow_str_bytes token.entry) at) result }
 {
     match token {
@@ -160,14 +159,14 @@ fn by_token(
             if names_no_other(version) {
                 going_on(alloc, limit, text.as_str())
             } else {
-                Err(CollectionFault::BadQuery)
+                Err(QueryFault::BadQuery)
             }
         }
     }
 }
 
 /// The options of a list. Its page token is looked at last.
-pub(crate) fn list_options(alloc: Global, query: &[u8]) -> Result<ListOptions, CollectionFault>
+pub(crate) fn list_options(alloc: Global, query: &[u8]) -> Result<ListOptions, QueryFault>
     ensures { Gives list_seen (list_options (raw_pairs query.now)) result }
 {
     let limit = limit(alloc, query)?;
@@ -176,6 +175,6 @@ pub(crate) fn list_options(alloc: Global, query: &[u8]) -> Result<ListOptions, C
     let token = member(alloc, query, "continue")?;
     match list_at(limit != 0, matched, version) {
         Some(at) => by_token(alloc, limit, version, token, at),
-        None => Err(CollectionFault::BadQuery),
+        None => Err(QueryFault::BadQuery),
     }
 }

@@ -5,12 +5,12 @@ ghost use Rattle.std.specs.List.{list_any};
 ghost use Rattle.std.specs.Str.{bytes_eq};
 ghost use Rattle.form_urlencoded.specs.Form.{raw_pairs};
 ghost use Rattle.definitions.specs.Collections.{is_asked, refused_of_collections, unwatched_names, version_of};
-ghost use Rattle.definitions.specs.Queries.{has_any, member, is_true, or_empty, refused_names, unserved_names};
+ghost use Rattle.definitions.specs.Queries.{has_any, member, is_true, or_empty, refused_names};
 ghost use Rattle.definitions.specs.SelectorFields.{said_of_fields};
 ghost use Rattle.definitions.specs.SelectorTexts.{said_by_text};
 ghost use Rattle.requests.specs.Queried.{Reads, names_seen};
 
-use crate::query::QueryFault;
+use crate::faults::MemberFault;
 use form_urlencoded::parse;
 use selector::{Fields, Selector};
 use stamps::revisions::read_revision;
@@ -22,8 +22,6 @@ use std::borrow::CowStr;
 pub(crate) enum Names {
     /// No request may have them.
     Refused,
-    /// No list or watch may have them, so far.
-    Unserved,
     /// No query of a collection may have them.
     OfNoCollection,
     /// No watch may have them.
@@ -41,7 +39,6 @@ impl Names {
     {
         match self {
             Names::Refused => is_refused(name),
-            Names::Unserved => is_unserved(name),
             Names::OfNoCollection => is_of_no_collection(name),
             Names::OfNoWatch => is_of_no_watch(name),
         }
@@ -52,20 +49,6 @@ fn is_refused(name: &str) -> bool
     ensures { result ≡ list_any (bytes_eq name.now) refused_names }
 {
     name == "dryRun"
-}
-
-fn is_unserved(name: &str) -> bool
-    ensures { result ≡ list_any (bytes_eq name.now) unserved_names }
-{
-    matches!(
-        name,
-        "limit"
-            | "continue"
-            | "resourceVersionMatch"
-            | "allowWatchBookmarks"
-            | "sendInitialEvents"
-            | "dryRun"
-    )
 }
 
 fn is_of_no_collection(name: &str) -> bool
@@ -138,12 +121,12 @@ fn version_of(text: Option<CowStr<'_>>) -> Option<Option<u64>>
 }
 
 /// The revision that a query names, if any.
-pub(crate) fn version(alloc: Global, query: &[u8]) -> Result<Option<u64>, QueryFault>
+pub(crate) fn version(alloc: Global, query: &[u8]) -> Result<Option<u64>, MemberFault>
     ensures { Reads (version_of (member (codes "resourceVersion") (raw_pairs query.now))) result }
 {
     match version_of(member(alloc, query, "resourceVersion")?) {
         Some(version) => Ok(version),
-        None => Err(QueryFault::BadQuery),
+        None => Err(MemberFault::BadQuery),
     }
 }
 
@@ -158,25 +141,25 @@ fn or_empty<'t>(text: &'t Option<CowStr<'_>>) -> &'t str
 }
 
 /// The selector of labels in a query.
-pub(crate) fn labels(alloc: Global, query: &[u8]) -> Result<Selector, QueryFault>
+pub(crate) fn labels(alloc: Global, query: &[u8]) -> Result<Selector, MemberFault>
     ensures { Reads (said_by_text (or_empty (member (codes "labelSelector") (raw_pairs query.now)))) result }
 {
     let text = member(alloc, query, "labelSelector")?;
     match Selector::parse(alloc, or_empty(&text)) {
         Ok(labels) => Ok(labels),
-        Err(selector::Fault::NoMemory) => Err(QueryFault::NoMemory),
-        Err(_) => Err(QueryFault::BadQuery),
+        Err(selector::Fault::NoMemory) => Err(MemberFault::NoMemory),
+        Err(_) => Err(MemberFault::BadQuery),
     }
 }
 
 /// The selector of fields in a query.
-pub(crate) fn fields(alloc: Global, query: &[u8]) -> Result<Fields, QueryFault>
+pub(crate) fn fields(alloc: Global, query: &[u8]) -> Result<Fields, MemberFault>
     ensures { Reads (said_of_fields (or_empty (member (codes "fieldSelector") (raw_pairs query.now)))) result }
 {
     let text = member(alloc, query, "fieldSelector")?;
     match Fields::parse(alloc, or_empty(&text)) {
         Ok(fields) => Ok(fields),
-        Err(selector::Fault::NoMemory) => Err(QueryFault::NoMemory),
-        Err(_) => Err(QueryFault::BadQuery),
+        Err(selector::Fault::NoMemory) => Err(MemberFault::NoMemory),
+        Err(_) => Err(MemberFault::BadQuery),
     }
 }

@@ -1,7 +1,10 @@
 use crate::body::{BodyFault, LONGEST_BODY, read_body};
 use crate::check::{CheckFault, check_request, decode};
+use crate::collections::Read;
+use crate::faults::QueryFault;
 use crate::line::{Line, read_line};
-use crate::query::{QueryFault, read_query};
+use crate::query::read_query;
+use crate::watch_options::WatchOptions;
 use definitions::kinds::Kind;
 use definitions::methods::Method;
 use definitions::policies::{Policy, PolicySaid};
@@ -96,21 +99,38 @@ fn reads_bodies(rt: HostRuntime) -> Result<(), Fail> {
 }
 
 #[test]
+fn compactions_are_read(rt: HostRuntime) -> Result<(), Fail> {
+    assert_eq!(rt; read_line(b"COMPACT 5"), Line::Compact(5));
+    assert_eq!(rt; read_line(b"COMPACT 0"), Line::Compact(0));
+    assert_eq!(rt; read_line(b"COMPACT 05"), Line::Unreadable);
+    assert_eq!(rt; read_line(b"COMPACT 5 "), Line::Unreadable);
+    assert_eq!(rt; read_line(b"COMPACT"), Line::Unreadable);
+    assert_eq!(rt; read_line(b"COMPACT \xff"), Line::Unreadable);
+    Ok(())
+}
+
+#[test]
 fn queries_are_read(rt: HostRuntime) -> Result<(), Fail> {
     let alloc = rt.alloc();
     let all = Target::Collection(Kind::ConfigMap, None);
     let watch = "/api/v1/configmaps?watch=1&resourceVersion=7&labelSelector=a%3Db";
-    let watched = read_query(alloc, Method::Get, all, watch)?;
-    assert_eq!(rt; watched.watch, Some(7));
+    let watched = read_query(alloc, Method::Get, all, watch)?.collection;
+    let from = WatchOptions {
+        from: Some(7),
+        bookmarks: false,
+    };
+    assert!(rt; matches!(&watched.read, Read::Watch(options) if *options == from));
     assert!(rt; !watched.labels.is_empty());
     assert!(rt; watched.fields.is_empty());
-    let listed = read_query(alloc, Method::Get, all, "/api/v1/configmaps")?;
-    assert_eq!(rt; listed.watch, None);
-    let limited = read_query(alloc, Method::Get, all, "/api/v1/configmaps?limit=7");
-    assert_eq!(rt; limited.err(), Some(QueryFault::BadQuery));
+    let listed = read_query(alloc, Method::Get, all, "/api/v1/configmaps?limit=7")?;
+    assert!(rt; matches!(&listed.collection.read, Read::List(options) if options.limit == 7));
+    let nowhere = read_query(alloc, Method::Get, all, "/api/v1/configmaps?continue=!!");
+    assert_eq!(rt; nowhere.err(), Some(QueryFault::BadToken));
+    let unlimited = read_query(alloc, Method::Get, all, "/api/v1/configmaps?limit=x");
+    assert_eq!(rt; unlimited.err(), Some(QueryFault::BadQuery));
     let object = Target::Object(Kind::ConfigMap, "a", "b");
     let read = read_query(alloc, Method::Get, object, "/?watch=1&labelSelector=((")?;
-    assert_eq!(rt; read.watch, None);
+    assert!(rt; matches!(&read.collection.read, Read::List(_)));
     let dry = read_query(alloc, Method::Get, object, "/?dryRun=All");
     assert_eq!(rt; dry.err(), Some(QueryFault::BadQuery));
     Ok(())

@@ -4,7 +4,7 @@ ghost use Rattle.form_urlencoded.specs.Form.{raw_pairs};
 ghost use Rattle.definitions.specs.Collections.{watch_from, watch_options};
 ghost use Rattle.requests.specs.Collected.{Gives, watch_seen};
 
-use crate::faults::CollectionFault;
+use crate::faults::QueryFault;
 use crate::members::{Names, has_any, is_asked, version};
 use std::alloc::Global;
 
@@ -29,11 +29,11 @@ fn watch_from(version: Option<u64>) -> Option<u64>
 }
 
 /// The options of a watch. Its limit and its page token are not looked at.
-pub(crate) fn watch_options(alloc: Global, query: &[u8]) -> Result<WatchOptions, CollectionFault>
+pub(crate) fn watch_options(alloc: Global, query: &[u8]) -> Result<WatchOptions, QueryFault>
     ensures { Gives watch_seen (watch_options (raw_pairs query.now)) result }
 {
     if has_any(alloc, query, Names::OfNoWatch)? {
-        return Err(CollectionFault::BadQuery);
+        return Err(QueryFault::BadQuery);
     }
     let bookmarks = is_asked(alloc, query, "allowWatchBookmarks")?;
     let version = version(alloc, query)?;

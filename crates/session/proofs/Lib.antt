@@ -1,3 +1,3 @@
 pub mod Checks
+pub mod Followed
 pub mod Served
-pub mod Taken

@@ -12,14 +12,16 @@ use Rattle.meta.specs.Faults.{refusal_of}
 use Rattle.meta.specs.declared.faults.Fault.{Fault}
 use Rattle.meta.specs.declared.faults.Fault.TheVariants as fault
 use Rattle.verbs.specs.Requests.{request_of}
+use Rattle.requests.specs.Collected.{list_seen, watch_seen}
 use Rattle.selector.specs.Views.{view_of}
 use Rattle.session.specs.declared.asked.Asked.{Asked}
-use Rattle.session.specs.declared.asked.Asked.TheVariants.{Request, Watch}
+use Rattle.session.specs.declared.asked.Asked.TheVariants.{Request, List, Watch}
 
 -- what is asked as the definitions say it
 abbrev pub asked_seen : Asked → targets.Asked
 asked_seen (Request q) = targets.request (request_of q)
-asked_seen (Watch view from) = targets.watch (view_of view) from
+asked_seen (List view options) = targets.list (view_of view) (list_seen options)
+asked_seen (Watch view options) = targets.watch (view_of view) (watch_seen options)
 
 -- the result is what is asked, or this refusal, or want of memory
 abbrev pub Asks : Result targets.Asked Refusal → Result Asked Fault → Type 0

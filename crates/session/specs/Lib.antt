@@ -1,2 +1,4 @@
 pub mod Asked
-pub mod Sessions
+pub mod Held
+pub mod Laws
+pub mod Shown

@@ -1,10 +1,13 @@
 //! What is asked.
+use requests::list_options::ListOptions;
+use requests::watch_options::WatchOptions;
 use selector::View;
 use verbs::Request;
 
-/// What a method, a target and a body ask: a request, or to be shown the changes of a view after a revision.
+/// What a method, a target and a body ask: a request, the list of a view, or a watch of it.
 #[derive(Drop)]
 pub enum Asked {
     Request(Request),
-    Watch { view: View, from: u64 },
+    List { view: View, options: ListOptions },
+    Watch { view: View, options: WatchOptions },
 }

@@ -1,8 +1,9 @@
 //! What a method, a target and a body ask for.
 ghost use Rattle.std.specs.Prelude.{◌≡◌, IfOk, option_map, string_bytes};
-ghost use Rattle.definitions.specs.Targets.{asked, list_or_watch, selected, asked_with, body_of, delete_options, query_for, read_request};
+ghost use Rattle.definitions.specs.Targets.{asked, read_as, selected, asked_with, body_of, delete_options, query_for, read_request};
 ghost use Rattle.meta.specs.Faults.{refusal_of};
 ghost use Rattle.meta.specs.Keys.{name_of};
+ghost use Rattle.requests.specs.Collected.{collection_seen, read_seen};
 ghost use Rattle.requests.specs.Queried.{query_seen};
 ghost use Rattle.requests.specs.Seen.{check_refusal};
 ghost use Rattle.routes.specs.Seen.{now, route_seen};
@@ -16,7 +17,9 @@ use lifecycle::DeleteOptions;
 use meta::{Fault, Key};
 use requests::body::{BodyFault, read_body};
 use requests::check::{CheckFault, check_request, decode};
-use requests::query::{Query, QueryFault, read_query};
+use requests::collections::{Collection, Read};
+use requests::faults::QueryFault;
+use requests::query::{Query, read_query};
 use routes::table::Routes;
 use routes::targets::Target;
 use selector::View;
@@ -57,6 +60,7 @@ fn ask_with(
     match read_query(alloc, method, named, target) {
         Ok(query) => ask(alloc, method, named, query, body),
         Err(QueryFault::BadQuery) => Err(Fault::BadRequest(Part::Query)),
+        Err(QueryFault::BadToken) => Err(Fault::BadRequest(Part::Token)),
         Err(QueryFault::NoMemory) => Err(Fault::NoMemory),
     }
 }
@@ -74,7 +78,7 @@ fn ask(
     match (method, target) {
         (Method::Get, Target::Collection(kind, namespace)) => {
             let namespace = owned(alloc, namespace)?;
-            Ok(list_or_watch(kind, namespace, query))
+            Ok(read_as(kind, namespace, query.collection))
         }
         (
             Method::Get,
@@ -105,20 +109,20 @@ fn ask(
     }
 }
 
-/// The list of what a query selects of a collection, or a watch of it.
-fn list_or_watch(kind: Kind, namespace: Option<String>, query: Query) -> Asked
+/// The list of what is selected of a collection, or a watch of it.
+fn read_as(kind: Kind, namespace: Option<String>, collection: Collection) -> Asked
     ensures { asked_seen result
-        ≡ list_or_watch (selected kind (option_map string_bytes namespace) (query_seen query)) query.watch }
+        ≡ read_as (selected kind (option_map string_bytes namespace) (collection_seen collection)) (read_seen collection.read) }
 {
     let view = View {
         kind,
         namespace,
-        labels: query.labels,
-        fields: query.fields,
+        labels: collection.labels,
+        fields: collection.fields,
     };
-    match query.watch {
-        None => Asked::Request(Request::List(view)),
-        Some(from) => Asked::Watch { view, from },
+    match collection.read {
+        Read::List(options) => Asked::List { view, options },
+        Read::Watch(options) => Asked::Watch { view, options },
     }
 }
 

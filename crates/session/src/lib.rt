@@ -1,11 +1,12 @@
-//! A session: request lines answered one after another over a store that begins empty.
+//! A session: request lines answered one after another over a server where nothing is there at first.
 #![tactic(auto)]
 
 pub mod asked;
 pub mod asking;
+mod bookmarks;
+pub mod laws;
 mod lines;
 pub mod sessions;
-mod taking;
 
 pub use asked::Asked;
 pub use asking::read_request;

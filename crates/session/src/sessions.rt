@@ -1,103 +1,102 @@
 //! Sessions.
-ghost use Rattle.definitions.specs.Lines as lines;
-
 use crate::asked::Asked;
 use crate::asking::read_request;
-use crate::lines::{line, refusal_line, watch_lines};
-use crate::taking::take;
+use crate::bookmarks::last_bookmark;
+use crate::lines::{change_lines, fault_line, initial_lines, line, refusal_line, success_line};
 use definitions::methods::Method;
 use definitions::refusals::Part;
+use desk::{Server, Watched};
 use line_service::LineService;
 use meta::{Fault, Write};
 use reply::Reply;
 use requests::line::{Line, read_line};
-use revisions::Journal;
+use requests::list_options::ListOptions;
+use requests::watch_options::WatchOptions;
 use routes::table::Routes;
 use selector::View;
 use stamps::moments::Moment;
 use std::alloc::{AllocError, Global};
 use std::marker::Model;
-use store::Store;
 use verbs::Request;
 
-/// A store and the moment that it is, over which lines are answered. It is seen as what has happened, and the moment.
+/// A server and the moment that it is, over which lines are answered.
 #[derive(Drop)]
 pub struct Session {
-    store: Store,
-    /// The writes that the store has taken, of which watches are shown the changes.
-    journal: Journal,
+    server: Server,
     moment: Moment,
     routes: Routes,
 }
 
 impl Model for Session {
-    ghost use Rattle.definitions.specs.Lines as lines;
-    ghost use Rattle.session.specs.Sessions.{coded_session};
+    ghost use Rattle.session.specs.Held.{Held, coded_held};
 
-    ghost Value = { lines.Session };
+    ghost Value = { Held };
 
-    ghost coded = { coded_session };
+    ghost coded = { coded_held };
 
-    ghost view = { λ s. record { history = s.journal; moment = s.moment } };
-
-    ghost use Rattle.std.specs.Prelude.{◌≡◌};
-    ghost use Rattle.definitions.specs.Snapshots.{snapshot};
-
-    ghost invariant = { λ s. s.store ≡ snapshot s.journal };
+    ghost view = { λ s. record { server = s.server; moment = s.moment } };
 }
 
 impl Session {
     ghost use Rattle.std.specs.Prelude.{◌≡◌, IfOk, OnOk, OnErr, IfSome, option_map, false};
-    ghost use Rattle.definitions.specs.History.{members, present};
-    ghost use Rattle.definitions.specs.Lines.{start, outcome, reply_for, reply_text, watch_reply, history_from};
+    ghost use Rattle.answers.specs.Serves as answers;
+    ghost use Rattle.desk.specs.Replies.{Replies};
+    ghost use Rattle.desk.specs.Seen.{watched_of};
+    ghost use Rattle.watch_cache.specs.Served.{Serves};
+    ghost use Rattle.definitions.specs.Lines.{outcome, reply_text, watch_reply};
+    ghost use Rattle.definitions.specs.Lists.{list_served};
+    ghost use Rattle.definitions.specs.Servers.{after_writing, compact_by, watch_by};
     ghost use Rattle.definitions.specs.Targets as targets;
-    ghost use Rattle.definitions.specs.Verbs.{accept, history_after, with_write, overflows};
+    ghost use Rattle.definitions.specs.Verbs as outcomes;
+    ghost use Rattle.definitions.specs.Verbs.{overflows};
+    ghost use Rattle.definitions.specs.WatchReplies.{watch_served};
     ghost use Rattle.meta.specs.Writes.{write_of};
-    ghost use Rattle.definitions.specs.Changes.{changes_since};
+    ghost use Rattle.requests.specs.Collected.{list_seen, watch_seen};
     ghost use Rattle.selector.specs.Views.{view_of};
-    ghost use Rattle.answers.specs.Serves.{Serves};
+    ghost use Rattle.session.specs.Held.{begun, accepted, reply_for, compact_text, server_from, server_or};
     ghost use Rattle.verbs.specs.Requests.{request_of};
 
-    /// A session over the empty store, at the start of 2026. The error is want of memory.
-    pub fn new(alloc: Global) -> Result<Session, AllocError>
-        ensures { IfOk result (λ s. s ≡ start) }
+    /// A session over a server where nothing is there, at the start of 2026, that keeps the last `window` changes of each
+    /// kind. The error is want of memory.
+    pub fn new(alloc: Global, window: usize) -> Result<Session, AllocError>
+        ensures { IfOk result (λ s. s ≡ begun window) }
     {
         Ok(Session {
-            store: Store::new(alloc),
-            journal: Journal::new(alloc),
+            server: Server::new(alloc, window)?,
             moment: Moment::start(),
             routes: Routes::new(alloc)?,
         })
     }
 
-    /// Takes what a reply writes. An error, want of memory, changes nothing.
+    /// The reply to a request with what it writes, or why it is refused.
+    fn outcome(&self, alloc: Global, request: Request) -> Result<(Reply, Option<Write>), Fault>
+        ensures { answers.Serves (accepted self.now (request_of request)) result }
+    {
+        self.server.answer(alloc, request, self.moment)
+    }
+
+    /// Takes what a reply writes, for which there is room. An error, want of memory, changes nothing.
     fn take(&mut self, write: Option<Write>) -> Result<(), AllocError>
         requires { IfSome (option_map write_of write) (λ w.
-            overflows (members self.old.history (present self.old.history)) (present self.old.history) w ≡ false) }
-        ensures history { OnOk result (self.new.history ≡ with_write self.old.history (option_map write_of write)) }
+            overflows self.old.server.snapshot.members self.old.server.snapshot.revision w ≡ false) }
+        ensures server { OnOk result (self.new.server ≡ after_writing self.old.server (option_map write_of write)) }
         ensures moment { self.new.moment ≡ self.old.moment }
         ensures err { OnErr result (self.new ≡ self.old) }
     {
         let Some(write) = write else {
             return Ok(());
         };
-        take(&mut self.store, &mut self.journal, write)?;
-        Ok(())
-    }
-
-    /// The reply to a request with what it writes, or why it is refused.
-    fn outcome(&self, alloc: Global, request: Request) -> Result<(Reply, Option<Write>), Fault>
-        ensures { Serves (accept (request_of request) self.now.history self.now.moment) result }
-    {
-        verbs::accept(alloc, &self.store, request, self.moment)
+        match self.server.take(write) {
+            Ok(()) => Ok(()),
+            Err(_) => Err(AllocError),
+        }
     }
 
     /// The reply line to a request, after which what it writes is written. An error, want of memory, changes nothing.
     fn accept(&mut self, alloc: Global, request: Request) -> Result<Vec<u8>, AllocError>
-        ensures text { IfOk result (λ l. l.items
-            ≡ reply_text (outcome (accept (request_of request) self.old.history self.old.moment))) }
-        ensures history { OnOk result (self.new.history
-            ≡ history_after self.old.history (accept (request_of request) self.old.history self.old.moment)) }
+        ensures text { IfOk result (λ l. l.items ≡ reply_text (outcome (accepted self.old (request_of request)))) }
+        ensures server { OnOk result (self.new.server
+            ≡ after_writing self.old.server (outcomes.write_of (accepted self.old (request_of request)))) }
         ensures moment { self.new.moment ≡ self.old.moment }
         ensures err { OnErr result (self.new ≡ self.old) }
     {
@@ -112,21 +111,64 @@ impl Session {
         }
     }
 
-    /// The lines of a watch: the changes of a view after a revision.
-    fn show(&self, alloc: Global, view: &View, from: u64) -> Result<Vec<u8>, AllocError>
-        ensures { IfOk result (λ l. l.items
-            ≡ reply_text (watch_reply (changes_since self.now.history (view_of view.now) from))) }
+    /// The reply to a list, or why it is refused.
+    fn listed(&self, alloc: Global, view: &View, options: &ListOptions) -> Result<Reply, Fault>
+        ensures { Replies (list_served self.now.server (view_of view.now) (list_seen options.now)) result }
     {
-        let present = self.store.revision();
-        if from > present {
-            let fault = Fault::TooNew {
-                asked: from,
-                present,
-            };
-            return refusal_line(alloc, &fault);
+        let after = options.after.as_ref();
+        self.server
+            .list(alloc, view, options.at, options.limit, after)
+    }
+
+    /// The reply line to a list.
+    fn list(&self, alloc: Global, view: &View, options: &ListOptions) -> Result<Vec<u8>, AllocError>
+        ensures { IfOk result (λ l. l.items
+            ≡ reply_text (outcome (list_served self.now.server (view_of view.now) (list_seen options.now)))) }
+    {
+        match self.listed(alloc, view, options) {
+            Ok(reply) => line(alloc, reply.code, reply.text.as_str()),
+            Err(fault) => fault_line(alloc, &fault),
         }
-        let events = self.journal.changes(alloc, view, from, present)?;
-        watch_lines(alloc, &events)
+    }
+
+    /// All changes of a view after a revision: there are fewer than the present revision.
+    fn watched(&self, alloc: Global, view: &View, from: u64) -> Result<Watched, Fault>
+        ensures { Serves watched_of (watch_by self.now.server (view_of view.now) from self.now.server.snapshot.revision) result }
+    {
+        let most = self.server.revision() as usize;
+        self.server.watch_from(alloc, view, from, most)
+    }
+
+    /// The lines of a watch: what is there, or the changes after a revision.
+    fn show(&self, alloc: Global, view: &View, options: WatchOptions) -> Result<Vec<u8>, AllocError>
+        ensures { IfOk result (λ l. l.items
+            ≡ reply_text (watch_reply view.now.kind (watch_served self.now.server (view_of view.now) (watch_seen options)))) }
+    {
+        let Some(from) = options.from else {
+            let members = self.server.added(alloc, view)?;
+            return initial_lines(alloc, view.kind, &members);
+        };
+        match self.watched(alloc, view, from) {
+            Ok(watched) => {
+                let bookmark = last_bookmark(options.bookmarks, from, &watched);
+                change_lines(alloc, view.kind, &watched.events, bookmark)
+            }
+            Err(fault) => fault_line(alloc, &fault),
+        }
+    }
+
+    /// The reply line to a compaction. An error, want of memory, changes nothing.
+    fn compact(&mut self, alloc: Global, revision: u64) -> Result<Vec<u8>, AllocError>
+        ensures text { IfOk result (λ l. l.items ≡ compact_text (compact_by self.old.server revision)) }
+        ensures server { OnOk result (self.new.server ≡ server_or self.old.server (compact_by self.old.server revision)) }
+        ensures moment { self.new.moment ≡ self.old.moment }
+        ensures err { OnErr result (self.new ≡ self.old) }
+    {
+        let text = success_line(alloc)?;
+        match self.server.compact(revision) {
+            Ok(()) => Ok(text),
+            Err(fault) => refusal_line(alloc, &fault),
+        }
     }
 
     /// The reply lines to what is asked, after which what it writes is written. An error, want of memory, changes
@@ -140,14 +182,15 @@ impl Session {
     ) -> Result<Vec<u8>, AllocError>
         ensures text { IfOk result (λ l. l.items
             ≡ reply_text (reply_for self.old (targets.read_request method target.now body.now))) }
-        ensures history { OnOk result (self.new.history
-            ≡ history_from self.old.history (reply_for self.old (targets.read_request method target.now body.now))) }
+        ensures server { OnOk result (self.new.server
+            ≡ server_from self.old.server (reply_for self.old (targets.read_request method target.now body.now))) }
         ensures moment { self.new.moment ≡ self.old.moment }
         ensures err { OnErr result (self.new ≡ self.old) }
     {
         match read_request(alloc, &self.routes, method, target, body) {
             Ok(Asked::Request(request)) => self.accept(alloc, request),
-            Ok(Asked::Watch { view, from }) => self.show(alloc, &view, from),
+            Ok(Asked::List { view, options }) => self.list(alloc, &view, &options),
+            Ok(Asked::Watch { view, options }) => self.show(alloc, &view, options),
             Err(Fault::NoMemory) => Err(AllocError),
             Err(fault) => refusal_line(alloc, &fault),
         }
@@ -155,9 +198,11 @@ impl Session {
 }
 
 impl LineService for Session {
-    ghost reply = { lines.reply };
+    ghost use Rattle.session.specs.Held.{reply_held, next_held};
 
-    ghost next = { lines.next };
+    ghost reply = { reply_held };
+
+    ghost next = { next_held };
 
     fn serve(&mut self, alloc: Global, line: &[u8]) -> Result<Vec<u8>, AllocError> {
         if line.is_empty() {
@@ -173,6 +218,7 @@ impl LineService for Session {
                 self.moment = moment;
                 Ok(Vec::new(alloc))
             }
+            Line::Compact(revision) => self.compact(alloc, revision),
             Line::Unreadable => refusal_line(alloc, &Fault::BadRequest(Part::Head)),
         }
     }

@@ -56,7 +56,7 @@ fn answers(alloc: Global, session: &mut Session, line: &[u8], wanted: &str) -> R
 #[test]
 fn creates_are_answered_with_what_the_server_sets(rt: HostRuntime) -> Result<(), Fail> {
     let alloc = rt.alloc();
-    let mut session = Session::new(alloc)?;
+    let mut session = Session::new(alloc, 1024)?;
     assert!(rt; answers(alloc, &mut session, CREATE, CREATED)?);
     assert!(rt; answers(alloc, &mut session, GET, FOUND)?);
     Ok(())
@@ -65,7 +65,7 @@ fn creates_are_answered_with_what_the_server_sets(rt: HostRuntime) -> Result<(),
 #[test]
 fn an_empty_store_lists_nothing(rt: HostRuntime) -> Result<(), Fail> {
     let alloc = rt.alloc();
-    let mut session = Session::new(alloc)?;
+    let mut session = Session::new(alloc, 1024)?;
     assert!(rt; answers(alloc, &mut session, LIST, EMPTY)?);
     assert!(rt; answers(alloc, &mut session, b"", "")?);
     assert!(rt; answers(alloc, &mut session, b"AT 2026-02-28T23:59:59Z", "")?);
@@ -76,7 +76,7 @@ fn an_empty_store_lists_nothing(rt: HostRuntime) -> Result<(), Fail> {
 #[test]
 fn the_second_update_of_one_version_conflicts(rt: HostRuntime) -> Result<(), Fail> {
     let alloc = rt.alloc();
-    let mut session = Session::new(alloc)?;
+    let mut session = Session::new(alloc, 1024)?;
     assert!(rt; answers(alloc, &mut session, CREATE, CREATED)?);
     assert!(rt; answers(alloc, &mut session, UPDATE, UPDATED)?);
     assert!(rt; answers(alloc, &mut session, UPDATE, CONFLICT)?);
@@ -86,7 +86,7 @@ fn the_second_update_of_one_version_conflicts(rt: HostRuntime) -> Result<(), Fai
 #[test]
 fn what_is_deleted_is_gone(rt: HostRuntime) -> Result<(), Fail> {
     let alloc = rt.alloc();
-    let mut session = Session::new(alloc)?;
+    let mut session = Session::new(alloc, 1024)?;
     assert!(rt; answers(alloc, &mut session, CREATE, CREATED)?);
     assert!(rt; answers(alloc, &mut session, DELETE, DELETED)?);
     assert!(rt; answers(alloc, &mut session, GET, ABSENT)?);
@@ -97,7 +97,7 @@ fn what_is_deleted_is_gone(rt: HostRuntime) -> Result<(), Fail> {
 #[test]
 fn a_body_of_more_than_a_mebibyte_is_too_large(rt: HostRuntime) -> Result<(), Fail> {
     let alloc = rt.alloc();
-    let mut session = Session::new(alloc)?;
+    let mut session = Session::new(alloc, 1024)?;
     let mut line = Vec::new(alloc);
     line.extend_from_slice(b"POST /api/v1/namespaces/default/configmaps ")?;
     line.resize(43 + 1_048_577, b' ')?;
@@ -109,7 +109,7 @@ fn a_body_of_more_than_a_mebibyte_is_too_large(rt: HostRuntime) -> Result<(), Fa
 /// Whether a namespace's list is asked for.
 fn lists_a_namespace(asked: &Asked) -> bool {
     match asked {
-        Asked::Request(Request::List(view)) => view.namespace.is_some(),
+        Asked::List { view, .. } => view.namespace.is_some(),
         _ => false,
     }
 }
@@ -138,6 +138,9 @@ fn requests_are_read(rt: HostRuntime) -> Result<(), Fail> {
     let object = b"/api/v1/namespaces/team/configmaps/b";
     let list = read_request(alloc, &routes, Method::Get, collection, b"");
     assert!(rt; list.is_ok_and(|asked| lists_a_namespace(&asked)));
+    let page = b"/api/v1/namespaces/team/configmaps?limit=2&continue=!!";
+    let nowhere = read_request(alloc, &routes, Method::Get, page, b"");
+    assert!(rt; matches!(nowhere.err(), Some(Fault::BadRequest(Part::Token))));
     let put = read_request(alloc, &routes, Method::Put, object, b"{}");
     assert!(rt; put.is_ok_and(|asked| updates(&asked, "b")));
     let delete = read_request(alloc, &routes, Method::Delete, collection, b"");
@@ -178,7 +181,7 @@ const NO_BODY: &str =
 #[test]
 fn a_create_without_a_name_is_not_valid(rt: HostRuntime) -> Result<(), Fail> {
     let alloc = rt.alloc();
-    let mut session = Session::new(alloc)?;
+    let mut session = Session::new(alloc, 1024)?;
     let line = b"POST /api/v1/namespaces/default/configmaps {\"metadata\":{\"generateName\":\"\"}}";
     assert!(rt; answers(alloc, &mut session, line, NO_NAME)?);
     assert!(rt; answers(alloc, &mut session, LIST, EMPTY)?);
@@ -188,7 +191,7 @@ fn a_create_without_a_name_is_not_valid(rt: HostRuntime) -> Result<(), Fail> {
 #[test]
 fn a_fraction_is_no_body(rt: HostRuntime) -> Result<(), Fail> {
     let alloc = rt.alloc();
-    let mut session = Session::new(alloc)?;
+    let mut session = Session::new(alloc, 1024)?;
     let line =
         b"POST /api/v1/namespaces/default/configmaps {\"metadata\":{\"name\":\"a\"},\"data\":{\"k\":1.5}}";
     assert!(rt; answers(alloc, &mut session, line, NO_BODY)?);
@@ -210,10 +213,70 @@ const TOO_NEW: &str =
 #[test]
 fn a_watch_shows_what_has_changed(rt: HostRuntime) -> Result<(), Fail> {
     let alloc = rt.alloc();
-    let mut session = Session::new(alloc)?;
+    let mut session = Session::new(alloc, 1024)?;
     assert!(rt; answers(alloc, &mut session, CREATE, CREATED)?);
     assert!(rt; answers(alloc, &mut session, UPDATE, UPDATED)?);
     assert!(rt; answers(alloc, &mut session, WATCH, WATCHED)?);
     assert!(rt; answers(alloc, &mut session, WATCH_TO_COME, TOO_NEW)?);
+    Ok(())
+}
+
+const DONE: &str =
+    "200 {\"apiVersion\":\"v1\",\"kind\":\"Status\",\"metadata\":{},\"status\":\"Success\"}\n";
+
+const COMPACT_TO_COME: &str =
+    "504 {\"apiVersion\":\"v1\",\"code\":504,\"kind\":\"Status\",\"message\":\"Timeout: Too large resource version: 4, current: 3\",\"metadata\":{},\"reason\":\"Timeout\",\"status\":\"Failure\"}\n";
+
+const EXPIRED: &str =
+    "410 {\"apiVersion\":\"v1\",\"code\":410,\"kind\":\"Status\",\"message\":\"too old resource version: 2 (3)\",\"metadata\":{},\"reason\":\"Expired\",\"status\":\"Failure\"}\n";
+
+#[test]
+fn what_is_compacted_is_expired(rt: HostRuntime) -> Result<(), Fail> {
+    let alloc = rt.alloc();
+    let mut session = Session::new(alloc, 1024)?;
+    assert!(rt; answers(alloc, &mut session, CREATE, CREATED)?);
+    assert!(rt; answers(alloc, &mut session, UPDATE, UPDATED)?);
+    assert!(rt; answers(alloc, &mut session, b"COMPACT 4", COMPACT_TO_COME)?);
+    assert!(rt; answers(alloc, &mut session, WATCH, WATCHED)?);
+    assert!(rt; answers(alloc, &mut session, b"COMPACT 3", DONE)?);
+    assert!(rt; answers(alloc, &mut session, WATCH, EXPIRED)?);
+    Ok(())
+}
+
+#[test]
+fn a_window_of_one_change_forgets_the_first(rt: HostRuntime) -> Result<(), Fail> {
+    let alloc = rt.alloc();
+    let mut session = Session::new(alloc, 1)?;
+    assert!(rt; answers(alloc, &mut session, CREATE, CREATED)?);
+    assert!(rt; answers(alloc, &mut session, UPDATE, UPDATED)?);
+    assert!(rt; answers(alloc, &mut session, WATCH, WATCHED)?);
+    let before = b"GET /api/v1/namespaces/default/configmaps?watch=true&resourceVersion=1";
+    let gone =
+        "410 {\"apiVersion\":\"v1\",\"code\":410,\"kind\":\"Status\",\"message\":\"too old resource version: 1 (2)\",\"metadata\":{},\"reason\":\"Expired\",\"status\":\"Failure\"}\n";
+    assert!(rt; answers(alloc, &mut session, before, gone)?);
+    Ok(())
+}
+
+const THERE: &str =
+    "200 watch 1\n{\"object\":{\"apiVersion\":\"v1\",\"data\":{\"k\":\"v\"},\"kind\":\"ConfigMap\",\"metadata\":{\"creationTimestamp\":\"2026-01-01T00:00:00Z\",\"name\":\"a\",\"namespace\":\"default\",\"resourceVersion\":\"2\",\"uid\":\"00000000-0000-8000-8000-000000000002\"}},\"type\":\"ADDED\"}\n";
+
+const BOOKMARK: &str =
+    "200 watch 1\n{\"object\":{\"apiVersion\":\"v1\",\"kind\":\"Pod\",\"metadata\":{\"resourceVersion\":\"2\"}},\"type\":\"BOOKMARK\"}\n";
+
+#[test]
+fn watches_begin_with_what_is_there_and_end_with_a_bookmark(rt: HostRuntime) -> Result<(), Fail> {
+    let alloc = rt.alloc();
+    let mut session = Session::new(alloc, 1024)?;
+    assert!(rt; answers(alloc, &mut session, CREATE, CREATED)?);
+    assert!(rt;
+        answers(
+            alloc,
+            &mut session,
+            b"GET /api/v1/configmaps?watch=true",
+            THERE
+        )?
+    );
+    let pods = b"GET /api/v1/pods?watch=true&resourceVersion=1&allowWatchBookmarks=true";
+    assert!(rt; answers(alloc, &mut session, pods, BOOKMARK)?);
     Ok(())
 }

@@ -1,4 +1,4 @@
-use Rattle.definitions.proofs.SentChanges.{watches_stream}
+use Rattle.definitions.proofs.ShownWatches.{watches_stream}
 use Rattle.definitions.proofs.sent_laws.watches_are_streams.Goals as goal
 
 pub returns : goal.returns

@@ -1,0 +1,5 @@
+pub mod Windows
+pub mod Served
+pub mod Watches
+pub mod ListedMembers
+pub mod Paged

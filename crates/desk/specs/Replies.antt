@@ -1,0 +1,19 @@
+-- Replies as the definitions say them.
+use Rattle.std.specs.Prelude.{◌≡◌, ◌⊎◌, Result, Ok, Err, string_bytes}
+use Rattle.serde_json.specs.Written.{compact_text}
+use Rattle.definitions.specs.Verbs.{Answer, Outcome, answered, refused}
+use Rattle.meta.specs.Faults.{refusal_of}
+use Rattle.meta.specs.declared.faults.Fault.{Fault}
+use Rattle.meta.specs.declared.faults.Fault.TheVariants as fault
+use Rattle.reply.specs.declared.reply.Reply.{Reply}
+
+-- the reply has the code and the body of the answer
+pub record Says (a : Answer) (r : Reply) : Type 0 where
+  pub code : a.code ≡ r.code
+  pub text : string_bytes r.text ≡ compact_text a.body
+
+-- the result is the outcome, or want of memory
+abbrev pub Replies : Outcome → Result Reply Fault → Type 0
+Replies (answered a) (Ok r) = Says a r
+Replies (refused f) (Ok r) = ⊥
+Replies o (Err e) = (e ≡ fault.NoMemory) ⊎ (o ≡ refused (refusal_of e))

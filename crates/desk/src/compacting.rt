@@ -1,0 +1,29 @@
+//! Compactions.
+use crate::servers::Server;
+use meta::Fault;
+
+impl Server {
+    ghost use Rattle.std.specs.Prelude.{◌≡◌, Ok, Err, OnOk, OnErr, IfErr};
+    ghost use Rattle.definitions.specs.Servers.{compact_by};
+    ghost use Rattle.meta.specs.Faults.{refusal_of};
+
+    /// Serves nothing below a revision any more, of no kind. The error is a revision above the present one, and changes
+    /// nothing. It takes no memory.
+    pub fn compact(&mut self, revision: u64) -> Result<(), Fault>
+        ensures ok { OnOk result (compact_by self.old revision ≡ Ok self.new) }
+        ensures refused { IfErr result (λ e. compact_by self.old revision ≡ Err (refusal_of e)) }
+        ensures err { OnErr result (self.new ≡ self.old) }
+    {
+        let present = self.revision();
+        if present < revision {
+            return Err(Fault::TooNew {
+                asked: revision,
+                present,
+            });
+        }
+        self.config_maps.compact(present, revision)?;
+        self.pods.compact(present, revision)?;
+        self.replica_sets.compact(present, revision)?;
+        self.deployments.compact(present, revision)
+    }
+}

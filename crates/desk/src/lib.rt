@@ -1,0 +1,15 @@
+//! The server's pure part: what is there, with the last changes of each kind beside it, and what is answered by these. It
+//! knows no thread, no clock and no connection; whoever holds it decides who may use it when.
+#![tactic(auto)]
+
+mod compacting;
+mod listing;
+pub mod servers;
+mod serving;
+pub mod watching;
+
+pub use servers::Server;
+pub use watching::Watched;
+
+#[cfg(test)]
+mod tests;

@@ -1,0 +1,105 @@
+//! A server.
+use definitions::kinds::Kind;
+use meta::Member;
+use selector::View;
+use std::alloc::{AllocError, Global};
+use std::marker::Model;
+use store::Store;
+use watch_cache::{Cache, Change};
+
+/// What is there, with one revision over all kinds, and the last changes of each kind, from which watches and lists of
+/// earlier revisions are served. A change that is kept no longer is answered as expired.
+#[derive(Drop)]
+pub struct Server {
+    pub(crate) store: Store,
+    pub(crate) config_maps: Cache,
+    pub(crate) pods: Cache,
+    pub(crate) replica_sets: Cache,
+    pub(crate) deployments: Cache,
+}
+
+impl Model for Server {
+    ghost use Rattle.definitions.specs.Servers as servers;
+    ghost use Rattle.definitions.specs.ServerCodes.{coded_server};
+    ghost use Rattle.desk.specs.Standing.{IsStanding};
+
+    ghost Value = { servers.Server };
+
+    ghost coded = { coded_server };
+
+    ghost view = { λ s. record { snapshot = s.store; config_maps = s.config_maps; pods = s.pods; replica_sets = s.replica_sets; deployments = s.deployments } };
+
+    ghost invariant = { λ s. IsStanding (record { snapshot = s.store; config_maps = s.config_maps; pods = s.pods; replica_sets = s.replica_sets; deployments = s.deployments }) };
+}
+
+impl Server {
+    ghost use Rattle.std.specs.Prelude.{◌≡◌, ◌≤◌, ◌<◌, IfOk, map};
+    ghost use Rattle.std.specs.List.Sorted.{IsStrictlySortedBy};
+    ghost use Rattle.std.specs.Map.{keys_of};
+    ghost use Rattle.definitions.specs.History.{viewed};
+    ghost use Rattle.definitions.specs.Names.{name_cmp};
+    ghost use Rattle.definitions.specs.Revisions.{greatest_revision};
+    ghost use Rattle.definitions.specs.Servers.{opened_server, window_of, with_window};
+    ghost use Rattle.definitions.specs.Windows.{last_revision, recorded};
+    ghost use Rattle.meta.specs.Members.{member_of};
+    ghost use Rattle.selector.specs.Views.{view_of};
+    ghost use Rattle.watch_cache.specs.Changes.{kept_seen};
+
+    /// A server at revision 1, where nothing is there, that keeps the last `window` changes of each kind. The error is
+    /// want of memory.
+    pub fn new(alloc: Global, window: usize) -> Result<Server, AllocError>
+        ensures { IfOk result (λ s. s ≡ opened_server window) }
+    {
+        Ok(Server {
+            store: Store::new(alloc),
+            config_maps: Cache::new(alloc, Kind::ConfigMap, window)?,
+            pods: Cache::new(alloc, Kind::Pod, window)?,
+            replica_sets: Cache::new(alloc, Kind::ReplicaSet, window)?,
+            deployments: Cache::new(alloc, Kind::Deployment, window)?,
+        })
+    }
+
+    /// The present revision. It takes no memory.
+    pub fn revision(&self) -> u64
+        ensures value { result ≡ self.now.snapshot.revision }
+        ensures bound { result ≤ greatest_revision }
+    {
+        self.store.revision()
+    }
+
+    /// What is there of a view, in the order of keys: what a watch begins with that has seen nothing yet. The error is
+    /// want of memory.
+    pub fn added<'a>(&'a self, alloc: Global, view: &View) -> Result<Vec<Member<'a>>, AllocError>
+        ensures members { IfOk result (λ found. map member_of found.items
+            ≡ viewed (view_of view.entry.now) self.entry.now.snapshot.members) }
+        ensures in_order { IsStrictlySortedBy name_cmp (keys_of self.entry.now.snapshot.members) }
+    {
+        self.store.list(alloc, view)
+    }
+
+    /// The changes of a kind.
+    pub(crate) fn cache(&self, kind: Kind) -> &Cache
+        ensures { result.now ≡ window_of kind self.now }
+    {
+        match kind {
+            Kind::ConfigMap => &self.config_maps,
+            Kind::Pod => &self.pods,
+            Kind::ReplicaSet => &self.replica_sets,
+            Kind::Deployment => &self.deployments,
+        }
+    }
+
+    /// Takes the change of the present revision into the cache of its kind. It takes no memory.
+    pub(crate) fn record(&mut self, change: Change)
+        requires next { last_revision 0 (window_of change.key.kind self.old).kept < change.revision }
+        requires present { change.revision ≤ self.old.snapshot.revision }
+        ensures { self.new ≡ with_window change.key.kind (recorded (window_of change.key.kind self.old) (kept_seen change)) self.old }
+    {
+        match change.key.kind {
+            Kind::ConfigMap => self.config_maps.record(change),
+            Kind::Pod => self.pods.record(change),
+            Kind::ReplicaSet => self.replica_sets.record(change),
+            Kind::Deployment => self.deployments.record(change),
+        }
+    }
+}

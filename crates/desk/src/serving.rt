@@ -1,0 +1,81 @@
+//! Requests, answered one after another.
+ghost use Rattle.std.specs.Prelude.{◌≡◌, IfOk, option_map};
+
+use crate::servers::Server;
+use meta::{Fault, Object, Write};
+use reply::Reply;
+use stamps::moments::Moment;
+use std::alloc::{AllocError, Global};
+use verbs::Request;
+use watch_cache::Change;
+
+impl Server {
+    ghost use Rattle.std.specs.Prelude.{◌≡◌, OnOk, OnErr, IfErr, IfSome, option_map, false};
+    ghost use Rattle.answers.specs.Serves.{Serves};
+    ghost use Rattle.definitions.specs.Servers.{after_write, after_writing};
+    ghost use Rattle.definitions.specs.Verbs as outcomes;
+    ghost use Rattle.definitions.specs.Verbs.{accept_at, overflows};
+    ghost use Rattle.meta.specs.Writes.{write_of};
+    ghost use Rattle.meta.specs.declared.faults.Fault.TheVariants as fault;
+    ghost use Rattle.verbs.specs.Requests.{request_of};
+    ghost use Rattle.desk.specs.Replies.{Replies};
+
+    /// The reply to a request at a moment, after which what it writes is written. An error, a refusal or want of memory,
+    /// changes nothing: all memory is taken before the store changes.
+    pub fn serve(&mut self, alloc: Global, request: Request, moment: Moment) -> Result<Reply, Fault>
+        ensures reply { Replies (accept_at (request_of request) self.old.snapshot.members self.old.snapshot.revision moment) result }
+        ensures ok { OnOk result (self.new
+            ≡ after_writing self.old (outcomes.write_of (accept_at (request_of request) self.old.snapshot.members self.old.snapshot.revision moment))) }
+        ensures err { OnErr result (self.new ≡ self.old) }
+    {
+        let (reply, write) = verbs::accept(alloc, &self.store, request, moment)?;
+        if let Some(write) = write {
+            self.take(write)?;
+        }
+        Ok(reply)
+    }
+
+    /// The reply to a request at a moment with what it writes, or why it is refused. Nothing is written yet: who has to make
+    /// something of the reply first takes the write with `take`.
+    pub fn answer(
+        &self,
+        alloc: Global,
+        request: Request,
+        moment: Moment,
+    ) -> Result<(Reply, Option<Write>), Fault>
+        ensures { Serves (accept_at (request_of request) self.now.snapshot.members self.now.snapshot.revision moment) result }
+    {
+        verbs::accept(alloc, &self.store, request, moment)
+    }
+
+    /// Takes a write for which there is room, as there is for what a reply to a request writes. An error, want of memory,
+    /// changes nothing.
+    pub fn take(&mut self, write: Write) -> Result<(), Fault>
+        requires { overflows self.old.snapshot.members self.old.snapshot.revision (write_of write) ≡ false }
+        ensures ok { OnOk result (self.new ≡ after_write self.old (write_of write)) }
+        ensures memory { IfErr result (λ e. e ≡ fault.NoMemory) }
+        ensures err { OnErr result (self.new ≡ self.old) }
+    {
+        let key = write.key.try_copy()?;
+        let new = copy_of(write.put.as_ref())?;
+        let old = self.store.apply(write)?;
+        let revision = self.revision();
+        self.record(Change {
+            revision,
+            key,
+            old,
+            new,
+        });
+        Ok(())
+    }
+}
+
+/// A copy of what is put, if anything is.
+fn copy_of(put: Option<&Object>) -> Result<Option<Object>, AllocError>
+    ensures { IfOk result (λ copy. option_map (λ o. o.value) copy ≡ option_map (λ o. o.now.value) put.entry) }
+{
+    match put {
+        None => Ok(None),
+        Some(object) => Ok(Some(object.try_copy()?)),
+    }
+}

@@ -1,0 +1,65 @@
+//! What watches are given.
+ghost use Rattle.std.specs.Prelude.{◌≡◌, map};
+ghost use Rattle.definitions.specs.Versions.{last_change};
+ghost use Rattle.revisions.specs.Events.{change_seen};
+
+use crate::servers::Server;
+use meta::Fault;
+use revisions::Event;
+use selector::View;
+use std::alloc::Global;
+
+/// A part of what a watch asks for.
+#[derive(Drop)]
+pub struct Watched {
+    /// The changes, in order.
+    pub events: Vec<Event>,
+    /// The revision up to which these are all: from here the watch goes on.
+    pub stands: u64,
+}
+
+impl Server {
+    ghost use Rattle.std.specs.Prelude.{◌<◌};
+    ghost use Rattle.definitions.specs.Servers.{watch_by};
+    ghost use Rattle.selector.specs.Views.{view_of};
+    ghost use Rattle.watch_cache.specs.Served.{Serves};
+    ghost use Rattle.desk.specs.Seen.{watched_of};
+
+    /// The first changes of a view after a revision, at most `max`. The errors are a revision below what is kept, one
+    /// above the present, and want of memory.
+    pub fn watch_from(
+        &self,
+        alloc: Global,
+        view: &View,
+        after: u64,
+        max: usize,
+    ) -> Result<Watched, Fault>
+        requires { max < usize.MAX }
+        ensures { Serves watched_of (watch_by self.now (view_of view.now) after max) result }
+    {
+        let present = self.revision();
+        let cache = self.cache(view.kind);
+        // one more tells whether there is more
+        let mut events = cache.since(alloc, present, view, after, max + 1)?;
+        if events.len() <= max {
+            return Ok(Watched {
+                events,
+                stands: present,
+            });
+        }
+        events.truncate(max);
+        let stands = last_revision(&events, after);
+        Ok(Watched { events, stands })
+    }
+}
+
+/// The revision of the last event; without any, that after which they come. A watch that stands above it has seen more
+/// than it was given.
+pub fn last_revision(events: &[Event], after: u64) -> u64
+    ensures { result ≡ last_change after (map change_seen events.now) }
+{
+    match events.last() {
+        None => after,
+        Some(event) => event.revision,
+    }
+}

@@ -1,0 +1,100 @@
+-- A session whose server holds what has happened answers as what has happened does, and goes on so.
+use Rattle.std.proofs.Common.{◌≡◌, ℕ, List, [], Bool, true, false, Result, Ok, Err, length, ◌==◌, if◌then◌else◌, refl, sym, ap, ◌∙◌, subst}
+use Rattle.definitions.specs.Collections.{ListOptions}
+use Rattle.definitions.specs.declared.kinds.Kind.{Kind}
+use Rattle.definitions.specs.History.{History, View}
+use Rattle.definitions.specs.Lines as lines
+use Rattle.definitions.specs.Lines.{Line, ask, at, compact, unreadable, line_of, outcome, reply_text, watch_reply, compact_reply, history_from}
+use Rattle.definitions.specs.Lists.{list_answer}
+use Rattle.definitions.specs.Refusals.{Refusal}
+use Rattle.definitions.specs.ServerLaws.{HoldOrRefuse}
+use Rattle.definitions.specs.Servers.{Server, Holds, after_writing, list_by, compact_by}
+use Rattle.definitions.specs.Streams as streams
+use Rattle.definitions.specs.Targets.{Asked, request, list, watch, read_request}
+use Rattle.definitions.specs.Verbs.{Request, refused, write_of, accept_at, accept, history_after}
+use Rattle.definitions.specs.Versions.{Listed, list_for, compacts}
+use Rattle.definitions.specs.WatchReplies.{watch_lines, watch_served}
+use Rattle.definitions.proofs.HeldAnswers.{pages_held, lines_held}
+use Rattle.definitions.proofs.HeldHistories.{opened_holds, accepted_holds, compaction_holds}
+use Rattle.session.specs.Held.{Held, accepted, reply_for, reply_to, server_from, server_or, held_after, compact_text}
+use Rattle.session.specs.Laws.{Follows, SessionsFollow}
+
+-- ---- what is asked
+
+-- a request is answered the same
+same_outcome : (held : Held) (s : lines.Session) → Follows held s → (q : Request) → accepted held q ≡ accept q s.history s.moment
+same_outcome held s is q =
+    ap (λ m. accept_at q held.server.snapshot.members held.server.snapshot.revision m) is.1 ∙ (accepted_holds s.window held.server s.history q s.moment is.0).0
+
+-- and all else that is asked
+same_reply : (held : Held) (s : lines.Session) → Follows held s → (a : Result Asked Refusal) → reply_for held a ≡ lines.reply_for s a
+same_reply held s is (Err f) = refl
+same_reply held s is (Ok (request q)) = ap outcome (same_outcome held s is q)
+same_reply held s is (Ok (list v o)) = ap outcome (pages_held s.window held.server s.history v o is.0)
+same_reply held s is (Ok (watch v o)) = ap (watch_reply v.kind) (lines_held s.window held.server s.history v o is.0)
+
+-- lists and watches write nothing
+list_still : (v : View) (o : ListOptions) (size : ℕ) (s : Server) (h : History) (served listed : Result Listed Refusal) → Holds size s h
+    → Holds size (server_from s (outcome (list_answer v o served))) (history_from h (outcome (list_answer v o listed)))
+list_still v o size s h (Err f) (Err g) is = is
+list_still v o size s h (Err f) (Ok l) is = is
+list_still v o size s h (Ok l) (Err g) is = is
+list_still v o size s h (Ok l) (Ok m) is = is
+
+watch_still : (k : Kind) (size : ℕ) (s : Server) (h : History) (served shown : Result (List streams.Line) Refusal) → Holds size s h
+    → Holds size (server_from s (watch_reply k served)) (history_from h (watch_reply k shown))
+watch_still k size s h (Err f) (Err g) is = is
+watch_still k size s h (Err f) (Ok ls) is = is
+watch_still k size s h (Ok ls) (Err g) is = is
+watch_still k size s h (Ok ls) (Ok ms) is = is
+
+-- what is held after what is asked
+holds_after : (held : Held) (s : lines.Session) → Follows held s → (a : Result Asked Refusal)
+    → Holds s.window (server_from held.server (reply_for held a)) (history_from s.history (lines.reply_for s a))
+holds_after held s is (Err f) = is.0
+holds_after held s is (Ok (request q)) =
+    subst (λ o. Holds s.window (after_writing held.server (write_of o)) (history_after s.history (accept q s.history s.moment))) (sym (same_outcome held s is q))
+    (accepted_holds s.window held.server s.history q s.moment is.0).1
+holds_after held s is (Ok (list v o)) =
+    list_still v o s.window held.server s.history (list_by held.server v o.at) (list_for s.window s.history v o.at) is.0
+holds_after held s is (Ok (watch v o)) =
+    watch_still v.kind s.window held.server s.history (watch_served held.server v o) (watch_lines s.window s.history v o) is.0
+
+-- ---- compactions
+
+same_compaction : (size : ℕ) (a : Result Server Refusal) (b : Result History Refusal) → HoldOrRefuse size a b → compact_text a ≡ reply_text (compact_reply b)
+same_compaction size (Err f) (Err g) e = ap (λ f. reply_text (outcome (refused f))) e
+same_compaction size (Err f) (Ok h) e = absurd e
+same_compaction size (Ok s) (Err g) e = absurd e
+same_compaction size (Ok s) (Ok h) e = refl
+
+holds_compacted : (size : ℕ) (s : Server) (h : History) (a : Result Server Refusal) (b : Result History Refusal) → HoldOrRefuse size a b → Holds size s h
+    → Holds size (server_or s a) (history_from h (compact_reply b))
+holds_compacted size s h (Err f) (Err g) e is = is
+holds_compacted size s h (Err f) (Ok more) e is = absurd e
+holds_compacted size s h (Ok t) (Err g) e is = absurd e
+holds_compacted size s h (Ok t) (Ok more) e is = e
+
+-- ---- lines
+
+same_line : (held : Held) (s : lines.Session) → Follows held s → (l : Line) → reply_to held l ≡ lines.reply_to s l
+same_line held s is (ask method target body) = ap reply_text (same_reply held s is (read_request method target body))
+same_line held s is (at moment) = refl
+same_line held s is (compact r) = same_compaction s.window (compact_by held.server r) (compacts s.history r) (compaction_holds s.window held.server s.history r is.0)
+same_line held s is unreadable = refl
+
+follows_line : (held : Held) (s : lines.Session) → Follows held s → (l : Line) → Follows (held_after held l) (lines.session_after s l)
+follows_line held s is (ask method target body) = (holds_after held s is (read_request method target body), is.1)
+follows_line held s is (at moment) = (is.0, refl)
+follows_line held s is (compact r) =
+    (holds_compacted s.window held.server s.history (compact_by held.server r) (compacts s.history r) (compaction_holds s.window held.server s.history r is.0) is.0, is.1)
+follows_line held s is unreadable = is
+
+same_if : (empty : Bool) (held : Held) (s : lines.Session) → Follows held s → (l : Line)
+    → ((if empty then [] else reply_to held l) ≡ (if empty then [] else lines.reply_to s l))
+    × Follows (if empty then held else held_after held l) (if empty then s else lines.session_after s l)
+same_if true held s is l = (refl, is)
+same_if false held s is l = (same_line held s is l, follows_line held s is l)
+
+pub sessions_follow : SessionsFollow
+sessions_follow = (λ window. (opened_holds window, refl), λ held s line is. same_if (length line == 0) held s is (line_of line))

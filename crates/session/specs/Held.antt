@@ -1,0 +1,77 @@
+-- A session as it is held, and how it goes on: a server stands in the place of all that has happened.
+use Rattle.std.specs.Prelude.{ℕ, List, [], ◌==◌, length, Result, Ok, Err, None, refl, if◌then◌else◌}
+use Rattle.std.specs.Coded.{Coded, code_by, coded×}
+use Rattle.definitions.specs.Codes.{coded_text}
+use Rattle.definitions.specs.declared.refusals.Part.TheVariants as part
+use Rattle.definitions.specs.Lines as lines
+use Rattle.definitions.specs.Lines.{Line, ask, at, compact, unreadable, line_of, start, Reply, outcome, shown, compacted, watch_reply, line_text, reply_text}
+use Rattle.definitions.specs.Lists.{list_served}
+use Rattle.definitions.specs.Refusals.{Refusal, bad_request, success_body}
+use Rattle.definitions.specs.ServerCodes.{coded_server}
+use Rattle.definitions.specs.Servers.{Server, opened_server, after_writing, compact_by}
+use Rattle.definitions.specs.Targets.{Asked, request, list, watch, read_request}
+use Rattle.definitions.specs.Verbs.{Request, Outcome, refused, write_of, accept_at}
+use Rattle.definitions.specs.WatchReplies.{watch_served}
+
+-- a server, and the moment that it is
+pub record Held : Type 0 where
+  pub server : Server
+  pub moment : List ℕ
+
+-- a code by which a model may hold it
+abbrev pub coded_held : Coded Held
+coded_held = code_by (Server × List ℕ) (coded× coded_server coded_text) (λ s. (s.server, s.moment)) (λ p. record { server = p.0; moment = p.1 }) (λ _. refl)
+
+-- a session begins with a server where nothing is there, at the moment at which sessions begin
+abbrev pub begun : ℕ → Held
+begun window = record { server = opened_server window; moment = (start window).moment }
+
+-- ---- what is answered
+
+-- what a request is answered
+abbrev pub accepted : Held → Request → Outcome
+accepted s q = accept_at q s.server.snapshot.members s.server.snapshot.revision s.moment
+
+-- the reply to what is asked
+abbrev pub reply_for : Held → Result Asked Refusal → Reply
+reply_for s (Err f) = outcome (refused f)
+reply_for s (Ok (request q)) = outcome (accepted s q)
+reply_for s (Ok (list v o)) = outcome (list_served s.server v o)
+reply_for s (Ok (watch v o)) = watch_reply v.kind (watch_served s.server v o)
+
+-- of a compaction a success
+abbrev pub compact_text : Result Server Refusal → List ℕ
+compact_text (Err f) = reply_text (outcome (refused f))
+compact_text (Ok s) = line_text 200 (success_body None)
+
+abbrev pub reply_to : Held → Line → List ℕ
+reply_to s (ask method target body) = reply_text (reply_for s (read_request method target body))
+reply_to s (at moment) = []
+reply_to s (compact r) = compact_text (compact_by s.server r)
+reply_to s unreadable = reply_text (outcome (refused (bad_request part.Head)))
+
+-- an empty line is skipped
+abbrev pub reply_held : Held → List ℕ → List ℕ
+reply_held s t = if length t == 0 then [] else reply_to s (line_of t)
+
+-- ---- what is held then
+
+-- the server takes in what a reply writes
+abbrev pub server_from : Server → Reply → Server
+server_from s (outcome o) = after_writing s (write_of o)
+server_from s (shown k ls) = s
+server_from s (compacted h) = s
+
+-- a compaction that is refused changes nothing
+abbrev pub server_or : Server → Result Server Refusal → Server
+server_or s (Err f) = s
+server_or s (Ok t) = t
+
+abbrev pub held_after : Held → Line → Held
+held_after s (ask method target body) = record s { server = server_from s.server (reply_for s (read_request method target body)) }
+held_after s (at moment) = record s { moment = moment }
+held_after s (compact r) = record s { server = server_or s.server (compact_by s.server r) }
+held_after s unreadable = s
+
+abbrev pub next_held : Held → List ℕ → Held
+next_held s t = if length t == 0 then s else held_after s (line_of t)
