@@ -70,11 +70,68 @@ fn six_changes(alloc: Global) -> Result<Server, Fail> {
     Ok(server)
 }
 
-/// The text of an item of a list, by its name, its revision, and the revision of its create.
-fn item(alloc: Global, name: &str, revision: u64, created: u64) -> Result<String, Fail> {
-    Ok(format!(in alloc;
+/// An item of a list: its name, its revision, which is also its data, and the revision of its create.
+type Item = (&'static str, u64, u64);
+
+/// Adds the text of an item of a list.
+fn push_item(alloc: Global, item: Item, text: &mut String) -> Result<(), Fail> {
+    let (name, revision, created) = item;
+    let item = format!(in alloc;
         r#"{{"data":{{"k":"{revision}"}},"metadata":{{"creationTimestamp":"2026-01-01T00:00:00Z","name":"{name}","namespace":"default","resourceVersion":"{revision}","uid":"00000000-0000-8000-8000-00000000000{created}"}}}}"#
-    )?)
+    )?;
+    text.push_str(item.as_str())?;
+    Ok(())
+}
+
+/// The text of a page of ConfigMaps, with what it says of itself.
+fn page(alloc: Global, items: &[Item], said: &str) -> Result<String, Fail> {
+    let mut text = String::from_str(alloc, r#"{"apiVersion":"v1","items":["#)?;
+    let mut later = false;
+    for item in items {
+        if later {
+            text.push(',')?;
+        }
+        push_item(alloc, *item, &mut text)?;
+        later = true;
+    }
+    text.push_str(r#"],"kind":"ConfigMapList","metadata":{"#)?;
+    text.push_str(said)?;
+    text.push_str("}}")?;
+    Ok(text)
+}
+
+/// The view of all ConfigMaps.
+fn config_maps(alloc: Global) -> View {
+    View::whole(alloc, Kind::ConfigMap, None)
+}
+
+/// Whether the list of a view, at most two objects of it after a token, has these items and says this of itself.
+fn lists(
+    alloc: Global,
+    server: &Server,
+    view: &View,
+    at: At,
+    after: Option<&Token>,
+    items: &[Item],
+    said: &str,
+) -> Result<bool, Fail> {
+    let wanted = page(alloc, items, said)?;
+    let reply = server.list(alloc, view, at, 2, after)?;
+    Ok(reply.code == 200 && reply.text.as_str() == wanted.as_str())
+}
+
+/// Whether the whole list of ConfigMaps has these items and this revision.
+fn lists_all(
+    alloc: Global,
+    server: &Server,
+    at: At,
+    items: &[Item],
+    said: &str,
+) -> Result<bool, Fail> {
+    let view = config_maps(alloc);
+    let wanted = page(alloc, items, said)?;
+    let reply = server.list(alloc, &view, at, 0, None)?;
+    Ok(reply.code == 200 && reply.text.as_str() == wanted.as_str())
 }
 
 /// The events, each as its type, its revision and its key's name, and where the watch stands.
@@ -92,29 +149,35 @@ fn told(alloc: Global, watched: &Watched) -> Result<String, Fail> {
     Ok(format!(in alloc; "{lines}{}", watched.stands)?)
 }
 
+/// Whether a watch is given this.
+fn shows(alloc: Global, watched: &Watched, wanted: &str) -> Result<bool, Fail> {
+    let text = told(alloc, watched)?;
+    Ok(text.as_str() == wanted)
+}
+
 #[test]
 fn lists_are_at_their_revisions(rt: HostRuntime) -> Result<(), Fail> {
     let alloc = rt.alloc();
     let server = six_changes(alloc)?;
-    let view = View::whole(alloc, Kind::ConfigMap, None);
-    let at_five = server.list(alloc, &view, At::Exact(5), 0, None)?;
-    let a = item(alloc, "a", 4, 2)?;
-    let b = item(alloc, "b", 3, 3)?;
-    let c = item(alloc, "c", 5, 5)?;
-    let wanted = format!(in alloc;
-        r#"{{"apiVersion":"v1","items":[{a},{b},{c}],"kind":"ConfigMapList","metadata":{{"resourceVersion":"5"}}}}"#
-    )?;
-    assert_eq!(rt; at_five.code, 200);
-    assert_eq!(rt; at_five.text.as_str(), wanted.as_str());
-    let at_three = server.list(alloc, &view, At::Exact(3), 0, None)?;
-    let a = item(alloc, "a", 2, 2)?;
-    let wanted = format!(in alloc;
-        r#"{{"apiVersion":"v1","items":[{a},{b}],"kind":"ConfigMapList","metadata":{{"resourceVersion":"3"}}}}"#
-    )?;
-    assert_eq!(rt; at_three.text.as_str(), wanted.as_str());
-    let present = server.list(alloc, &view, At::NotOlder(7), 0, None)?;
-    let newest = server.list(alloc, &view, At::Present, 0, None)?;
-    assert_eq!(rt; present.text.as_str(), newest.text.as_str());
+    let five = [("a", 4, 2), ("b", 3, 3), ("c", 5, 5)];
+    let said = r#""resourceVersion":"5""#;
+    assert!(rt; lists_all(alloc, &server, At::Exact(5), &five, said)?);
+    let three = [("a", 2, 2), ("b", 3, 3)];
+    let said = r#""resourceVersion":"3""#;
+    assert!(rt; lists_all(alloc, &server, At::Exact(3), &three, said)?);
+    let seven = [("a", 7, 2), ("c", 5, 5)];
+    let said = r#""resourceVersion":"7""#;
+    assert!(rt; lists_all(alloc, &server, At::NotOlder(7), &seven, said)?);
+    assert!(rt; lists_all(alloc, &server, At::NotOlder(2), &seven, said)?);
+    assert!(rt; lists_all(alloc, &server, At::Present, &seven, said)?);
+    Ok(())
+}
+
+#[test]
+fn other_revisions_are_not_listed(rt: HostRuntime) -> Result<(), Fail> {
+    let alloc = rt.alloc();
+    let server = six_changes(alloc)?;
+    let view = config_maps(alloc);
     assert_eq!(rt; server.added(alloc, &view)?.len(), 2);
     let gone = server.list(alloc, &view, At::Exact(2), 0, None);
     assert!(rt; matches!(gone, Err(Fault::Expired { asked: 2, floor: 3 })));
@@ -135,61 +198,70 @@ fn lists_are_at_their_revisions(rt: HostRuntime) -> Result<(), Fail> {
 fn watches_stand_where_all_was_given(rt: HostRuntime) -> Result<(), Fail> {
     let alloc = rt.alloc();
     let mut server = six_changes(alloc)?;
-    let view = View::whole(alloc, Kind::ConfigMap, None);
-    let all = server.watch_from(alloc, &view, 3, 9)?;
-    assert_eq!(rt;
-        told(alloc, &all)?.as_str(),
-        "MODIFIED 4 a, ADDED 5 c, DELETED 6 b, MODIFIED 7 a, 7"
-    );
+    let view = config_maps(alloc);
+    let watched = server.watch_from(alloc, &view, 3, 9)?;
+    let all = "MODIFIED 4 a, ADDED 5 c, DELETED 6 b, MODIFIED 7 a, 7";
+    assert!(rt; shows(alloc, &watched, all)?);
     create(alloc, &mut server, Kind::Pod, "p", 8)?;
     assert_eq!(rt; server.revision(), 8);
-    let first = server.watch_from(alloc, &view, 3, 2)?;
-    assert_eq!(rt; told(alloc, &first)?.as_str(), "MODIFIED 4 a, ADDED 5 c, 5");
-    let rest = server.watch_from(alloc, &view, first.stands, 2)?;
-    assert_eq!(rt;
-        told(alloc, &rest)?.as_str(),
-        "DELETED 6 b, MODIFIED 7 a, 8"
-    );
+    let watched = server.watch_from(alloc, &view, 3, 2)?;
+    assert!(rt; shows(alloc, &watched, "MODIFIED 4 a, ADDED 5 c, 5")?);
+    let watched = server.watch_from(alloc, &view, 5, 2)?;
+    assert!(rt; shows(alloc, &watched, "DELETED 6 b, MODIFIED 7 a, 8")?);
     Ok(())
+}
+
+/// A server that has made five ConfigMaps, a to e, at revisions 2 to 6.
+fn five_creates(alloc: Global) -> Result<Server, Fail> {
+    let mut server = Server::new(alloc, 4)?;
+    for (name, number) in [("a", 2), ("b", 3), ("c", 4), ("d", 5), ("e", 6)] {
+        create(alloc, &mut server, Kind::ConfigMap, name, number)?;
+    }
+    Ok(server)
 }
 
 #[test]
 fn pages_go_on_at_their_revision(rt: HostRuntime) -> Result<(), Fail> {
     let alloc = rt.alloc();
-    let mut server = Server::new(alloc, 4)?;
-    for (name, number) in [("a", 2), ("b", 3), ("c", 4), ("d", 5), ("e", 6)] {
-        create(alloc, &mut server, Kind::ConfigMap, name, number)?;
-    }
-    let view = View::whole(alloc, Kind::ConfigMap, None);
-    let a = item(alloc, "a", 2, 2)?;
-    let b = item(alloc, "b", 3, 3)?;
-    let first = server.list(alloc, &view, At::Present, 2, None)?;
-    let wanted = format!(in alloc;
-        r#"{{"apiVersion":"v1","items":[{a},{b}],"kind":"ConfigMapList","metadata":{{"continue":"eyJuYW1lIjoiYiIsIm5hbWVzcGFjZSI6ImRlZmF1bHQiLCJydiI6IjYifQ","remainingItemCount":3,"resourceVersion":"6"}}}}"#
-    )?;
-    assert_eq!(rt; first.text.as_str(), wanted.as_str());
-    update(alloc, &mut server, "d", 7)?;
-    let token = Token::read(
-        alloc,
-        "eyJuYW1lIjoiZCIsIm5hbWVzcGFjZSI6ImRlZmF1bHQiLCJydiI6IjYifQ",
-    )?;
-    let e = item(alloc, "e", 6, 6)?;
-    let last = server.list(alloc, &view, At::Exact(6), 2, Some(&token))?;
-    let wanted = format!(in alloc;
-        r#"{{"apiVersion":"v1","items":[{e}],"kind":"ConfigMapList","metadata":{{"resourceVersion":"6"}}}}"#
-    )?;
-    assert_eq!(rt; last.text.as_str(), wanted.as_str());
-    let selective = View {
+    let mut server = five_creates(alloc)?;
+    let view = config_maps(alloc);
+    let first = [("a", 2, 2), ("b", 3, 3)];
+    let said =
+        r#""continue":"eyJuYW1lIjoiYiIsIm5hbWVzcGFjZSI6ImRlZmF1bHQiLCJydiI6IjYifQ","remainingItemCount":3,"resourceVersion":"6""#;
+    assert!(rt; lists(alloc, &server, &view, At::Present, None, &first, said)?);
+    update(alloc, &mut server, "e", 7)?;
+    let token = "eyJuYW1lIjoiZCIsIm5hbWVzcGFjZSI6ImRlZmF1bHQiLCJydiI6IjYifQ";
+    let token = Token::read(alloc, token)?;
+    let last = [("e", 6, 6)];
+    let said = r#""resourceVersion":"6""#;
+    assert!(rt;
+        lists(
+            alloc,
+            &server,
+            &view,
+            At::Exact(6),
+            Some(&token),
+            &last,
+            said
+        )?
+    );
+    Ok(())
+}
+
+#[test]
+fn a_page_of_a_selection_tells_no_count(rt: HostRuntime) -> Result<(), Fail> {
+    let alloc = rt.alloc();
+    let server = five_creates(alloc)?;
+    let view = View {
         kind: Kind::ConfigMap,
         namespace: None,
         labels: Selector::everything(alloc),
         fields: Fields::parse(alloc, "metadata.namespace=default")?,
     };
-    let page = server.list(alloc, &selective, At::Exact(6), 2, None)?;
-    let wanted = format!(in alloc;
-        r#"{{"apiVersion":"v1","items":[{a},{b}],"kind":"ConfigMapList","metadata":{{"continue":"eyJuYW1lIjoiYiIsIm5hbWVzcGFjZSI6ImRlZmF1bHQiLCJydiI6IjYifQ","resourceVersion":"6"}}}}"#
-    )?;
-    assert_eq!(rt; page.text.as_str(), wanted.as_str());
+    let first = [("a", 2, 2), ("b", 3, 3)];
+    let said =
+        r#""continue":"eyJuYW1lIjoiYiIsIm5hbWVzcGFjZSI6ImRlZmF1bHQiLCJydiI6IjYifQ","resourceVersion":"6""#;
+    assert!(rt; lists(alloc, &server, &view, At::Present, None, &first, said)?);
     Ok(())
 }
 
@@ -208,7 +280,7 @@ fn compactions_forget(rt: HostRuntime) -> Result<(), Fail> {
         )
     );
     server.compact(5)?;
-    let view = View::whole(alloc, Kind::ConfigMap, None);
+    let view = config_maps(alloc);
     let gone = server.watch_from(alloc, &view, 4, 9);
     assert!(rt; matches!(gone, Err(Fault::Expired { asked: 4, floor: 5 })));
     let pods = View::whole(alloc, Kind::Pod, None);
