@@ -1,16 +1,15 @@
 #!/usr/bin/env python3
-"""Measures `kcp replay`: creates, gets, updates, patches, deletes, lists and watches of ConfigMaps, in lines a second, and the memory
-that it takes.
+"""Measures `kcp replay` over stores of 100, 10,000 and 65,000 ConfigMaps: what each kind of line costs, and the memory.
 
-Eight inputs are run, each in a process of its own: the creates; the creates and the gets; and so on, each with one part more, but
-that the deletes are left out again, so that there is something to list. The time of each part is the difference of two runs, each
-the best of several. Beside it stands the time
-that a loop takes which only reads and writes the same bytes, line by line, and does nothing else: what the machine
-costs by itself. The beginning of each line of the replies is checked, so that a run that refuses its requests is not taken for a fast one.
+A store is filled by creates, each of an object with about 100 bytes of data; the last create is followed by the lines that are
+measured, all of one part: creates, each with the delete of what it made, so that the store stays as large as it is; gets, updates
+and patches of objects all over the store; lists of a thousand, plain and by four requirements; and watches of the last thousand
+changes. The time of a part is that of a run with it without that of a run that only fills the store, each the best of several. The
+beginning of each line of the replies is checked, so that a run that refuses its requests is not taken for a fast one.
 
 Usage: replay.py [--program PATH] [--count N] [--runs N] [--seconds N]
   --program PATH   an executable that is built; without it `rt run -- replay` in crates/kcp proves and builds one first
-  --count N        lines of each part, 10000 if left out; a store holds 65536 objects at most
+  --count N        objects of the largest store, 65000 if left out; 65536 is the most that there may be
   --runs N         runs of each input, of which the best counts, 3 if left out
   --seconds N      the longest that one run may take, 120 if left out
 It uses no network, and writes only to a temporary folder.
@@ -26,14 +25,18 @@ import shared
 
 COLLECTION = "/api/v1/namespaces/default/configmaps"
 
-# How often a list is asked for, and a watch.
-REPEATS = 20
+# The sizes of the smaller stores.
+SMALLER = [100, 10_000]
+
+# How many lines of a part that is about one object, and how many of one that is about a thousand.
+LINES = 10_000
+REPEATS = 200
+
+# How many objects a list has, and changes a watch.
+MANY = 1_000
 
 # How the line of a frame begins.
 FRAME = b'{"o'
-
-# What a machine costs by itself: a line in, its bytes out.
-LOOP = "import sys\nwrite = sys.stdout.buffer.write\nfor line in sys.stdin.buffer:\n    write(line)\n"
 
 
 def data(number, word):
@@ -41,47 +44,53 @@ def data(number, word):
     return '{"key-%06d":"%s"}' % (number, (word * 100)[:84])
 
 
+def places(count):
+    """Objects all over a store, in an order that leaps."""
+    return [n * 7_919 % count for n in range(LINES)]
+
+
+def create(name, number):
+    return f'POST {COLLECTION} {{"metadata":{{"name":"{name}"}},"data":{data(number, "before ")}}}'
+
+
+def fills(count):
+    return [create(f"map-{n:06}", n) for n in range(count)]
+
+
 def creates(count):
-    return [f'POST {COLLECTION} {{"metadata":{{"name":"map-{n:06}"}},"data":{data(n, "before ")}}}' for n in range(count)]
+    """Each with the delete of what it made."""
+    return [line for n in range(LINES) for line in (create(f"more-{n:06}", n), f"DELETE {COLLECTION}/more-{n:06}")]
 
 
 def gets(count):
-    return [f"GET {COLLECTION}/map-{n:06}" for n in range(count)]
+    return [f"GET {COLLECTION}/map-{n:06}" for n in places(count)]
 
 
 def updates(count):
-    """The first create has revision 2, so the n-th object, from 0, has version n + 2."""
+    """Updates that each change the data."""
     return [
-        f'PUT {COLLECTION}/map-{n:06} {{"metadata":{{"name":"map-{n:06}","resourceVersion":"{n + 2}"}},"data":{data(n, "after ")}}}'
-        for n in range(count)
+        f'PUT {COLLECTION}/map-{n:06} {{"metadata":{{"name":"map-{n:06}"}},"data":{data(line, "after ")}}}'
+        for line, n in enumerate(places(count))
     ]
 
 
+def patches(count):
+    """Merge patches that each add a text to the data, or replace it."""
+    return [f'PATCH {COLLECTION}/map-{n:06} {{"data":{{"patched":"{line}"}}}}' for line, n in enumerate(places(count))]
+
+
 def lists(count):
-    return [f"GET {COLLECTION}"] * REPEATS
+    return [f"GET {COLLECTION}?limit={MANY}"] * REPEATS
 
 
 def selections(count):
     """Lists by four requirements, which all objects meet."""
-    return [f"GET {COLLECTION}?labelSelector=!tier,app+notin+(web,api),zone!=east,role+notin+(db)"] * REPEATS
+    return [f"GET {COLLECTION}?limit={MANY}&labelSelector=!tier,app+notin+(web,api),zone!=east,role+notin+(db)"] * REPEATS
 
 
 def watches(count):
-    """Watches of all that has happened: a change for each create, each update and each patch."""
-    return [f"GET {COLLECTION}?watch=true&resourceVersion=1"] * REPEATS
-
-
-def patches(count):
-    """Merge patches that replace the data's one text."""
-    return [f'PATCH {COLLECTION}/map-{n:06} {{"data":{data(n, "patched ")}}}' for n in range(count)]
-
-
-def deletes(count):
-    """Creates and updates come before the patches, so the n-th patch, from 0, made version 2 * count + n + 2."""
-    return [
-        f'DELETE {COLLECTION}/map-{n:06} {{"preconditions":{{"resourceVersion":"{2 * count + n + 2}"}}}}'
-        for n in range(count)
-    ]
+    """Watches of the last changes: the creates' revisions are 2 and up."""
+    return [f"GET {COLLECTION}?watch=true&resourceVersion={max(count - MANY, 0) + 1}"] * REPEATS
 
 
 def run(command, given, written, limit):
@@ -107,64 +116,61 @@ def run(command, given, written, limit):
     return seconds, usage.ru_maxrss
 
 
-def best(command, given, written, asked):
-    """The shortest time of several runs, and the greatest memory."""
+def best(command, folder, lines, asked):
+    """The shortest time of several runs over these lines, the greatest memory, and what the last run wrote."""
+    given, written = folder / "given", folder / "written"
+    given.write_text("".join(f"{line}\n" for line in lines))
     seconds, memory = zip(*(run(command, given, written, asked.seconds) for _ in range(asked.runs)))
-    return min(seconds), max(memory)
+    return min(seconds), max(memory), written.read_bytes()
 
 
-def check(written, codes):
+def check(replies, codes):
     """Ends the benchmark where a line of the replies begins otherwise than it is to."""
-    with open(written, "rb") as replies:
-        found = [line[:3] for line in replies]
+    found = [line[:3] for line in replies.splitlines()]
     if found != codes:
         wrong = next((n for n, pair in enumerate(zip(found, codes)) if pair[0] != pair[1]), min(len(found), len(codes)))
         sys.exit(f"line {wrong + 1} of {len(found)} is not {codes[wrong].decode() if wrong < len(codes) else 'wanted'}")
 
 
-def measure(program, folder, asked):
-    """For each part: its name, its seconds, those of the loop, and the memory by its end."""
-    changes = [b"200"] + [FRAME] * (3 * asked.count)
-    parts = [
-        ("creates", creates, [b"201"] * asked.count),
-        ("gets", gets, [b"200"] * asked.count),
-        ("updates", updates, [b"200"] * asked.count),
-        ("patches", patches, [b"200"] * asked.count),
-        ("deletes", deletes, [b"200"] * asked.count),
-        (f"lists of {asked.count:,}", lists, [b"200"] * REPEATS),
-        ("the same by four requirements", selections, [b"200"] * REPEATS),
-        (f"watches of {3 * asked.count:,} changes", watches, changes * REPEATS),
-    ]
-    given, written = folder / "given", folder / "written"
-    codes, before, before_loop, rows = [], 0.0, 0.0, []
-    given.write_bytes(b"")
-    for name, make, replies in parts:
-        asks = make(asked.count)
-        length = given.stat().st_size
-        with open(given, "ab") as lines:
-            lines.writelines(line.encode() + b"\n" for line in asks)
-        seconds, memory = best([program, "replay"], given, written, asked)
-        check(written, codes + replies)
-        loop_seconds, _ = best([sys.executable, "-c", LOOP], given, written, asked)
-        rows.append((name, len(asks), seconds - before, loop_seconds - before_loop, memory))
-        if make is deletes:
-            os.truncate(given, length)
-        else:
-            codes += replies
-            before, before_loop = seconds, loop_seconds
+def parts(count):
+    """Of each part its name, its lines, how many of them are counted as one, and how its replies begin."""
+    many = min(count, MANY)
+    one_by_one = [("gets", gets), ("updates", updates), ("patches", patches)]
+    by_many = [(f"lists of {many:,}", lists), (f"lists of {many:,} by four requirements", selections)]
+    yield "creates, each with its delete", creates(count), 2, [b"201", b"200"] * LINES
+    for name, make in one_by_one:
+        yield name, make(count), 1, [b"200"] * LINES
+    for name, make in by_many:
+        yield name, make(count), 1, [b"200"] * REPEATS
+    yield f"watches of {many:,} changes", watches(count), 1, ([b"200"] + [FRAME] * many) * REPEATS
+
+
+def measure(program, folder, count, asked):
+    """The rows of a store of so many objects."""
+    filled = fills(count)
+    before, memory, replies = best([program, "replay"], folder, filled, asked)
+    codes = [b"201"] * count
+    check(replies, codes)
+    rows = [("creates into the empty store", count, before, len(replies), memory)]
+    for name, lines, each, begins in parts(count):
+        seconds, memory, all_replies = best([program, "replay"], folder, filled + lines, asked)
+        check(all_replies, codes + begins)
+        rows.append((name, len(lines) // each, seconds - before, len(all_replies) - len(replies), memory))
     return rows
 
 
 def main():
-    asked = shared.arguments(__doc__, "count", most=65536, default=10000, runs=3)
+    asked = shared.arguments(__doc__, "count", most=65536, default=65000, runs=3)
     program = shared.built(asked.program, "kcp", ["replay"])
-    with tempfile.TemporaryDirectory() as folder:
-        rows = measure(program, pathlib.Path(folder), asked)
     print(f"best of {asked.runs} runs, {os.cpu_count()} processors")
-    print("| Part | Lines | Lines a second | Seconds | Seconds of a loop that only copies the lines | Peak memory by then, MiB |")
-    print("|---|---|---|---|---|---|")
-    for name, lines, seconds, loop_seconds, memory in rows:
-        print(f"| {name} | {lines:,} | {shared.rate(lines, seconds)} | {seconds:.3f} | {max(loop_seconds, 0):.3f} | {memory / 1024:.1f} |")
+    print("| Objects | Part | So many | Microseconds each | So many a second | MB a second | Peak memory, MB |")
+    print("|---|---|---|---|---|---|---|")
+    for count in sorted({size for size in SMALLER if size < asked.count} | {asked.count}):
+        with tempfile.TemporaryDirectory() as folder:
+            for name, done, seconds, length, memory in measure(program, pathlib.Path(folder), count, asked):
+                each = f"{seconds / done * 1e6:,.1f}"
+                rates = f"{shared.rate(done, seconds)} | {shared.rate(length / 1e6, seconds)}"
+                print(f"| {count:,} | {name} | {done:,} | {each} | {rates} | {memory * 1024 / 1e6:.1f} |", flush=True)
 
 
 if __name__ == "__main__":
