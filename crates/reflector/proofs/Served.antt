@@ -9,7 +9,8 @@ use Rattle.definitions.specs.Changes.{Change, changes}
 use Rattle.definitions.specs.Frames.{kind_text, frame_kind}
 use Rattle.definitions.specs.History.{list, present}
 use Rattle.definitions.specs.Reflectors.{Reflector, with_list, all_fed, play_deltas}
-use Rattle.definitions.specs.SentLaws.{whole, IsShort, history_of, listed_at}
+use Rattle.definitions.specs.Lines.{history_of}
+use Rattle.definitions.specs.SentLaws.{whole, IsShort, listed_at}
 use Rattle.definitions.specs.Streams.{Line, change, bookmark, initial, initial_end, Goes, change_event, text_of}
 use Rattle.definitions.proofs.Limits.{limits}
 use Rattle.definitions.proofs.SentChanges.{changes_told}
