@@ -93,27 +93,31 @@ def watches(count):
     return [f"GET {COLLECTION}?watch=true&resourceVersion={max(count - MANY, 0) + 1}"] * REPEATS
 
 
+def peak_memory(process):
+    """The most that a process had resident so far, in KiB; 0 once it has ended. (What `wait4` tells counts this program too.)"""
+    try:
+        lines = pathlib.Path(f"/proc/{process.pid}/status").read_text().splitlines()
+    except OSError:
+        return 0
+    return max((int(line.split()[1]) for line in lines if line.startswith("VmHWM")), default=0)
+
+
 def run(command, given, written, limit):
-    """The seconds that one run took, and its peak resident memory in KiB."""
+    """The seconds that one run took, and its peak resident memory in KiB, as it was last seen."""
+    memory = 0
     with open(given, "rb") as source, open(written, "wb") as sink:
         began = time.perf_counter()
         process = subprocess.Popen(command, stdin=source, stdout=sink)
-        deadline = began + limit
-        while True:
-            ended, status, usage = os.wait4(process.pid, os.WNOHANG)
-            if ended:
-                break
-            if time.perf_counter() > deadline:
+        while process.poll() is None:
+            if time.perf_counter() > began + limit:
                 process.kill()
-                os.wait4(process.pid, 0)
-                process.returncode = -1
                 sys.exit(f"{command[0]} took more than {limit} seconds")
+            memory = max(memory, peak_memory(process))
             time.sleep(0.001)
         seconds = time.perf_counter() - began
-    process.returncode = os.waitstatus_to_exitcode(status)
     if process.returncode != 0:
         sys.exit(f"{command[0]} ended with status {process.returncode}")
-    return seconds, usage.ru_maxrss
+    return seconds, memory
 
 
 def best(command, folder, lines, asked):
