@@ -1,1 +1,2 @@
 pub mod PageTexts
+pub mod Placed

@@ -6,7 +6,6 @@ use Rattle.serde_json.specs.Written.{compact_text}
 use Rattle.serde_json.proofs.OnLiterals.{serde_json_on_literals}
 use Rattle.definitions.specs.declared.kinds.Kind.{Kind}
 use Rattle.definitions.specs.Kinds.{api_version, kind_text}
-use Rattle.definitions.specs.History.{Members}
 use Rattle.definitions.specs.Lists.{page_metadata, page_body}
 use Rattle.definitions.specs.Pages.{Place}
 use Rattle.definitions.specs.Verbs.{as_item}

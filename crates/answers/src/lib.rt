@@ -1,5 +1,5 @@
 //! What the answers of all verbs are made of: bodies that are read, names and versions that are compared, generations,
-//! objects put in the place of others, and the texts of lists.
+//! objects put in the place of others, what is kept of them, and the texts of lists.
 #![tactic(auto)]
 
 pub mod bodies;
@@ -9,3 +9,4 @@ pub mod limits;
 pub mod list_texts;
 pub mod names_given;
 pub mod placing;
+pub mod stored_texts;

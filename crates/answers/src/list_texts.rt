@@ -11,7 +11,7 @@ ghost use Rattle.meta.specs.Members.{member_of};
 ghost use Rattle.pages.specs.Seen.{asked_place};
 
 use definitions::kinds::Kind;
-use meta::{Member, Object};
+use meta::{Member, StoredObject};
 use pages::Token;
 use serde_json::{Value, json};
 use std::alloc::{AllocError, Global};
@@ -38,7 +38,7 @@ pub fn page_text(
         &mut text,
         &["{\"apiVersion\":", version.as_str(), ",\"items\":["],
     )?;
-    push_items(alloc, members, &mut text)?;
+    push_items(members, &mut text)?;
     push_all(
         &mut text,
         &[
@@ -107,30 +107,25 @@ fn list_name(alloc: Global, kind: Kind) -> Result<String, AllocError>
 }
 
 /// Adds the texts of objects as the items of a list, and the bracket that closes it.
-fn push_items(alloc: Global, members: &[Member<'_>], text: &mut String) -> Result<(), AllocError>
+fn push_items(members: &[Member<'_>], text: &mut String) -> Result<(), AllocError>
     ensures { OnOk result (string_bytes text.new ≡ string_bytes text.old
         ++ json.items_text false (items_of (map as_item (map (λ m. m.object.now.value) members.entry.now)))) }
 {
     let mut later = false;
     for member in members {
-        push_item(alloc, later, member.object, text)?;
+        push_item(later, member.object, text)?;
         later = true;
     }
     text.push_str("]")
 }
 
 /// Adds the text of an object as an item of a list, after others or as the first.
-fn push_item(
-    alloc: Global,
-    later: bool,
-    object: &Object,
-    text: &mut String,
-) -> Result<(), AllocError>
+fn push_item(later: bool, object: &StoredObject, text: &mut String) -> Result<(), AllocError>
     ensures { OnOk result (string_bytes text.new ≡ string_bytes text.old
         ++ (json.comma_if later ++ json.compact_text (as_item object.now.value))) }
 {
     if later {
         text.push_str(",")?;
     }
-    object.push_item_text(alloc, text)
+    object.push_item_text(text)
 }

@@ -8,8 +8,9 @@ ghost use Rattle.meta.specs.Keys.{name_of};
 ghost use Rattle.answers.specs.Serves.{Serves};
 
 use crate::limits::is_too_large;
+use crate::stored_texts::stored_with_text;
 use lifecycle::after_update;
-use meta::{Fault, Key, Object, Write};
+use meta::{Fault, Key, Object, StoredObject, Write};
 use reply::Reply;
 use std::alloc::{AllocError, Global};
 use store::limits::GREATEST_REVISION;
@@ -17,16 +18,15 @@ use store::limits::GREATEST_REVISION;
 /// The text of the object that is held, if another at its version says the same.
 pub fn unchanged(
     alloc: Global,
-    held: &Object,
+    held: &StoredObject,
     object: &Object,
 ) -> Result<Option<String>, AllocError>
     ensures same { IfOk result (λ found. is_some found ≡ says_the_same held.now.value object.now.value) }
     ensures text { IfOk result (λ found. IfSome found (λ s. string_bytes s ≡ compact_text held.now.value)) }
 {
-    let before = held.text(alloc)?;
-    let after = object.text(alloc)?;
-    if before.as_str() == after.as_str() {
-        Ok(Some(before))
+    let text = object.text(alloc)?;
+    if text.as_str() == held.text() {
+        Ok(Some(text))
     } else {
         Ok(None)
     }
@@ -44,13 +44,13 @@ pub fn is_full(before: u64) -> bool
 pub fn put_in_place(
     alloc: Global,
     key: Key,
-    object: Object,
+    object: &Object,
     before: u64,
 ) -> Result<(Reply, Option<Write>), Fault>
     requires { before ≤ greatest_revision }
-    ensures { Serves (put_in_place (name_of key) object.value before) result }
+    ensures { Serves (put_in_place (name_of key) object.now.value before) result }
 {
-    let text = object.text(alloc)?;
+    let (stored, text) = stored_with_text(alloc, object)?;
     if is_too_large(text.as_str()) {
         return Err(Fault::TooLarge);
     }
@@ -59,7 +59,7 @@ pub fn put_in_place(
     }
     let write = Write {
         key,
-        put: Some(object),
+        put: Some(stored),
     };
     Ok((Reply { code: 200, text }, Some(write)))
 }
@@ -77,15 +77,15 @@ pub fn replaced(
     alloc: Global,
     key: Key,
     held: &Object,
-    object: Object,
+    object: &Object,
     before: u64,
 ) -> Result<(Reply, Option<Write>), Fault>
     requires { before ≤ greatest_revision }
-    ensures { Serves (if is_let_go held.now.value object.value then let_go (name_of key) object.value before
-        else put_in_place (name_of key) object.value before) result }
+    ensures { Serves (if is_let_go held.now.value object.now.value then let_go (name_of key) object.now.value before
+        else put_in_place (name_of key) object.now.value before) result }
 {
-    let text = object.text(alloc)?;
-    let change = after_update(held, key, object);
+    let (stored, text) = stored_with_text(alloc, object)?;
+    let change = after_update(held, key, object, stored);
     if puts_too_much(&change, text.as_str()) {
         return Err(Fault::TooLarge);
     }

@@ -14,6 +14,7 @@ use crate::made_names::made_key;
 use answers::first_status::first_status;
 use answers::limits::is_too_large;
 use answers::names_given::is_other;
+use answers::stored_texts::stored_with_text;
 use definitions::kinds::Kind;
 use definitions::refusals::Part;
 use meta::{Draft, Fault, Key, Object, Write};
@@ -48,7 +49,7 @@ pub fn create(
     let key = new_key(alloc, store, kind, namespace, &object)?;
     check_create(alloc, &object, &key, store.revision())?;
     let object = created(alloc, object, &key, moment, store.revision())?;
-    create_as(alloc, store, key, object)
+    create_as(alloc, store, key, &object)
 }
 
 /// Whether an object that is to be created names another namespace, or a version.
@@ -163,11 +164,11 @@ fn create_as(
     alloc: Global,
     store: &Store,
     key: Key,
-    object: Object,
+    object: &Object,
 ) -> Result<(Reply, Option<Write>), Fault>
-    ensures { Serves (create_as (name_of key) object.value store.now.members store.now.revision) result }
+    ensures { Serves (create_as (name_of key) object.now.value store.now.members store.now.revision) result }
 {
-    let text = object.text(alloc)?;
+    let (stored, text) = stored_with_text(alloc, object)?;
     if is_too_large(text.as_str()) {
         return Err(Fault::TooLarge);
     }
@@ -179,7 +180,7 @@ fn create_as(
     }
     let write = Write {
         key,
-        put: Some(object),
+        put: Some(stored),
     };
     Ok((Reply { code: 201, text }, Some(write)))
 }

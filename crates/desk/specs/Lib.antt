@@ -1,3 +1,4 @@
+pub mod Pages
 pub mod Replies
 pub mod Standing
 pub mod Seen

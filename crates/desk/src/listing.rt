@@ -1,38 +1,33 @@
 //! Lists, in pages, at the present revision and at earlier ones.
 ghost use Rattle.std.specs.Prelude.{◌≡◌, ◌==◌, None, Some, IfOk, IfSome, map, option_map, if◌then◌else◌};
-ghost use Rattle.definitions.specs.Lists.{is_selective};
 ghost use Rattle.definitions.specs.PageTokens.{token_place};
 ghost use Rattle.definitions.specs.Pages.{last_place};
+ghost use Rattle.definitions.specs.Lists.{is_selective};
 ghost use Rattle.meta.specs.Members.{member_of};
-ghost use Rattle.pages.specs.Seen.{token_of};
+ghost use Rattle.pages.specs.Seen.{token_of, asked_place};
 ghost use Rattle.selector.specs.Views.{view_of};
+ghost use Rattle.store.specs.Chunks.{after_key};
+ghost use Rattle.desk.specs.Pages.{ShowsPage};
 
 use crate::servers::Server;
 use answers::list_texts::page_text;
+use definitions::kinds::Kind;
 use definitions::versions::At;
-use meta::{Fault, Member};
-use pages::{Page, Token, page_of};
+use meta::{Fault, Key, Member};
+use pages::{Token, page_of};
 use reply::Reply;
 use selector::View;
 use std::alloc::{AllocError, Global};
 
-/// A list, and the revision at which it is.
-#[derive(Drop)]
-pub(crate) struct Listed<'a> {
-    pub(crate) revision: u64,
-    pub(crate) members: Vec<Member<'a>>,
-}
-
 impl Server {
-    ghost use Rattle.std.specs.Prelude.{◌≡◌, IfOk, map};
+    ghost use Rattle.std.specs.Prelude.{◌≡◌, IfOk};
+    ghost use Rattle.definitions.specs.History.{viewed};
     ghost use Rattle.definitions.specs.Lists.{list_served};
-    ghost use Rattle.definitions.specs.PageLaws.{AreInPlace};
-    ghost use Rattle.meta.specs.Members.{member_of};
-    ghost use Rattle.definitions.specs.Servers.{list_by};
+    ghost use Rattle.definitions.specs.declared.versions.At.TheVariants as at;
     ghost use Rattle.pages.specs.Seen.{asked_place};
     ghost use Rattle.selector.specs.Views.{view_of};
+    ghost use Rattle.desk.specs.Pages.{IsPageAt};
     ghost use Rattle.desk.specs.Replies.{Replies};
-    ghost use Rattle.desk.specs.Seen.{Lists};
 
     /// A page of the list of a view: at most `limit` objects, or all if it is 0, after the place that a token names, or the
     /// first. The token is that of a page before it, so the list is to be one at its revision. The errors are a revision
@@ -48,56 +43,110 @@ impl Server {
         ensures { Replies (list_served self.now (view_of view.now)
             (record { at = at; limit = limit; after = asked_place after.entry })) result }
     {
-        let listed = self.list_at(alloc, view, at)?;
-        let page = page_of(listed.members.as_slice(), limit, after);
-        let next = next_of(page, listed.revision)?;
-        let text = page_text(
-            alloc,
-            view.kind,
-            listed.revision,
-            page.items,
-            next.as_ref(),
-            told_count(view, page.remaining),
-        )?;
-        Ok(Reply { code: 200, text })
-    }
-
-    /// The members of a view at a revision, in the order of their keys. The errors are a revision below what is kept, one
-    /// above the present, and want of memory.
-    fn list_at<'a>(&'a self, alloc: Global, view: &View, at: At) -> Result<Listed<'a>, Fault>
-        ensures list { Lists (list_by self.entry.now (view_of view.entry.now) at) result }
-        ensures in_place { IfOk result (λ listed. AreInPlace (map member_of listed.members.items)) }
-    {
         let present = self.revision();
         match at {
             At::NotOlder(asked) if present < asked => Err(Fault::TooNew { asked, present }),
             At::Present | At::NotOlder(_) => {
-                let members = self.added(alloc, view)?;
-                Ok(Listed {
-                    revision: present,
-                    members,
-                })
+                Ok(self.list_as(alloc, view, present, limit, after)?)
             }
-            At::Exact(revision) => {
-                let listed = self.added(alloc, view)?;
-                let cache = self.cache(view.kind);
-                let members = cache.list_at(alloc, listed.as_slice(), view, present, revision)?;
-                Ok(Listed { revision, members })
-            }
+            At::Exact(revision) => self.list_exact(alloc, view, revision, limit, after),
         }
+    }
+
+    /// A page of what is there of a view, as a list at a revision. The error is want of memory.
+    fn list_as(
+        &self,
+        alloc: Global,
+        view: &View,
+        revision: u64,
+        limit: usize,
+        after: Option<&Token>,
+    ) -> Result<Reply, AllocError>
+        ensures { IfOk result (IsPageAt revision (view_of view.now)
+            (viewed (view_of view.now) self.now.snapshot.members) limit (asked_place after.entry)) }
+    {
+        let after = key_after(view.kind, after)?;
+        let chunk = self.store.page(alloc, view, limit, after)?;
+        page_reply(
+            alloc,
+            view,
+            revision,
+            chunk.members.as_slice(),
+            chunk.remaining,
+        )
+    }
+
+    /// A page of the list at a revision. Where the kind has not changed since, it is one of what is there; else what is
+    /// there is listed, and the later changes are undone.
+    fn list_exact(
+        &self,
+        alloc: Global,
+        view: &View,
+        revision: u64,
+        limit: usize,
+        after: Option<&Token>,
+    ) -> Result<Reply, Fault>
+        ensures { Replies (list_served self.now (view_of view.now)
+            (record { at = at.Exact revision; limit = limit; after = asked_place after.entry })) result }
+    {
+        let present = self.revision();
+        let cache = self.cache(view.kind);
+        cache.check(revision, present)?;
+        if cache.is_unchanged_since(revision) {
+            return Ok(self.list_as(alloc, view, revision, limit, after)?);
+        }
+        let listed = self.added(alloc, view)?;
+        let members = cache.list_at(alloc, listed.as_slice(), view, present, revision)?;
+        let page = page_of(members.as_slice(), limit, after);
+        Ok(page_reply(alloc, view, revision, page.items, page.remaining)?)
     }
 }
 
-/// The token that asks for the page after one of a list at a revision, if anything follows. The error is want of memory.
-fn next_of(page: Page<'_>, revision: u64) -> Result<Option<Token>, AllocError>
+/// A key of the place that a token names, if there is one. The error is want of memory.
+fn key_after(kind: Kind, after: Option<&Token>) -> Result<Option<Key>, AllocError>
+    ensures { IfOk result (λ key. after_key key ≡ asked_place after.entry) }
+{
+    let Some(token) = after else {
+        return Ok(None);
+    };
+    Ok(Some(Key {
+        kind,
+        namespace: token.namespace.clone()?,
+        name: token.name.clone()?,
+    }))
+}
+
+/// The reply with these objects of a list at a revision, after which so many remain. The error is want of memory.
+fn page_reply(
+    alloc: Global,
+    view: &View,
+    revision: u64,
+    items: &[Member<'_>],
+    remaining: usize,
+) -> Result<Reply, AllocError>
+    ensures { IfOk result (ShowsPage revision (view_of view.now) (map member_of items.now) remaining) }
+{
+    let next = next_of(items, remaining, revision)?;
+    let count = told_count(view, remaining);
+    let text = page_text(alloc, view.kind, revision, items, next.as_ref(), count)?;
+    Ok(Reply { code: 200, text })
+}
+
+/// The token that asks for what comes after these objects of a list at a revision, if any remain. The error is want of
+/// memory.
+fn next_of(
+    items: &[Member<'_>],
+    remaining: usize,
+    revision: u64,
+) -> Result<Option<Token>, AllocError>
     ensures place { IfOk result (λ next. option_map (λ t. token_place (token_of t)) next
-        ≡ (if page.entry.remaining == 0 then None else last_place (map member_of page.entry.items.now))) }
+        ≡ (if remaining == 0 then None else last_place (map member_of items.now))) }
     ensures revision { IfOk result (λ next. IfSome next (λ t. t.revision ≡ revision)) }
 {
-    if page.remaining == 0 {
+    if remaining == 0 {
         return Ok(None);
     }
-    match page.items.last() {
+    match items.last() {
         None => Ok(None),
         Some(member) => Ok(Some(Token::after(member, revision)?)),
     }
@@ -107,9 +156,9 @@ fn next_of(page: Page<'_>, revision: u64) -> Result<Option<Token>, AllocError>
 fn told_count(view: &View, remaining: usize) -> Option<usize>
     ensures { result ≡ (if is_selective (view_of view.now) then None else Some remaining) }
 {
-    if view.labels.is_empty() && view.fields.is_empty() {
-        Some(remaining)
-    } else {
+    if view.is_selective() {
         None
+    } else {
+        Some(remaining)
     }
 }

@@ -2,7 +2,7 @@
 ghost use Rattle.std.specs.Prelude.{◌≡◌, IfOk, option_map};
 
 use crate::servers::Server;
-use meta::{Fault, Object, Write};
+use meta::{Fault, StoredObject, Write};
 use reply::Reply;
 use stamps::moments::Moment;
 use std::alloc::{AllocError, Global};
@@ -71,7 +71,7 @@ impl Server {
 }
 
 /// A copy of what is put, if anything is.
-fn copy_of(put: Option<&Object>) -> Result<Option<Object>, AllocError>
+fn copy_of(put: Option<&StoredObject>) -> Result<Option<StoredObject>, AllocError>
     ensures { IfOk result (λ copy. option_map (λ o. o.value) copy ≡ option_map (λ o. o.now.value) put.entry) }
 {
     match put {

@@ -2,7 +2,7 @@
 use crate::decoder::Decoder;
 use crate::texts::{added_text, bookmark_text, error_text, frame_text};
 use definitions::frames::{ChangeKind, FrameFault, FrameKind};
-use meta::{Fault, Key, Kind, Object};
+use meta::{Fault, Key, Kind, Object, StoredObject};
 use revisions::Event;
 use serde_json::Value;
 use std::alloc::Global;
@@ -124,6 +124,7 @@ fn length_is_limited(rt: HostRuntime) -> Result<(), Fail> {
 fn written_frame(rt: HostRuntime) -> Result<(), Fail> {
     let value = Value::from_str(rt.alloc(), OBJECT)?;
     let object = Object::from_value(rt.alloc(), Kind::ConfigMap, value)?;
+    let object = StoredObject::new(rt.alloc(), &object)?;
     let event = Event {
         kind: ChangeKind::Modified,
         revision: 3,
@@ -144,6 +145,7 @@ fn written_frame(rt: HostRuntime) -> Result<(), Fail> {
 fn written_object(rt: HostRuntime) -> Result<(), Fail> {
     let value = Value::from_str(rt.alloc(), OBJECT)?;
     let object = Object::from_value(rt.alloc(), Kind::ConfigMap, value)?;
+    let object = StoredObject::new(rt.alloc(), &object)?;
     let line = added_text(rt.alloc(), &object)?;
     assert_eq!(rt; line.as_str(), ADDED);
     Ok(())

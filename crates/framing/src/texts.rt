@@ -11,7 +11,7 @@ ghost use Rattle.framing.specs.Texts.{framed_text, IsWithin, ReadsAs};
 
 use definitions::frames::FrameKind;
 use definitions::kinds::Kind;
-use meta::{Fault, Object};
+use meta::{Fault, StoredObject};
 use revisions::Event;
 use serde_json::{Value, json};
 use std::alloc::{AllocError, Global};
@@ -41,14 +41,13 @@ fn line_of(alloc: Global, kind: FrameKind, object: &Value) -> Result<String, All
     Ok(line)
 }
 
-/// The line of a frame with an object that was read.
-fn object_text(alloc: Global, kind: FrameKind, object: &Object) -> Result<String, AllocError>
+/// The line of a frame with an object that is kept.
+fn object_text(alloc: Global, kind: FrameKind, object: &StoredObject) -> Result<String, AllocError>
     ensures text { IfOk result (λ t. string_bytes t ≡ frame_text (record { kind = kind; object = object.now.value })) }
     ensures reads_back { IfOk result (λ t. IsWithin (record { kind = kind; object = object.now.value })
         → ReadsAs (string_bytes t) (record { kind = kind; object = object.now.value })) }
 {
-    let text = object.text(alloc)?;
-    let line = framed(alloc, kind, text.as_str())?;
+    let line = framed(alloc, kind, object.text())?;
     Ok(line)
 }
 
@@ -62,7 +61,7 @@ pub fn frame_text(alloc: Global, event: &Event) -> Result<String, AllocError>
 }
 
 /// The line of an object that is there when a watch begins: ADDED, and the object. The error is want of memory.
-pub fn added_text(alloc: Global, object: &Object) -> Result<String, AllocError>
+pub fn added_text(alloc: Global, object: &StoredObject) -> Result<String, AllocError>
     ensures text { IfOk result (λ t. string_bytes t ≡ frame_text (record { kind = Added; object = object.now.value })) }
     ensures reads_back { IfOk result (λ t. IsWithin (record { kind = Added; object = object.now.value })
         → ReadsAs (string_bytes t) (record { kind = Added; object = object.now.value })) }

@@ -3,7 +3,7 @@ use crate::{DeleteFault, DeleteOptions, Fate, after_update, decide_delete};
 use definitions::kinds::Kind;
 use definitions::policies::{Policy, PolicySaid};
 use definitions::refusals::{Mismatch, Part};
-use meta::{Fault, Key, Object};
+use meta::{Fault, Key, Object, StoredObject};
 use serde_json::Value;
 use stamps::moments::Moment;
 use std::alloc::Global;
@@ -201,13 +201,23 @@ fn the_last_finalizer_lets_go(rt: HostRuntime) -> Result<(), Fail> {
         namespace: String::from_str(alloc, "default")?,
         name: String::from_str(alloc, "a")?,
     };
-    let same = after_update(&held, key.try_copy()?, held.try_copy()?);
+    let same = after_update(
+        &held,
+        key.try_copy()?,
+        &held,
+        StoredObject::new(alloc, &held)?,
+    );
     assert!(rt; same.put.is_some() && same.key == key);
     let freed = replica_set(alloc, "{}")?;
-    let removal = after_update(&held, key.try_copy()?, freed.try_copy()?);
+    let removal = after_update(
+        &held,
+        key.try_copy()?,
+        &freed,
+        StoredObject::new(alloc, &freed)?,
+    );
     assert!(rt; removal.put.is_none() && removal.key == key);
     let live = replica_set(alloc, r#"{"finalizers":["a"]}"#)?;
-    let kept = after_update(&live, key, freed);
+    let kept = after_update(&live, key, &freed, StoredObject::new(alloc, &freed)?);
     assert!(rt; kept.put.is_some());
     Ok(())
 }

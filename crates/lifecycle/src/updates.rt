@@ -5,7 +5,7 @@ ghost use Rattle.definitions.specs.Replacements.{is_let_go};
 ghost use Rattle.meta.specs.Keys.{name_of};
 ghost use Rattle.meta.specs.Writes.{write_of};
 
-use meta::{Key, Object, Write};
+use meta::{Key, Object, StoredObject, Write};
 
 /// Whether nothing keeps the object that is held any more: it is being deleted, and no finalizer is left.
 fn is_let_go(held: &Object, object: &Object) -> bool
@@ -14,15 +14,16 @@ fn is_let_go(held: &Object, object: &Object) -> bool
     held.is_being_deleted() && object.metadata_member("finalizers").is_none()
 }
 
-/// What an update writes: the object in the place of the one that is held or, where nothing keeps that any more, its
-/// removal.
-pub fn after_update(held: &Object, key: Key, object: Object) -> Write
-    ensures { write_of result ≡ after_update (name_of key) held.now.value object.value }
+/// What an update writes: the object, as it is to be kept, in the place of the one that is held or, where nothing keeps
+/// that any more, its removal.
+pub fn after_update(held: &Object, key: Key, object: &Object, stored: StoredObject) -> Write
+    requires { stored.value ≡ object.now.value }
+    ensures { write_of result ≡ after_update (name_of key) held.now.value object.now.value }
 {
-    let put = if is_let_go(held, &object) {
+    let put = if is_let_go(held, object) {
         None
     } else {
-        Some(object)
+        Some(stored)
     };
     Write { key, put }
 }

@@ -85,7 +85,7 @@ text_at true b later l e ms is rest = rest later
 text_at false true later l e ms is rest = rw is (rest later)
 text_at false false later l e ms is rest = rw is (ap (λ t. member_text later l e ++ t) (rest true) ∙ joined (comma_if later) (compact_text (string l)) (compact_text e) (members_text true (without_both ms)))
 
-named : (k l : List ℕ) → bytes_eq l k ≡ is_eq (slice_cmp nat_cmp k l)
+pub named : (k l : List ℕ) → bytes_eq l k ≡ is_eq (slice_cmp nat_cmp k l)
 named k l = nat_list_eq_equiv.symm l k ∙ sym (is_eq-slice_cmp k l)
 
 item_text-dropped : (ms : Members) (later : Bool) → item_text later ms ≡ members_text later (without_both ms)

@@ -1,7 +1,9 @@
 pub mod ItemTexts
 pub mod KeyOrder
+pub mod LabelTexts
 pub mod MapViews
 pub mod PutAndTaken
 pub mod NoFloats
+pub mod StoredTexts
 pub mod Tidied
 pub mod Tidying

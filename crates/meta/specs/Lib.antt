@@ -2,6 +2,9 @@ pub mod Drafts
 pub mod Faults
 pub mod Items
 pub mod Keys
+pub mod Labels
 pub mod Members
 pub mod Owners
+pub mod Pieces
+pub mod Stored
 pub mod Writes

@@ -1,11 +1,11 @@
 //! Objects that are there, lent.
 
 use crate::keys::Key;
-use crate::objects::Object;
+use crate::stored::StoredObject;
 
 /// An object that is there, with its key, lent.
 #[derive(Clone, Copy)]
 pub struct Member<'a> {
     pub key: &'a Key,
-    pub object: &'a Object,
+    pub object: &'a StoredObject,
 }

@@ -5,15 +5,19 @@ pub mod drafts;
 pub mod faults;
 pub mod finalizers;
 pub(crate) mod items;
+pub(crate) mod kept;
 pub mod keys;
+pub(crate) mod labels;
 pub mod lent_members;
 pub mod members;
 pub mod merging;
 pub mod object_members;
 pub mod objects;
 pub mod owners;
+pub(crate) mod pieces;
 pub mod reading;
 pub mod schemas;
+pub mod stored;
 pub mod values;
 pub mod writes;
 
@@ -25,6 +29,7 @@ pub use lent_members::Member;
 pub use merging::merge;
 pub use objects::Object;
 pub use owners::OwnerReference;
+pub use stored::StoredObject;
 pub use writes::Write;
 
 #[cfg(test)]

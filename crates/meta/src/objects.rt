@@ -94,6 +94,15 @@ impl Object {
         }
     }
 
+    /// All that the object says, lent.
+    pub(crate) fn value(&self) -> &Value
+        ensures value { view result.now ≡ self.now.value }
+        ensures no_float { has_float (view result.now) ≡ false }
+        ensures object { is_some (as_object (view result.now)) ≡ true }
+    {
+        &self.value
+    }
+
     /// All that the object says.
     pub fn into_value(self) -> Value
         ensures value { view result ≡ self.value }

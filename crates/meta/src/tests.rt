@@ -3,12 +3,16 @@ use crate::faults::Fault;
 use crate::keys::Key;
 use crate::merging::merge;
 use crate::objects::Object;
+use crate::pieces::Item;
+use crate::stored::StoredObject;
+use crate::values::has_float;
 use crate::writes::Write;
 use definitions::kinds::Kind;
 use definitions::refusals::Part;
-use serde_json::Value;
+use serde_json::{Map, Value};
 use std::alloc::Global;
 use std::cmp::Ordering;
+use std::mem::size_of;
 use std::test::Fail;
 
 fn outcome(alloc: Global, kind: Kind, text: &str) -> Result<String, Fail> {
@@ -115,10 +119,10 @@ fn writes_metadata(rt: HostRuntime) -> Result<(), Fail> {
     assert!(rt; key.cmp(&key.try_copy()?) == Ordering::Equal);
     let write = Write {
         key,
-        put: Some(draft.close(alloc)?),
+        put: Some(StoredObject::new(alloc, &draft.close(alloc)?)?),
     };
-    let object = write.put.ok_or("no object")?;
-    let value = object.into_value();
+    let stored = write.put.ok_or("no object")?;
+    let value = stored.open(alloc)?.into_value();
     assert_eq!(rt;
         value.to_string(alloc)?.as_str(),
         r#"{"apiVersion":"v1","kind":"Pod","metadata":{"name":"a","resourceVersion":"7","uid":"c"},"spec":{}}"#
@@ -151,5 +155,116 @@ fn merges(rt: HostRuntime) -> Result<(), Fail> {
             merged
         );
     }
+    Ok(())
+}
+
+const LABELLED: &str =
+    r#"{"apiVersion":"v1","immutable":true,"kind":"Pod","metadata":{"labels":{"app":"x"},"name":"a"},"spec":{}}"#;
+
+#[test]
+fn keeps_an_object(rt: HostRuntime) -> Result<(), Fail> {
+    let alloc = rt.alloc();
+    let stored = StoredObject::new(alloc, &pod(alloc, LABELLED)?)?;
+    let copy = stored.try_copy()?;
+    drop(stored);
+    assert!(rt; copy.kind() == Kind::Pod);
+    assert_eq!(rt; copy.text(), LABELLED);
+    let mut items = String::from_str(alloc, "[")?;
+    copy.push_item_text(&mut items)?;
+    assert_eq!(rt;
+        items.as_str(),
+        r#"[{"immutable":true,"metadata":{"labels":{"app":"x"},"name":"a"},"spec":{}}"#
+    );
+    assert_eq!(rt; copy.label("app").unwrap_or(""), "x");
+    assert!(rt; copy.label("name").is_none());
+    let object = copy.open(alloc)?;
+    assert!(rt; object.kind() == Kind::Pod);
+    assert_eq!(rt; object.text(alloc)?.as_str(), LABELLED);
+    Ok(())
+}
+
+#[test]
+fn keeps_an_object_without_labels(rt: HostRuntime) -> Result<(), Fail> {
+    let alloc = rt.alloc();
+    let stored = StoredObject::new(alloc, &pod(alloc, r#"{"metadata":{"name":"a"}}"#)?)?;
+    assert!(rt; stored.label("app").is_none());
+    assert_eq!(rt; stored.open(alloc)?.name().unwrap_or(""), "a");
+    Ok(())
+}
+
+// A value that nests deeper than a text that is read back.
+fn deep(alloc: Global) -> Result<Value, Fail> {
+    let mut value = Value::Null;
+    for _ in 0..200u32 {
+        let mut items = Vec::new(alloc);
+        items.push(value)?;
+        value = Value::Array(items);
+    }
+    let mut members = Map::new(alloc);
+    members.insert(String::from_str(alloc, "deep")?, value)?;
+    Ok(Value::Object(members))
+}
+
+// No body nests as deep, but an object that does is opened all the same.
+#[test]
+fn keeps_an_object_that_nests_deep(rt: HostRuntime) -> Result<(), Fail> {
+    let alloc = rt.alloc();
+    let value = deep(alloc)?;
+    if has_float(&value) || !value.is_object() {
+        return Err("not an object".into());
+    }
+    let object = Object::from_whole(Kind::ConfigMap, value);
+    let text = object.text(alloc)?;
+    assert!(rt; Value::from_str(alloc, text.as_str()).is_err());
+    let stored = StoredObject::new(alloc, &object)?;
+    assert_eq!(rt; stored.text(), text.as_str());
+    assert_eq!(rt; stored.open(alloc)?.text(alloc)?.as_str(), text.as_str());
+    Ok(())
+}
+
+fn is_within(alloc: Global, kind: Kind, text: &str) -> Result<bool, Fail> {
+    let object = Object::from_value(alloc, kind, Value::from_str(alloc, text)?)?;
+    let mut shown = String::new(alloc);
+    object.push_item_text(alloc, &mut shown)?;
+    let item = Item::new(kind, object.text(alloc)?.as_str(), shown);
+    Ok(matches!(item, Item::Within(_)))
+}
+
+// An item takes no text of its own, whichever members stand around what it leaves out.
+#[test]
+fn finds_items_in_texts(rt: HostRuntime) -> Result<(), Fail> {
+    let alloc = rt.alloc();
+    let cases = [
+        (
+            Kind::ConfigMap,
+            r#"{"data":{"k":"v"},"metadata":{"name":"a"}}"#,
+        ),
+        (Kind::ConfigMap, r#"{"apiVersionless":{"k":"v"}}"#),
+        (
+            Kind::ConfigMap,
+            r#"{"A":[1],"an":null,"kin":"d","kindé":"\u00e9"}"#,
+        ),
+        (Kind::Pod, r#"{"metadata":{},"spec":{"a":"é"}}"#),
+        (
+            Kind::ReplicaSet,
+            r#"{"spec":{"selector":{"matchLabels":{"a":"b"}}}}"#,
+        ),
+        (Kind::Deployment, r#"{"metadata":{"name":"a"},"status":{}}"#),
+    ];
+    for (kind, text) in cases {
+        assert!(rt; is_within(alloc, kind, text)?);
+    }
+    Ok(())
+}
+
+fn goes_between_threads<T: Send + Sync>(_value: &T) {}
+
+// The store keeps one beside each key, and threads send them.
+#[test]
+fn is_one_word(rt: HostRuntime) -> Result<(), Fail> {
+    let alloc = rt.alloc();
+    let stored = StoredObject::new(alloc, &pod(alloc, "{}")?)?;
+    goes_between_threads(&stored);
+    assert!(rt; size_of::<StoredObject>() == 8);
     Ok(())
 }

@@ -1,11 +1,11 @@
 //! Writes.
 
 use crate::keys::Key;
-use crate::objects::Object;
+use crate::stored::StoredObject;
 
 /// A write: an object put under a key, or, with none, the key's object removed.
 #[derive(Drop)]
 pub struct Write {
     pub key: Key,
-    pub put: Option<Object>,
+    pub put: Option<StoredObject>,
 }

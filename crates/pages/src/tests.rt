@@ -1,7 +1,7 @@
 //! A page, and page tokens as Python's `base64` and `json` write them.
 use crate::{Token, page_of};
 use definitions::refusals::Part;
-use meta::{Fault, Key, Kind, Member, Object};
+use meta::{Fault, Key, Kind, Member, Object, StoredObject};
 use serde_json::Value;
 use std::alloc::Global;
 use std::test::Fail;
@@ -16,9 +16,10 @@ fn key(alloc: Global, name: &str) -> Result<Key, Fail> {
     })
 }
 
-fn object(alloc: Global) -> Result<Object, Fail> {
+fn object(alloc: Global) -> Result<StoredObject, Fail> {
     let value = Value::from_str(alloc, "{}")?;
-    Ok(Object::from_value(alloc, Kind::ConfigMap, value)?)
+    let object = Object::from_value(alloc, Kind::ConfigMap, value)?;
+    Ok(StoredObject::new(alloc, &object)?)
 }
 
 /// One object on a page of two, the token that asks for what comes after it, and nothing there.

@@ -7,12 +7,13 @@ ghost use Rattle.definitions.specs.Verbs.{accept_at, patch_object, patch_read, s
 ghost use Rattle.meta.specs.Keys.{name_of};
 ghost use Rattle.answers.specs.Serves.{Serves};
 
-use crate::update::replace;
+use crate::held::Held;
+use crate::update::replace_held;
 use answers::bodies::said;
 use answers::names_given::names_path;
 use definitions::refusals::Part;
 use meta::reading::is_body;
-use meta::{Fault, Key, Object, Write, merge};
+use meta::{Fault, Key, Write, merge};
 use reply::Reply;
 use serde_json::Value;
 use std::alloc::Global;
@@ -32,7 +33,10 @@ pub fn patch(
     }
     match store.get(&key) {
         None => Err(Fault::NotFound(key)),
-        Some(held) => patch_held(alloc, key, body, store.revision(), held),
+        Some(kept) => {
+            let held = Held::open(alloc, kept)?;
+            patch_held(alloc, key, body, store.revision(), &held)
+        }
     }
 }
 
@@ -42,16 +46,16 @@ fn patch_held(
     key: Key,
     body: Value,
     before: u64,
-    held: &Object,
+    held: &Held<'_>,
 ) -> Result<(Reply, Option<Write>), Fault>
     requires { before ≤ greatest_revision }
-    ensures { Serves (patch_read (name_of key) before held.now.value (said key.kind (merged held.now.value (view body)))) result }
+    ensures { Serves (patch_read (name_of key) before held.now.object.value (said key.kind (merged held.now.object.value (view body)))) result }
 {
-    let target = held.try_copy()?.into_value();
+    let target = held.object.try_copy()?.into_value();
     let changed = merge(alloc, body, target)?;
     let object = said(alloc, key.kind, changed)?;
     if !names_path(&key, &object) {
         return Err(Fault::BadRequest(Part::Object));
     }
-    replace(alloc, key, object, before, held)
+    replace_held(alloc, key, object, before, held)
 }

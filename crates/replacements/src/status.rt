@@ -9,6 +9,7 @@ ghost use Rattle.definitions.specs.Verbs.{accept_at, update_status, restate, res
 ghost use Rattle.meta.specs.Keys.{name_of};
 ghost use Rattle.answers.specs.Serves.{Serves};
 
+use crate::held::Held;
 use answers::first_status::first_status;
 use answers::generations::at_revision;
 use answers::names_given::{mismatch, names_path};
@@ -37,7 +38,10 @@ pub fn update_status(
     }
     match store.get(&key) {
         None => Err(Fault::NotFound(key)),
-        Some(held) => restate_with(alloc, key, object, store.revision(), held),
+        Some(kept) => {
+            let held = Held::open(alloc, kept)?;
+            restate_with(alloc, key, object, store.revision(), &held)
+        }
     }
 }
 
@@ -47,15 +51,15 @@ fn restate_with(
     key: Key,
     object: Object,
     before: u64,
-    held: &Object,
+    held: &Held<'_>,
 ) -> Result<(Reply, Option<Write>), Fault>
     requires { before ≤ greatest_revision }
-    ensures { Serves (restate_with (name_of key) object.value before held.now.value) result }
+    ensures { Serves (restate_with (name_of key) object.value before held.now.object.value) result }
 {
-    match mismatch(&object, held) {
+    match mismatch(&object, &held.object) {
         Some(why) => Err(Fault::Conflict(key, why)),
         None => {
-            let object = with_said_status(alloc, key.kind, held, &object)?;
+            let object = with_said_status(alloc, key.kind, &held.object, &object)?;
             restate(alloc, key, held, object, before)
         }
     }
@@ -94,19 +98,19 @@ fn with_said_status(
 fn restate(
     alloc: Global,
     key: Key,
-    held: &Object,
+    held: &Held<'_>,
     object: Object,
     before: u64,
 ) -> Result<(Reply, Option<Write>), Fault>
     requires { before ≤ greatest_revision }
-    ensures { Serves (restate (name_of key) held.now.value object.value before) result }
+    ensures { Serves (restate (name_of key) held.now.object.value object.value before) result }
 {
     if !is_status_valid(key.kind, &object) {
         return Err(Fault::Invalid(key, Field::Status));
     }
-    if let Some(text) = unchanged(alloc, held, &object)? {
+    if let Some(text) = unchanged(alloc, held.kept, &object)? {
         return Ok((Reply { code: 200, text }, None));
     }
     let object = at_revision(alloc, object, before)?;
-    put_in_place(alloc, key, object, before)
+    put_in_place(alloc, key, &object, before)
 }

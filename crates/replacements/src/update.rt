@@ -9,12 +9,13 @@ ghost use Rattle.definitions.specs.Verbs.{accept_at, update_object, replace, rep
 ghost use Rattle.meta.specs.Keys.{name_of};
 ghost use Rattle.answers.specs.Serves.{Serves};
 
+use crate::held::Held;
 use answers::bodies::said;
 use answers::generations::updated;
 use answers::names_given::{mismatch, names_path};
 use answers::placing::{replaced, unchanged};
 use definitions::refusals::Part;
-use meta::{Fault, Key, Object, Write};
+use meta::{Fault, Key, Object, StoredObject, Write};
 use reply::Reply;
 use serde_json::Value;
 use std::alloc::{AllocError, Global};
@@ -36,26 +37,42 @@ pub fn update(
     }
     match store.get(&key) {
         None => Err(Fault::NotFound(key)),
-        Some(held) => replace(alloc, key, object, store.revision(), held),
+        Some(kept) => replace(alloc, key, object, store.revision(), kept),
     }
 }
 
-/// An object in the place of the one that is held, if that is the one that it names.
-pub fn replace(
+/// An object in the place of the one that is kept, if that is the one that it names.
+fn replace(
     alloc: Global,
     key: Key,
     object: Object,
     before: u64,
-    held: &Object,
+    kept: &StoredObject,
 ) -> Result<(Reply, Option<Write>), Fault>
     requires revision { before ≤ greatest_revision }
     requires kind { object.kind ≡ key.kind }
-    ensures { Serves (replace (name_of key) object.value before held.now.value) result }
+    ensures { Serves (replace (name_of key) object.value before kept.now.value) result }
 {
-    match mismatch(&object, held) {
+    let held = Held::open(alloc, kept)?;
+    replace_held(alloc, key, object, before, &held)
+}
+
+/// An object in the place of the one that is held, if that is the one that it names.
+pub(crate) fn replace_held(
+    alloc: Global,
+    key: Key,
+    object: Object,
+    before: u64,
+    held: &Held<'_>,
+) -> Result<(Reply, Option<Write>), Fault>
+    requires revision { before ≤ greatest_revision }
+    requires kind { object.kind ≡ key.kind }
+    ensures { Serves (replace (name_of key) object.value before held.now.object.value) result }
+{
+    match mismatch(&object, &held.object) {
         Some(why) => Err(Fault::Conflict(key, why)),
         None => {
-            let object = in_place(alloc, object, held)?;
+            let object = in_place(alloc, object, &held.object)?;
             replace_with(alloc, key, held, object, before)
         }
     }
@@ -103,15 +120,15 @@ fn in_place(alloc: Global, object: Object, held: &Object) -> Result<Object, Allo
 fn replace_with(
     alloc: Global,
     key: Key,
-    held: &Object,
+    held: &Held<'_>,
     object: Object,
     before: u64,
 ) -> Result<(Reply, Option<Write>), Fault>
     requires revision { before ≤ greatest_revision }
     requires kind { object.kind ≡ key.kind }
-    ensures { Serves (replace_with (name_of key) held.now.value object.value before) result }
+    ensures { Serves (replace_with (name_of key) held.now.object.value object.value before) result }
 {
-    check_update(alloc, held, &object, &key, before)?;
+    check_update(alloc, &held.object, &object, &key, before)?;
     replace_changed(alloc, key, held, object, before)
 }
 
@@ -120,16 +137,16 @@ fn replace_with(
 fn replace_changed(
     alloc: Global,
     key: Key,
-    held: &Object,
+    held: &Held<'_>,
     object: Object,
     before: u64,
 ) -> Result<(Reply, Option<Write>), Fault>
     requires { before ≤ greatest_revision }
-    ensures { Serves (replace_changed (name_of key) held.now.value object.value before) result }
+    ensures { Serves (replace_changed (name_of key) held.now.object.value object.value before) result }
 {
-    if let Some(text) = unchanged(alloc, held, &object)? {
+    if let Some(text) = unchanged(alloc, held.kept, &object)? {
         return Ok((Reply { code: 200, text }, None));
     }
-    let object = updated(alloc, key.kind, object, held, before)?;
-    replaced(alloc, key, held, object, before)
+    let object = updated(alloc, key.kind, object, &held.object, before)?;
+    replaced(alloc, key, &held.object, &object, before)
 }

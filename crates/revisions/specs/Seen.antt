@@ -4,7 +4,7 @@ use denote.Ref.{Bor}
 use Rattle.meta.specs.Keys.{name_of}
 use Rattle.definitions.specs.History.{Members}
 use Rattle.meta.specs.declared.keys.Key.{Key}
-use Rattle.meta.specs.declared.objects.Object.{Object}
+use Rattle.meta.specs.declared.stored.StoredObject.{StoredObject}
 
-abbrev pub seen : List (Bor Key × Bor Object) → Members
+abbrev pub seen : List (Bor Key × Bor StoredObject) → Members
 seen es = map (λ e. (name_of e.0.now, e.1.now.value)) es

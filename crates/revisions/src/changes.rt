@@ -12,7 +12,7 @@ use crate::events::Event;
 use crate::making::{push_change, shown};
 use crate::past::{apply, state_at, up_to};
 use meta::keys::Key;
-use meta::objects::Object;
+use meta::stored::StoredObject;
 use meta::writes::Write;
 use selector::View;
 use std::alloc::{AllocError, Global};
@@ -44,7 +44,10 @@ pub fn changes_between(
 }
 
 /// The object under a key.
-fn found_in<'a>(state: &BTreeMap<&'a Key, &'a Object>, key: &'a Key) -> Option<&'a Object>
+fn found_in<'a>(
+    state: &BTreeMap<&'a Key, &'a StoredObject>,
+    key: &'a Key,
+) -> Option<&'a StoredObject>
     ensures { option_map (λ o. o.now.value) result ≡ found (name_of key.now) (seen state.now.entries) }
 {
     state.get(&key).copied()

@@ -2,7 +2,7 @@
 
 use definitions::frames::ChangeKind;
 use meta::keys::Key;
-use meta::objects::Object;
+use meta::stored::StoredObject;
 
 /// What a write did to an object that a view asks for.
 #[derive(Drop)]
@@ -12,5 +12,5 @@ pub struct Event {
     pub revision: u64,
     pub key: Key,
     /// The object after the write; of an object that is gone, the last one, at the revision of the write.
-    pub object: Object,
+    pub object: StoredObject,
 }

@@ -2,7 +2,7 @@
 use crate::changes::changes_between;
 use crate::events::Event;
 use crate::past::{put_in, state_at};
-use meta::objects::Object;
+use meta::stored::StoredObject;
 use meta::writes::Write;
 use selector::View;
 use std::alloc::{AllocError, Global};
@@ -69,7 +69,7 @@ impl Journal {
     }
 
     /// The object that the write at a place put, the first place being 0. It takes no memory.
-    pub fn put_at(&self, place: usize) -> Option<&Object>
+    pub fn put_at(&self, place: usize) -> Option<&StoredObject>
         ensures { option_map (λ o. o.now.value) result ≡ put_at self.now place }
     {
         put_in(self.writes.as_slice(), place)
@@ -81,7 +81,7 @@ impl Journal {
         alloc: Global,
         view: &View,
         revision: u64,
-    ) -> Result<Vec<&'a Object>, AllocError>
+    ) -> Result<Vec<&'a StoredObject>, AllocError>
         ensures { IfOk result (λ found. map (λ o. o.now.value) found.items
             ≡ map (λ m. m.1) (list self.entry.now (view_of view.entry.now) revision)) }
     {

@@ -10,11 +10,16 @@ use crate::events::Event;
 use definitions::frames::ChangeKind;
 use meta::keys::Key;
 use meta::objects::Object;
+use meta::stored::StoredObject;
 use selector::View;
 use std::alloc::{AllocError, Global};
 
 /// The object, if the view asks for it. It takes no memory.
-pub fn shown<'a>(view: &View, key: &Key, object: Option<&'a Object>) -> Option<&'a Object>
+pub fn shown<'a>(
+    view: &View,
+    key: &Key,
+    object: Option<&'a StoredObject>,
+) -> Option<&'a StoredObject>
     ensures { option_map (λ o. o.now.value) result
         ≡ shown (view_of view.now) (name_of key.now) (option_map (λ o. o.now.value) object.entry) }
 {
@@ -36,8 +41,8 @@ pub fn push_change(
     changes: &mut Vec<Event>,
     revision: u64,
     key: &Key,
-    old: Option<&Object>,
-    new: Option<&Object>,
+    old: Option<&StoredObject>,
+    new: Option<&StoredObject>,
 ) -> Result<(), AllocError>
     ensures { OnOk result (map change_seen changes.new.items ≡ map change_seen changes.old.items
         ++ change_of revision (name_of key.now) (option_map (λ o. o.now.value) old.entry) (option_map (λ o. o.now.value) new.entry)) }
@@ -59,13 +64,22 @@ pub fn push_change(
 }
 
 /// A copy of an object, at the revision of the write by which it is gone.
-fn gone_at(alloc: Global, revision: u64, object: &Object) -> Result<Object, AllocError>
+fn gone_at(alloc: Global, revision: u64, object: &StoredObject) -> Result<StoredObject, AllocError>
     ensures value { IfOk result (λ o. o.value ≡ gone_at revision object.now.value) }
     ensures kind { IfOk result (λ o. o.kind ≡ object.now.kind) }
 {
+    let gone = at_revision(alloc, revision, object.open(alloc)?)?;
+    StoredObject::new(alloc, &gone)
+}
+
+/// The object, at another revision.
+fn at_revision(alloc: Global, revision: u64, object: Object) -> Result<Object, AllocError>
+    ensures value { IfOk result (λ o. o.value ≡ gone_at revision object.value) }
+    ensures kind { IfOk result (λ o. o.kind ≡ object.kind) }
+{
     let digits = revision.to_string(alloc)?;
-    let mut draft = object.try_copy()?.open(alloc)?;
+    let mut draft = object.open(alloc)?;
     draft.set_text(alloc, "resourceVersion", digits.as_str())?;
-    let gone = draft.close(alloc)?;
-    Ok(gone)
+    let object = draft.close(alloc)?;
+    Ok(object)
 }

@@ -7,7 +7,7 @@ ghost use Rattle.revisions.specs.Journals.{history_of};
 ghost use Rattle.revisions.specs.Seen.{seen};
 
 use meta::keys::Key;
-use meta::objects::Object;
+use meta::stored::StoredObject;
 use meta::writes::Write;
 use std::alloc::{AllocError, Global};
 use std::collections::BTreeMap;
@@ -17,7 +17,7 @@ pub(crate) fn state_at<'a>(
     alloc: Global,
     writes: &'a [Write],
     revision: u64,
-) -> Result<BTreeMap<&'a Key, &'a Object>, AllocError>
+) -> Result<BTreeMap<&'a Key, &'a StoredObject>, AllocError>
     ensures { IfOk result (λ m. seen m.entries ≡ members (history_of writes.entry.now) revision) }
 {
     let mut state = BTreeMap::new(alloc);
@@ -29,7 +29,7 @@ pub(crate) fn state_at<'a>(
 
 /// Takes one write into the state.
 pub(crate) fn apply<'a>(
-    state: &mut BTreeMap<&'a Key, &'a Object>,
+    state: &mut BTreeMap<&'a Key, &'a StoredObject>,
     write: &'a Write,
 ) -> Result<(), AllocError>
     ensures { OnOk result (seen state.new.entries ≡ after (seen state.old.entries) (write_of write.now)) }
@@ -39,9 +39,9 @@ pub(crate) fn apply<'a>(
 
 /// Puts an object under a key, or, with none, removes the one that is there. The error is want of memory.
 pub fn put_or_remove<'a>(
-    state: &mut BTreeMap<&'a Key, &'a Object>,
+    state: &mut BTreeMap<&'a Key, &'a StoredObject>,
     key: &'a Key,
-    object: Option<&'a Object>,
+    object: Option<&'a StoredObject>,
 ) -> Result<(), AllocError>
     ensures { OnOk result (seen state.new.entries
         ≡ put_or_remove (seen state.old.entries) (name_of key.now) (option_map (λ o. o.now.value) object.entry)) }
@@ -70,7 +70,7 @@ pub(crate) fn up_to(writes: &[Write], revision: u64) -> &[Write]
 }
 
 /// The object that the write at a place put.
-pub(crate) fn put_in(writes: &[Write], place: usize) -> Option<&Object>
+pub(crate) fn put_in(writes: &[Write], place: usize) -> Option<&StoredObject>
     ensures { option_map (λ o. o.now.value) result ≡ put_at (history_of writes.now) place }
 {
     match writes.get(place) {

@@ -1,6 +1,6 @@
 use crate::Journal;
 use definitions::kinds::Kind;
-use meta::{Key, Object, Write};
+use meta::{Key, Object, StoredObject, Write};
 use selector::View;
 use serde_json::Value;
 use std::alloc::Global;
@@ -21,11 +21,11 @@ fn put(alloc: Global, key: Key, label: &str) -> Result<Write, Fail> {
     let object = Object::from_value(alloc, key.kind, value)?;
     Ok(Write {
         key,
-        put: Some(object),
+        put: Some(StoredObject::new(alloc, &object)?),
     })
 }
 
-fn label(object: Option<&Object>) -> Option<&str> {
+fn label(object: Option<&StoredObject>) -> Option<&str> {
     object?.label("is")
 }
 
@@ -131,6 +131,7 @@ fn changed(
     let found = journal.changes(alloc, &View::whole(alloc, kind, namespace), from, to)?;
     let mut lines = String::new(alloc);
     for event in found.iter() {
+        let object = event.object.open(alloc)?;
         let line = format!(in alloc;
             "{} {} {}/{} {} {}\n",
             event.kind.frame_kind().text(),
@@ -138,7 +139,7 @@ fn changed(
             event.key.namespace.as_str(),
             event.key.name.as_str(),
             label(Some(&event.object)).unwrap_or("none"),
-            event.object.resource_version().unwrap_or("none"),
+            object.resource_version().unwrap_or("none"),
         )?;
         lines.push_str(line.as_str())?;
     }

@@ -5,7 +5,7 @@ ghost use Rattle.definitions.specs.Selectors.{is_among, holds, meets};
 ghost use Rattle.selector.specs.Seen.{now, texts_of, requirement_of, labels_in};
 
 use definitions::selectors::Operator;
-use meta::objects::Object;
+use meta::stored::StoredObject;
 use serde_json::Value;
 
 /// What a selector says of the label under a key (Kubernetes, Labels and Selectors).
@@ -67,7 +67,7 @@ impl Requirement {
     }
 
     /// Whether an object's labels meet it. It takes no memory.
-    pub fn is_met_by(&self, object: &Object) -> bool
+    pub fn is_met_by(&self, object: &StoredObject) -> bool
         ensures { result ≡ meets (requirement_of self.now) (labels_of object.now.value) }
     {
         self.holds(object.label(self.key.as_str()))

@@ -1,7 +1,7 @@
 //! Texts and values of selectors, with what they match or that they are refused, by the rules of Kubernetes.
 use crate::{Fault, Fields, Selector};
 use definitions::kinds::Kind;
-use meta::Object;
+use meta::{Object, StoredObject};
 use serde_json::Value;
 use std::alloc::Global;
 use std::test::Fail;
@@ -187,8 +187,15 @@ fn values_match_labels(rt: HostRuntime) -> Result<(), Fail> {
     Ok(())
 }
 
+/// A Pod, as it is kept.
+fn stored(alloc: Global, text: &str) -> Result<StoredObject, Fail> {
+    let value = Value::from_str(alloc, text)?;
+    let object = Object::from_value(alloc, Kind::Pod, value)?;
+    Ok(StoredObject::new(alloc, &object)?)
+}
+
 /// Whether a text selects an object, and whether it selects what has no labels.
-fn selects(alloc: Global, text: &str, object: &Object) -> Result<(bool, bool), Fault> {
+fn selects(alloc: Global, text: &str, object: &StoredObject) -> Result<(bool, bool), Fault> {
     let selector = Selector::parse(alloc, text)?;
     Ok((selector.selects(object), selector.matches(None)))
 }
@@ -196,10 +203,8 @@ fn selects(alloc: Global, text: &str, object: &Object) -> Result<(bool, bool), F
 #[test]
 fn objects_are_selected_by_their_labels(rt: HostRuntime) -> Result<(), Fail> {
     let alloc = rt.alloc();
-    let labelled = Value::from_str(alloc, r#"{"metadata":{"name":"a","labels":{"app":"web"}}}"#)?;
-    let labelled = Object::from_value(alloc, Kind::Pod, labelled)?;
-    let bare = Value::from_str(alloc, r#"{"metadata":{"name":"b"}}"#)?;
-    let bare = Object::from_value(alloc, Kind::Pod, bare)?;
+    let labelled = stored(alloc, r#"{"metadata":{"name":"a","labels":{"app":"web"}}}"#)?;
+    let bare = stored(alloc, r#"{"metadata":{"name":"b"}}"#)?;
     let cases = [
         ("", true, true),
         ("app=web", true, false),

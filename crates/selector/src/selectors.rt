@@ -12,7 +12,7 @@ use crate::requirements::Requirement;
 use crate::texts::requirements;
 use crate::value_types::is_typed;
 use crate::values;
-use meta::objects::Object;
+use meta::stored::StoredObject;
 use serde_json::Value;
 use std::alloc::Global;
 use std::marker::Model;
@@ -49,7 +49,7 @@ fn all_are_met(requirements: &Vec<Requirement>, labels: Option<&Value>) -> bool
 }
 
 /// Whether an object's labels meet each requirement.
-fn all_are_met_by(requirements: &Vec<Requirement>, object: &Object) -> bool
+fn all_are_met_by(requirements: &Vec<Requirement>, object: &StoredObject) -> bool
     ensures { result ≡ meets_all (requirements_of requirements.now.items) (labels_of object.now.value) }
 {
     for requirement in requirements {
@@ -117,7 +117,7 @@ impl Selector {
     }
 
     /// Whether it selects an object. It takes no memory.
-    pub fn selects(&self, object: &Object) -> bool
+    pub fn selects(&self, object: &StoredObject) -> bool
         ensures { result ≡ meets_all self.now (labels_of object.now.value) }
     {
         all_are_met_by(&self.requirements, object)

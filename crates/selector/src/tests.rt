@@ -1,6 +1,6 @@
 use crate::View;
 use definitions::kinds::Kind;
-use meta::{Key, Object};
+use meta::{Key, Object, StoredObject};
 use serde_json::Value;
 use std::alloc::Global;
 use std::test::Fail;
@@ -18,7 +18,7 @@ fn view(alloc: Global, kind: Kind, namespace: Option<&str>) -> Result<View, Fail
 fn a_view_has_one_kind_in_one_namespace_or_in_all(rt: HostRuntime) -> Result<(), Fail> {
     let alloc = rt.alloc();
     let value = Value::from_str(alloc, r#"{"metadata":{"name":"a","namespace":"default"}}"#)?;
-    let object = Object::from_value(alloc, Kind::Pod, value)?;
+    let object = StoredObject::new(alloc, &Object::from_value(alloc, Kind::Pod, value)?)?;
     let key = Key {
         kind: Kind::Pod,
         namespace: String::from_str(alloc, "default")?,

@@ -7,7 +7,7 @@ use crate::fields::Fields;
 use crate::selectors::Selector;
 use definitions::kinds::Kind;
 use meta::keys::Key;
-use meta::objects::Object;
+use meta::stored::StoredObject;
 use std::alloc::Global;
 
 /// What a list or a watch asks for (Kubernetes API Concepts, Resource URIs; Labels and Selectors; Field Selectors).
@@ -25,6 +25,7 @@ pub struct View {
 impl View {
     ghost use Rattle.std.specs.Prelude.{◌≡◌, ◌==◌, option_map, string_bytes};
     ghost use Rattle.definitions.specs.History.{in_view, in_namespace, whole};
+    ghost use Rattle.definitions.specs.Lists.{is_selective};
     ghost use Rattle.selector.specs.Views.{view_of};
 
     /// All objects of a kind, in one namespace or in all. It takes no memory.
@@ -39,6 +40,13 @@ impl View {
         }
     }
 
+    /// Whether the view selects by labels or fields, and not by kind and namespace alone. It takes no memory.
+    pub fn is_selective(&self) -> bool
+        ensures { result ≡ is_selective (view_of self.now) }
+    {
+        !(self.labels.is_empty() && self.fields.is_empty())
+    }
+
     /// Whether the view asks for a namespace.
     fn has_namespace(&self, namespace: &str) -> bool
         ensures { result ≡ in_namespace (option_map string_bytes self.now.namespace) namespace.now }
@@ -50,7 +58,7 @@ impl View {
     }
 
     /// Whether the view asks for an object under a key. It takes no memory.
-    pub fn contains(&self, key: &Key, object: &Object) -> bool
+    pub fn contains(&self, key: &Key, object: &StoredObject) -> bool
         ensures { result ≡ in_view (view_of self.now) (name_of key.now) object.now.value }
     {
         self.kind == key.kind

@@ -1,9 +1,11 @@
--- What a view asks for lies between the first key that it may ask for and the first after them.
-use Rattle.std.proofs.Common.{◌≡◌, ℕ, ◌==◌, ◌&&◌, not, Bool, true, false, cond, List, [], ◌∷◌, ◌++◌, Option, Some, None, IfSome, option_map, unwrap_or, nat_cmp, is_le, is_gt, Ordering, Less, Equal, Greater, refl, sym, ap, ◌∙◌, subst, arith}
-use Rattle.std.proofs.lemmas.Cmp.{nat_cmp_total, nat_list_cmp_total, tied_itself}
+-- What a view asks for after a place lies between the first key that it may ask for there and the first past them.
+use Rattle.std.proofs.Common.{◌≡◌, ℕ, zero, suc, ◌==◌, ◌&&◌, not, Bool, true, false, cond, List, [], ◌∷◌, ◌++◌, Option, Some, None, IfSome, option_map, unwrap_or, nat_cmp, is_lt, is_eq, is_le, is_gt, Ordering, Less, Equal, Greater, refl, sym, ap, ◌∙◌, subst, arith}
+use Rattle.std.proofs.lemmas.Cmp.{nat_cmp_total, nat_list_cmp_total, tied_itself, upto, on_total, then_total}
+use Rattle.std.proofs.lemmas.Map.Text.{is_eq-slice_cmp}
 use Rattle.std.proofs.lemmas.Slice.Eq.{bytes_eq-Decides}
 use Rattle.std.specs.List.{filter}
-use Rattle.std.specs.Ordering.{ordering_then}
+use Rattle.std.specs.Cmp.{IsTotalOrder}
+use Rattle.std.specs.Ordering.{ordering_then, ordering_reverse}
 use Rattle.std.specs.Cmp.Lexicographic.{slice_cmp}
 use Rattle.std.specs.BTreeMap.Range.{entries_between, range_contains}
 use Rattle.std.specs.Str.{bytes_eq}
@@ -12,16 +14,18 @@ use Rattle.serde_json.specs.Data.{Data}
 use Rattle.definitions.specs.History.{View, Members, in_view, in_namespace, viewed}
 use Rattle.definitions.specs.Kinds.{rank}
 use Rattle.definitions.specs.Labels.{labels_of}
+use Rattle.definitions.specs.Lists.{is_selective}
 use Rattle.definitions.specs.Names.{Name, name_cmp}
-use Rattle.definitions.specs.SelectorFields.{fields_meet}
-use Rattle.definitions.specs.Selectors.{meets_all}
+use Rattle.definitions.specs.Pages.{Place, is_after, after_place}
+use Rattle.definitions.specs.SelectorFields.{FieldRequirement, fields_meet}
+use Rattle.definitions.specs.Selectors.{Requirement, meets_all}
 use Rattle.definitions.specs.declared.kinds.Kind.{Kind}
 use Rattle.definitions.specs.declared.kinds.Kind.TheVariants.{ConfigMap, Pod, ReplicaSet, Deployment}
 use Rattle.meta.specs.Keys.{name_of}
 use Rattle.meta.specs.declared.keys.Key.{Key}
-use Rattle.meta.specs.declared.objects.Object.{Object}
+use Rattle.meta.specs.declared.stored.StoredObject.{StoredObject}
 use Rattle.meta.proofs.KeyOrder.{key_cmp-name_cmp}
-use Rattle.store.specs.AskedKeys.{kind_after, first_name, first_asked, first_past}
+use Rattle.store.specs.AskedKeys.{kind_after, first_name, first_asked, first_past, first_after, start_name, earlier, later}
 use Rattle.store.specs.Seen.{members_seen}
 use Rattle.store.proofs.SeenMaps.{key_cmp}
 
@@ -96,55 +100,302 @@ parts : (v : View) (k : Name) (d : Data) → in_view v k d ≡ true → (rank v.
 parts v k d is =
     let p = asks (rank v.kind == rank k.kind) (in_namespace v.namespace k.namespace) (meets_all v.labels (labels_of d)) (fields_meet v.fields k.name k.namespace) is in (same_rank (rank v.kind) (rank k.kind) p.0, p.1)
 
--- ---- keys
+-- ---- the order of names
 
-key_from : (v : View) (first : Key) → name_of first ≡ first_asked v → (k : Key) (d : Data) → in_view v (name_of k) d ≡ true → is_le (key_cmp first k) ≡ true
-key_from v first named k d is =
-    let p = parts v (name_of k) d is in
-    ap is_le (key_cmp-name_cmp first k ∙ ap (λ n. name_cmp n (name_of k)) named)
-    ∙ from_at (rank v.kind) (rank k.kind) (slice_cmp nat_cmp (unwrap_or v.namespace []) (name_of k).namespace) (name_of k).name p.0 (namespace_from v.namespace (name_of k).namespace p.1)
+name_total : IsTotalOrder name_cmp
+name_total = then_total (on_total (λ (n : Name). rank n.kind) nat_cmp_total) (then_total (on_total (λ (n : Name). n.namespace) nat_list_cmp_total) (on_total (λ (n : Name). n.name) nat_list_cmp_total))
 
-key_past : (v : View) (past : Key) → Some (name_of past) ≡ first_past v.kind v.namespace → (k : Key) (d : Data) → in_view v (name_of k) d ≡ true → is_le (key_cmp past k) ≡ false
-key_past v past named k d is =
-    let p = parts v (name_of k) d is in
-    let later : is_le (name_cmp (name_of past) (name_of k)) ≡ false = subst (λ o. IfSome o (λ p. is_le (name_cmp p (name_of k)) ≡ false)) (sym named) (past_after v.kind v.namespace (name_of k) p.0 p.1) in
-    ap is_le (key_cmp-name_cmp past k) ∙ later
+gt-le : (o : Ordering) → is_le o ≡ true → is_gt o ≡ false
+gt-le Less le = refl
+gt-le Equal le = refl
+gt-le Greater le = sym le
 
--- the first key that is asked for is no later than the first after them
-pub keys_forward : (v : View) (first past : Key) → name_of first ≡ first_asked v → Some (name_of past) ≡ first_past v.kind v.namespace → is_gt (key_cmp first past) ≡ false
-keys_forward v first past named after =
-    let forward : is_gt (name_cmp (first_asked v) (name_of past)) ≡ false = subst (λ o. IfSome o (λ p. is_gt (name_cmp (first_asked v) p) ≡ false)) (sym after) (goes_forward v.kind v.namespace) in
-    ap is_gt (key_cmp-name_cmp first past ∙ ap (λ n. name_cmp n (name_of past)) named) ∙ forward
+le-gt : (o : Ordering) → is_gt o ≡ false → is_le o ≡ true
+le-gt Less le = refl
+le-gt Equal le = refl
+le-gt Greater le = sym le
+
+back-lt : (o : Ordering) → is_lt o ≡ false → is_le (ordering_reverse o) ≡ true
+back-lt Less never = sym never
+back-lt Equal never = refl
+back-lt Greater never = refl
+
+lt-le : (o : Ordering) → is_lt o ≡ true → is_le o ≡ true
+lt-le Less less = refl
+lt-le Equal less = refl
+lt-le Greater less = less
+
+-- what is not before is after or level
+not-before : (a b : Name) → is_lt (name_cmp a b) ≡ false → is_le (name_cmp b a) ≡ true
+not-before a b never = ap is_le (name_total.antisymm b a) ∙ back-lt (name_cmp a b) never
+
+le_through : (a b c : Name) → is_le (name_cmp a b) ≡ true → is_le (name_cmp b c) ≡ true → is_le (name_cmp a c) ≡ true
+le_through a b c p q = le-gt (name_cmp a c) (upto name_total a b c (gt-le (name_cmp a b) p) (gt-le (name_cmp b c) q))
+
+first-later : (a b : Name) → is_le (name_cmp a (later a b)) ≡ true
+first-later a b = by (is_lt (name_cmp a b)) refl
+  where
+    by : (c : Bool) → is_lt (name_cmp a b) ≡ c → is_le (name_cmp a (cond c b a)) ≡ true
+    by true is = lt-le (name_cmp a b) is
+    by false is = ap is_le (tied_itself name_total a)
+
+-- ---- after a place
+
+then_next : (o r q : Ordering) → is_le r ≡ is_lt q → is_le (ordering_then o r) ≡ is_lt (ordering_then o q)
+then_next Less r q same = refl
+then_next Equal r q same = same
+then_next Greater r q same = refl
+
+-- the texts that are no earlier than a text and a zero are those after the text
+zero_next : (s t : List ℕ) → is_le (slice_cmp nat_cmp (s ++ 0 ∷ []) t) ≡ is_lt (slice_cmp nat_cmp s t)
+zero_next [] [] = refl
+zero_next [] (zero ∷ t) = nil_first t
+zero_next [] (suc y ∷ t) = grind arith
+zero_next (x ∷ s) [] = refl
+zero_next (x ∷ s) (y ∷ t) = then_next (nat_cmp x y) (slice_cmp nat_cmp (s ++ 0 ∷ []) t) (slice_cmp nat_cmp s t) (zero_next s t)
+
+-- the names of a kind that are no earlier than the first after a place are those after it
+next_place : (j : Kind) (p : Place) (k : Name) → rank j ≡ rank k.kind → is_le (name_cmp (first_after j p) k) ≡ is_after (Some p) k
+next_place j p k same =
+    subst (λ n. is_le (ordering_then (nat_cmp (rank j) n) (ordering_then (slice_cmp nat_cmp p.namespace k.namespace) (slice_cmp nat_cmp (p.name ++ 0 ∷ []) k.name))) ≡ is_after (Some p) k) same
+    (ap (λ o. is_le (ordering_then o (ordering_then (slice_cmp nat_cmp p.namespace k.namespace) (slice_cmp nat_cmp (p.name ++ 0 ∷ []) k.name)))) (tied_itself nat_cmp_total (rank j))
+    ∙ then_next (slice_cmp nat_cmp p.namespace k.namespace) (slice_cmp nat_cmp (p.name ++ 0 ∷ []) k.name) (slice_cmp nat_cmp p.name k.name) (zero_next p.name k.name))
+
+name_from : (v : View) (k : Name) (d : Data) → in_view v k d ≡ true → is_le (name_cmp (first_asked v) k) ≡ true
+name_from v k d is =
+    let p = parts v k d is in
+    from_at (rank v.kind) (rank k.kind) (slice_cmp nat_cmp (unwrap_or v.namespace []) k.namespace) k.name p.0 (namespace_from v.namespace k.namespace p.1)
+
+later_from : (a b k : Name) → is_le (name_cmp a k) ≡ true → is_le (name_cmp (later a b) k) ≡ is_le (name_cmp b k)
+later_from a b k from = by (is_lt (name_cmp a b)) refl
+  where
+    by : (c : Bool) → is_lt (name_cmp a b) ≡ c → is_le (name_cmp (cond c b a) k) ≡ is_le (name_cmp b k)
+    by true is = refl
+    by false is = from ∙ sym (le_through b a k (not-before a b is) from)
+
+-- of what a view asks for, just what is after the place is no earlier than the start
+start-after : (v : View) (p : Option Place) (k : Name) (d : Data) → in_view v k d ≡ true → is_le (name_cmp (start_name v p) k) ≡ is_after p k
+start-after v None k d is = name_from v k d is
+start-after v (Some p) k d is =
+    later_from (first_asked v) (first_after v.kind p) k (name_from v k d is) ∙ next_place v.kind p k (parts v k d is).0
+
+start-first : (v : View) (p : Option Place) → is_le (name_cmp (first_asked v) (start_name v p)) ≡ true
+start-first v None = ap is_le (tied_itself name_total (first_asked v))
+start-first v (Some p) = first-later (first_asked v) (first_after v.kind p)
+
+-- ---- before the first name past a view
+
+name_past : (v : View) (past : Name) → Some past ≡ first_past v.kind v.namespace → (k : Name) (d : Data) → in_view v k d ≡ true → is_le (name_cmp past k) ≡ false
+name_past v past named k d is =
+    let p = parts v k d is in
+    subst (λ o. IfSome o (λ p. is_le (name_cmp p k) ≡ false)) (sym named) (past_after v.kind v.namespace k p.0 p.1)
+
+first_forward : (v : View) (past : Name) → Some past ≡ first_past v.kind v.namespace → is_le (name_cmp (first_asked v) past) ≡ true
+first_forward v past named =
+    le-gt (name_cmp (first_asked v) past) (subst (λ o. IfSome o (λ p. is_gt (name_cmp (first_asked v) p) ≡ false)) (sym named) (goes_forward v.kind v.namespace))
+
+earlier-second : (a b : Name) → is_le (name_cmp (earlier a b) b) ≡ true
+earlier-second a b = by (is_lt (name_cmp a b)) refl
+  where
+    by : (c : Bool) → is_lt (name_cmp a b) ≡ c → is_le (name_cmp (cond c a b) b) ≡ true
+    by true is = lt-le (name_cmp a b) is
+    by false is = ap is_le (tied_itself name_total b)
+
+-- below the second, the earlier of two names is as the first
+earlier-below : (a b k : Name) → is_le (name_cmp b k) ≡ false → is_le (name_cmp (earlier a b) k) ≡ is_le (name_cmp a k)
+earlier-below a b k below = by (is_lt (name_cmp a b)) refl
+  where
+    never : (c : Bool) → is_lt (name_cmp a b) ≡ false → is_le (name_cmp a k) ≡ c → false ≡ c
+    never true is le = sym below ∙ le_through b a k (not-before a b is) le
+    never false is le = refl
+
+    by : (c : Bool) → is_lt (name_cmp a b) ≡ c → is_le (name_cmp (cond c a b) k) ≡ is_le (name_cmp a k)
+    by true is = refl
+    by false is = below ∙ never (is_le (name_cmp a k)) is refl
+
+earlier-from : (f a b : Name) → is_le (name_cmp f a) ≡ true → is_le (name_cmp f b) ≡ true → is_le (name_cmp f (earlier a b)) ≡ true
+earlier-from f a b p q = by (is_lt (name_cmp a b))
+  where
+    by : (c : Bool) → is_le (name_cmp f (cond c a b)) ≡ true
+    by true = p
+    by false = q
+
+-- ---- all of a kind in a namespace
+
+le_same : (s t : List ℕ) → is_le (slice_cmp nat_cmp s t) ≡ true → is_lt (slice_cmp nat_cmp s t) ≡ false → bytes_eq s t ≡ true
+le_same s t le least = sym (is_eq-slice_cmp s t) ∙ by (slice_cmp nat_cmp s t) le least
+  where
+    by : (o : Ordering) → is_le o ≡ true → is_lt o ≡ false → is_eq o ≡ true
+    by Less le least = sym least
+    by Equal le least = refl
+    by Greater le least = le
+
+-- no name of another kind, nor of another namespace, is between the first of a namespace and the first of the next
+of_both : (m n : ℕ) (s t x : List ℕ) → is_le (ordering_then (nat_cmp m n) (ordering_then (slice_cmp nat_cmp s t) (slice_cmp nat_cmp [] x))) ≡ true
+    → is_le (ordering_then (nat_cmp m n) (ordering_then (slice_cmp nat_cmp (s ++ 0 ∷ []) t) (slice_cmp nat_cmp [] x))) ≡ false → ((m == n) ≡ true) × (bytes_eq s t ≡ true)
+of_both m n s t x from below = by (nat_cmp m n) refl from below
+  where
+    low : (o : Ordering) → is_le (ordering_then o (slice_cmp nat_cmp [] x)) ≡ true → is_le o ≡ true
+    low Less le = refl
+    low Equal le = refl
+    low Greater le = le
+
+    high : (o : Ordering) → is_le (ordering_then o (slice_cmp nat_cmp [] x)) ≡ false → is_le o ≡ false
+    high Less never = never
+    high Equal never = sym (nil_first x) ∙ never
+    high Greater never = refl
+
+    by : (o : Ordering) → nat_cmp m n ≡ o → is_le (ordering_then o (ordering_then (slice_cmp nat_cmp s t) (slice_cmp nat_cmp [] x))) ≡ true
+        → is_le (ordering_then o (ordering_then (slice_cmp nat_cmp (s ++ 0 ∷ []) t) (slice_cmp nat_cmp [] x))) ≡ false → ((m == n) ≡ true) × (bytes_eq s t ≡ true)
+    by Less is from below = let not_so : true ≡ false = below in cc
+    by Equal is from below =
+        (grind arith, le_same s t (low (slice_cmp nat_cmp s t) from) (sym (zero_next s t) ∙ high (slice_cmp nat_cmp (s ++ 0 ∷ []) t) below))
+    by Greater is from below = let not_so : false ≡ true = from in cc
+
+-- a kind between a kind and the next is that kind
+same_kind : (j : Kind) (k : Name) → is_le (name_cmp (first_name j []) k) ≡ true → IfSome (option_map (λ next. first_name next []) (kind_after j)) (λ p. is_le (name_cmp p k) ≡ false) → (rank j == rank k.kind) ≡ true
+same_kind j k from below = by j k.kind k.namespace k.name from below
+  where
+    by : (j l : Kind) (t x : List ℕ) → is_le (name_cmp (first_name j []) (record { kind = l; namespace = t; name = x })) ≡ true
+        → IfSome (option_map (λ next. first_name next []) (kind_after j)) (λ p. is_le (name_cmp p (record { kind = l; namespace = t; name = x })) ≡ false) → (rank j == rank l) ≡ true
+    by ConfigMap ConfigMap t x from below = refl
+    by ConfigMap Pod t x from below = sym below ∙ from_at 1 1 (slice_cmp nat_cmp [] t) x refl (nil_first t)
+    by ConfigMap ReplicaSet t x from below = sym below
+    by ConfigMap Deployment t x from below = sym below
+    by Pod ConfigMap t x from below = from
+    by Pod Pod t x from below = refl
+    by Pod ReplicaSet t x from below = sym below ∙ from_at 2 2 (slice_cmp nat_cmp [] t) x refl (nil_first t)
+    by Pod Deployment t x from below = sym below
+    by ReplicaSet ConfigMap t x from below = from
+    by ReplicaSet Pod t x from below = from
+    by ReplicaSet ReplicaSet t x from below = refl
+    by ReplicaSet Deployment t x from below = sym below ∙ from_at 3 3 (slice_cmp nat_cmp [] t) x refl (nil_first t)
+    by Deployment ConfigMap t x from below = from
+    by Deployment Pod t x from below = from
+    by Deployment ReplicaSet t x from below = from
+    by Deployment Deployment t x from below = refl
+
+-- between the first name that a view may ask for and the first past them, each is of its kind and in its namespace
+all_between : (j : Kind) (o : Option (List ℕ)) (k : Name) → is_le (name_cmp (first_name j (unwrap_or o [])) k) ≡ true → IfSome (first_past j o) (λ p. is_le (name_cmp p k) ≡ false)
+    → ((rank j == rank k.kind) ≡ true) × (in_namespace o k.namespace ≡ true)
+all_between j None k from below = (same_kind j k from below, refl)
+all_between j (Some s) k from below = of_both (rank j) (rank k.kind) s k.namespace k.name from below
+
+-- a view that does not select asks for all of its kind and namespace
+whole_view : (j : Kind) (o : Option (List ℕ)) (ls : List Requirement) (fs : List FieldRequirement) (k : Name) (d : Data) → is_selective (record { kind = j; namespace = o; labels = ls; fields = fs }) ≡ false
+    → (rank j == rank k.kind) ≡ true → in_namespace o k.namespace ≡ true → in_view (record { kind = j; namespace = o; labels = ls; fields = fs }) k d ≡ true
+whole_view j o [] [] k d plain same is = all_four (rank j == rank k.kind) (in_namespace o k.namespace) same is
+  where
+    all_four : (a b : Bool) → a ≡ true → b ≡ true → (a && b && true && true) ≡ true
+    all_four true true p q = refl
+    all_four true false p q = q
+    all_four false b p q = p
+whole_view j o [] (f ∷ fs) k d plain same is = let not_so : true ≡ false = plain in cc
+whole_view j o (l ∷ ls) fs k d plain same is = let not_so : true ≡ false = plain in cc
+
+all-asked : (v : View) → is_selective v ≡ false → (k : Name) (d : Data) → is_le (name_cmp (first_asked v) k) ≡ true → IfSome (first_past v.kind v.namespace) (λ p. is_le (name_cmp p k) ≡ false) → in_view v k d ≡ true
+all-asked v plain k d from below =
+    let p = all_between v.kind v.namespace k from below in whole_view v.kind v.namespace v.labels v.fields k d plain p.0 p.1
 
 -- ---- entries
 
-skipped : (c : Bool) (m : Name × Data) (ms : Members) → (c ≡ true → false ≡ true) → ms ≡ cond c (m ∷ ms) ms
-skipped true m ms never = let not_so : false ≡ true = never refl in cc
-skipped false m ms never = refl
+-- an entry of a filtered map, where the test is whether the entry is after the place if the view asks for it
+kept_at : (v : View) (p : Option Place) (e : Key × StoredObject) (es : List (Key × StoredObject)) (b : Bool) → (in_view v (name_of e.0) e.1.value ≡ true → b ≡ is_after p (name_of e.0))
+    → viewed v (members_seen (cond b (e ∷ es) es)) ≡ cond (in_view v (name_of e.0) e.1.value) (cond (is_after p (name_of e.0)) ((name_of e.0, e.1.value) ∷ viewed v (members_seen es)) (viewed v (members_seen es))) (viewed v (members_seen es))
+kept_at v p e es b same = by b (in_view v (name_of e.0) e.1.value) refl (is_after p (name_of e.0)) same
+  where
+    by : (b c : Bool) → in_view v (name_of e.0) e.1.value ≡ c → (a : Bool) → (c ≡ true → b ≡ a)
+        → viewed v (members_seen (cond b (e ∷ es) es)) ≡ cond c (cond a ((name_of e.0, e.1.value) ∷ viewed v (members_seen es)) (viewed v (members_seen es))) (viewed v (members_seen es))
+    by true true is true same = ap (λ c. cond c ((name_of e.0, e.1.value) ∷ viewed v (members_seen es)) (viewed v (members_seen es))) is
+    by true true is false same = let not_so : true ≡ false = same refl in cc
+    by true false is a same = ap (λ c. cond c ((name_of e.0, e.1.value) ∷ viewed v (members_seen es)) (viewed v (members_seen es))) is
+    by false true is true same = let not_so : false ≡ true = same refl in cc
+    by false true is false same = refl
+    by false false is a same = refl
 
-kept_at : (v : View) (e : Key × Object) (es : List (Key × Object)) (b : Bool) → (in_view v (name_of e.0) e.1.value ≡ true → b ≡ true)
-    → viewed v (members_seen (cond b (e ∷ es) es)) ≡ cond (in_view v (name_of e.0) e.1.value) ((name_of e.0, e.1.value) ∷ viewed v (members_seen es)) (viewed v (members_seen es))
-kept_at v e es true all = refl
-kept_at v e es false all = skipped (in_view v (name_of e.0) e.1.value) (name_of e.0, e.1.value) (viewed v (members_seen es)) all
+after_cond : (p : Option Place) (c : Bool) (m : Name × Data) (ms : Members) → after_place p (cond c (m ∷ ms) ms) ≡ cond c (cond (is_after p m.0) (m ∷ after_place p ms) (after_place p ms)) (after_place p ms)
+after_cond p true m ms = refl
+after_cond p false m ms = refl
 
--- what passes a test that all of a view's keys pass has all of the view
-kept : (v : View) (test : Key → Bool) → ((k : Key) (d : Data) → in_view v (name_of k) d ≡ true → test k ≡ true) → (es : List (Key × Object))
-    → viewed v (members_seen (filter (λ e. test e.0) es)) ≡ viewed v (members_seen es)
-kept v test all [] = refl
-kept v test all (e ∷ es) =
-    kept_at v e (filter (λ (e : Key × Object). test e.0) es) (test e.0) (all e.0 e.1.value)
-    ∙ ap (λ ms. cond (in_view v (name_of e.0) e.1.value) ((name_of e.0, e.1.value) ∷ ms) ms) (kept v test all es)
+-- what passes a test has what the view asks for after a place, if the test tells that of each key that it asks for
+kept : (v : View) (p : Option Place) (test : Key → Bool) → ((k : Key) (d : Data) → in_view v (name_of k) d ≡ true → test k ≡ is_after p (name_of k)) → (es : List (Key × StoredObject))
+    → viewed v (members_seen (filter (λ e. test e.0) es)) ≡ after_place p (viewed v (members_seen es))
+kept v p test same [] = refl
+kept v p test same (e ∷ es) =
+    kept_at v p e (filter (λ (e : Key × StoredObject). test e.0) es) (test e.0) (same e.0 e.1.value)
+    ∙ ap (λ ms. cond (in_view v (name_of e.0) e.1.value) (cond (is_after p (name_of e.0)) ((name_of e.0, e.1.value) ∷ ms) ms) ms) (kept v p test same es)
+    ∙ sym (after_cond p (in_view v (name_of e.0) e.1.value) (name_of e.0, e.1.value) (viewed v (members_seen es)))
 
-both : (a b : Bool) → a ≡ true → b ≡ false → (a && not b) ≡ true
-both true true p q = sym q
-both true false p q = refl
-both false b p q = p
+-- where the view asks for each that passes a test, it asks for all of what passes it
+all_kept : (v : View) (test : Key → Bool) → ((k : Key) (d : Data) → test k ≡ true → in_view v (name_of k) d ≡ true) → (es : List (Key × StoredObject))
+    → viewed v (members_seen (filter (λ e. test e.0) es)) ≡ members_seen (filter (λ e. test e.0) es)
+all_kept v test all [] = refl
+all_kept v test all (e ∷ es) = by (filter (λ (e : Key × StoredObject). test e.0) es) (all_kept v test all es) (test e.0) refl
+  where
+    by : (fs : List (Key × StoredObject)) → viewed v (members_seen fs) ≡ members_seen fs → (b : Bool) → test e.0 ≡ b → viewed v (members_seen (cond b (e ∷ fs) fs)) ≡ members_seen (cond b (e ∷ fs) fs)
+    by fs rest true is =
+        ap (λ c. cond c ((name_of e.0, e.1.value) ∷ viewed v (members_seen fs)) (viewed v (members_seen fs))) (all e.0 e.1.value is) ∙ ap (λ ms. (name_of e.0, e.1.value) ∷ ms) rest
+    by fs rest false is = rest
 
-pub between-asked : (v : View) (first past : Key) → name_of first ≡ first_asked v → Some (name_of past) ≡ first_past v.kind v.namespace → (es : List (Key × Object))
-    → viewed v (members_seen (entries_between key_cmp (Included first) (Excluded past) es)) ≡ viewed v (members_seen es)
-between-asked v first past named after es =
-    kept v (range_contains key_cmp (Included first) (Excluded past)) (λ k d is. both (is_le (key_cmp first k)) (is_le (key_cmp past k)) (key_from v first named k d is) (key_past v past after k d is)) es
+-- ---- keys
 
-pub from-asked : (v : View) (first : Key) → name_of first ≡ first_asked v → (es : List (Key × Object)) → viewed v (members_seen (entries_between key_cmp (Included first) Unbounded es)) ≡ viewed v (members_seen es)
-from-asked v first named es =
-    kept v (range_contains key_cmp (Included first) Unbounded) (λ k d is. both (is_le (key_cmp first k)) false (key_from v first named k d is) refl) es
+key-name : (a : Key) (n : Name) → name_of a ≡ n → (k : Key) → is_le (key_cmp a k) ≡ is_le (name_cmp n (name_of k))
+key-name a n named k = ap is_le (key_cmp-name_cmp a k ∙ ap (λ n. name_cmp n (name_of k)) named)
+
+without_false : (a b c : Bool) → a ≡ c → b ≡ false → (a && not b) ≡ c
+without_false true true c p q = sym q ∙ p
+without_false true false c p q = p
+without_false false b c p q = p
+
+both : (a b : Bool) → (a && not b) ≡ true → (a ≡ true) × (b ≡ false)
+both true true h = (refl, sym h)
+both true false h = (refl, refl)
+both false b h = let not_so : false ≡ true = h in cc
+
+-- the range from the start of a view to the first key past it
+pub ends_forward : (start past : Key) (first : Name) → name_of start ≡ earlier first (name_of past) → is_gt (key_cmp start past) ≡ false
+ends_forward start past first named =
+    gt-le (key_cmp start past) (key-name start (earlier first (name_of past)) named past ∙ earlier-second first (name_of past))
+
+pub between-asked : (v : View) (p : Option Place) (start past : Key) → name_of start ≡ earlier (start_name v p) (name_of past) → Some (name_of past) ≡ first_past v.kind v.namespace → (es : List (Key × StoredObject))
+    → viewed v (members_seen (entries_between key_cmp (Included start) (Excluded past) es)) ≡ after_place p (viewed v (members_seen es))
+between-asked v p start past named last es = kept v p (range_contains key_cmp (Included start) (Excluded past)) one es
+  where
+    one : (k : Key) (d : Data) → in_view v (name_of k) d ≡ true → range_contains key_cmp (Included start) (Excluded past) k ≡ is_after p (name_of k)
+    one k d is =
+        let below = name_past v (name_of past) last (name_of k) d is in
+        without_false (is_le (key_cmp start k)) (is_le (key_cmp past k)) (is_after p (name_of k))
+        (key-name start (earlier (start_name v p) (name_of past)) named k ∙ earlier-below (start_name v p) (name_of past) (name_of k) below ∙ start-after v p (name_of k) d is)
+        (key-name past (name_of past) refl k ∙ below)
+
+pub from-asked : (v : View) (p : Option Place) (start : Key) → name_of start ≡ start_name v p → (es : List (Key × StoredObject))
+    → viewed v (members_seen (entries_between key_cmp (Included start) Unbounded es)) ≡ after_place p (viewed v (members_seen es))
+from-asked v p start named es =
+    kept v p (range_contains key_cmp (Included start) Unbounded) (λ k d is. without_false (is_le (key_cmp start k)) false (is_after p (name_of k)) (key-name start (start_name v p) named k ∙ start-after v p (name_of k) d is) refl) es
+
+pub between-all : (v : View) (p : Option Place) (start past : Key) → name_of start ≡ earlier (start_name v p) (name_of past) → Some (name_of past) ≡ first_past v.kind v.namespace → (es : List (Key × StoredObject))
+    → is_selective v ≡ false → viewed v (members_seen (entries_between key_cmp (Included start) (Excluded past) es)) ≡ members_seen (entries_between key_cmp (Included start) (Excluded past) es)
+between-all v p start past named last es plain = all_kept v (range_contains key_cmp (Included start) (Excluded past)) one es
+  where
+    one : (k : Key) (d : Data) → range_contains key_cmp (Included start) (Excluded past) k ≡ true → in_view v (name_of k) d ≡ true
+    one k d is =
+        let ends = both (is_le (key_cmp start k)) (is_le (key_cmp past k)) is in
+        let first = earlier-from (first_asked v) (start_name v p) (name_of past) (start-first v p) (first_forward v (name_of past) last) in
+        let from = le_through (first_asked v) (earlier (start_name v p) (name_of past)) (name_of k) first (sym (key-name start (earlier (start_name v p) (name_of past)) named k) ∙ ends.0) in
+        let below : is_le (name_cmp (name_of past) (name_of k)) ≡ false = sym (key-name past (name_of past) refl k) ∙ ends.1 in
+        all-asked v plain (name_of k) d from (subst (λ o. IfSome o (λ p. is_le (name_cmp p (name_of k)) ≡ false)) last below)
+
+pub from-all : (v : View) (p : Option Place) (start : Key) → name_of start ≡ start_name v p → None ≡ first_past v.kind v.namespace → (es : List (Key × StoredObject))
+    → is_selective v ≡ false → viewed v (members_seen (entries_between key_cmp (Included start) Unbounded es)) ≡ members_seen (entries_between key_cmp (Included start) Unbounded es)
+from-all v p start named last es plain = all_kept v (range_contains key_cmp (Included start) Unbounded) one es
+  where
+    one : (k : Key) (d : Data) → range_contains key_cmp (Included start) Unbounded k ≡ true → in_view v (name_of k) d ≡ true
+    one k d is =
+        let ends = both (is_le (key_cmp start k)) false is in
+        let from = le_through (first_asked v) (start_name v p) (name_of k) (start-first v p) (sym (key-name start (start_name v p) named k) ∙ ends.0) in
+        all-asked v plain (name_of k) d from (subst (λ o. IfSome o (λ p. is_le (name_cmp p (name_of k)) ≡ false)) last tt)
+
+-- without a place, all are after it
+pub after-none : (ms : Members) → after_place None ms ≡ ms
+after-none [] = refl
+after-none (m ∷ ms) = ap (λ ms. m ∷ ms) (after-none ms)

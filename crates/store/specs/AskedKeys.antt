@@ -1,7 +1,9 @@
 -- Where the objects of a view lie in the order of keys.
-use Rattle.std.specs.Prelude.{ℕ, List, [], ◌∷◌, ◌++◌, Option, Some, None, option_map, unwrap_or}
+use Rattle.std.specs.Prelude.{ℕ, List, [], ◌∷◌, ◌++◌, Option, Some, None, option_map, unwrap_or, if◌then◌else◌}
+use Rattle.std.specs.Ordering.{is_lt}
 use Rattle.definitions.specs.History.{View}
-use Rattle.definitions.specs.Names.{Name}
+use Rattle.definitions.specs.Names.{Name, name_cmp}
+use Rattle.definitions.specs.Pages.{Place}
 use Rattle.definitions.specs.declared.kinds.Kind.{Kind}
 use Rattle.definitions.specs.declared.kinds.Kind.TheVariants.{ConfigMap, Pod, ReplicaSet, Deployment}
 
@@ -24,3 +26,18 @@ first_asked v = first_name v.kind (unwrap_or v.namespace [])
 abbrev pub first_past : Kind → Option (List ℕ) → Option Name
 first_past kind None = option_map (λ next. first_name next []) (kind_after kind)
 first_past kind (Some ns) = Some (first_name kind (ns ++ 0 ∷ []))
+
+abbrev pub later : Name → Name → Name
+later a b = if is_lt (name_cmp a b) then b else a
+
+abbrev pub earlier : Name → Name → Name
+earlier a b = if is_lt (name_cmp a b) then a else b
+
+-- the first name of a kind after a place
+abbrev pub first_after : Kind → Place → Name
+first_after kind p = record { kind = kind; namespace = p.namespace; name = p.name ++ 0 ∷ [] }
+
+-- the first name that a view may ask for after a place
+abbrev pub start_name : View → Option Place → Name
+start_name v None = first_asked v
+start_name v (Some p) = later (first_asked v) (first_after v.kind p)

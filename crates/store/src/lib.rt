@@ -1,11 +1,13 @@
 //! The objects that are there, and the present revision.
 #![tactic(auto)]
 
+pub mod chunks;
 pub mod limits;
 mod objects;
 mod ranges;
 pub mod stores;
 
+pub use chunks::Chunk;
 pub use stores::Store;
 
 #[cfg(test)]

@@ -6,14 +6,17 @@ ghost use Rattle.meta.specs.Writes.{write_of};
 ghost use Rattle.store.specs.Seen.{members_seen};
 
 use meta::keys::Key;
-use meta::objects::Object;
+use meta::stored::StoredObject;
 use meta::writes::Write;
 use std::alloc::AllocError;
 use std::collections::BTreeMap;
 
 /// Takes one write, and gives the object that was under its key, which is looked up once. The error is want of memory,
 /// and changes nothing.
-pub fn take(objects: &mut BTreeMap<Key, Object>, write: Write) -> Result<Option<Object>, AllocError>
+pub fn take(
+    objects: &mut BTreeMap<Key, StoredObject>,
+    write: Write,
+) -> Result<Option<StoredObject>, AllocError>
     ensures members { OnOk result (members_seen objects.new.entries ≡ after (members_seen objects.old.entries) (write_of write)) }
     ensures before { IfOk result (λ before. option_map (λ o. o.value) before
         ≡ found (name_of write.key) (members_seen objects.old.entries)) }

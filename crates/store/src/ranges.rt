@@ -1,32 +1,85 @@
 //! Where the objects of a view lie in a map.
-ghost use Rattle.std.specs.Prelude.{◌≡◌, [], IfOk, option_map, string_bytes};
+ghost use Rattle.std.specs.Prelude.{◌≡◌, [], false, IfOk, option_map, string_bytes};
 ghost use Rattle.definitions.specs.History.{viewed};
+ghost use Rattle.definitions.specs.Lists.{is_selective};
+ghost use Rattle.definitions.specs.Pages.{place_of, after_place};
 ghost use Rattle.meta.specs.Keys.{name_of};
 ghost use Rattle.selector.specs.Views.{view_of};
-ghost use Rattle.store.specs.AskedKeys.{kind_after, first_name, first_asked, first_past};
+ghost use Rattle.store.specs.AskedKeys.{kind_after, first_name, first_asked, first_past, first_after, start_name, earlier, later};
+ghost use Rattle.store.specs.Chunks.{after_key};
 ghost use Rattle.store.specs.Seen.{members_seen};
 
 use definitions::kinds::Kind;
 use meta::keys::Key;
-use meta::objects::Object;
+use meta::stored::StoredObject;
 use selector::View;
 use std::alloc::{AllocError, Global};
 use std::collections::BTreeMap;
 use std::collections::btree_map::Range;
 
-/// The objects from the first key that a view may ask for to the last, in the order of keys. The error is want of memory.
+/// The objects from the first key that a view may ask for to the last, or from the first after a key of the place of
+/// `after`, in the order of keys. A view of a kind or a namespace that does not select asks for each of them. The error is
+/// want of memory.
 pub fn asked<'a>(
     alloc: Global,
-    objects: &'a BTreeMap<Key, Object>,
+    objects: &'a BTreeMap<Key, StoredObject>,
     view: &View,
-) -> Result<Range<'a, Key, Object>, AllocError>
-    ensures { IfOk result (λ range. viewed (view_of view.entry.now) (members_seen range)
-        ≡ viewed (view_of view.entry.now) (members_seen objects.entry.now.entries)) }
+    after: Option<Key>,
+) -> Result<Range<'a, Key, StoredObject>, AllocError>
+    ensures found { IfOk result (λ range. viewed (view_of view.entry.now) (members_seen range)
+        ≡ after_place (after_key after) (viewed (view_of view.entry.now) (members_seen objects.entry.now.entries))) }
+    ensures all { IfOk result (λ range. is_selective (view_of view.entry.now) ≡ false
+        → viewed (view_of view.entry.now) (members_seen range) ≡ members_seen range) }
+{
+    let start = start_of(alloc, view, after)?;
+    match first_past(alloc, view)? {
+        None => Ok(objects.range(start..)),
+        Some(past) => {
+            let start = earlier(start, &past)?;
+            Ok(objects.range(start..past))
+        }
+    }
+}
+
+/// The first key that a view may ask for after the place of a key, or at all where none is given.
+fn start_of(alloc: Global, view: &View, after: Option<Key>) -> Result<Key, AllocError>
+    ensures { IfOk result (λ key. name_of key ≡ start_name (view_of view.now) (after_key after)) }
 {
     let first = first_asked(alloc, view)?;
-    match first_past(alloc, view)? {
-        Some(past) => Ok(objects.range(first..past)),
-        None => Ok(objects.range(first..)),
+    match after {
+        None => Ok(first),
+        Some(after) => Ok(later(first, first_after(view.kind, after)?)),
+    }
+}
+
+/// The first key of a kind after the place of a key, whatever the kind of that key.
+fn first_after(kind: Kind, after: Key) -> Result<Key, AllocError>
+    ensures { IfOk result (λ key. name_of key ≡ first_after kind (place_of (name_of after))) }
+{
+    let mut name = after.name;
+    name.push_str("\0")?;
+    Ok(Key {
+        kind,
+        namespace: after.namespace,
+        name,
+    })
+}
+
+/// The later of two keys.
+fn later(first: Key, second: Key) -> Key
+    ensures { name_of result ≡ later (name_of first) (name_of second) }
+{
+    if first < second { second } else { first }
+}
+
+/// The earlier of two keys, the second of which is copied.
+fn earlier(first: Key, second: &Key) -> Result<Key, AllocError>
+    ensures { IfOk result (λ key. name_of key ≡ earlier (name_of first) (name_of second.now)) }
+{
+    if first < *second {
+        Ok(first)
+    } else {
+        second.try_copy()
     }
 }
 

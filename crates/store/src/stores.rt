@@ -1,11 +1,12 @@
 //! A store.
+use crate::chunks::{Chunk, first_members, remaining};
 use crate::limits::{GREATEST_REVISION, MOST_OBJECTS};
 use crate::objects::take;
 use crate::ranges::asked;
 use meta::faults::Fault;
 use meta::keys::Key;
 use meta::lent_members::Member;
-use meta::objects::Object;
+use meta::stored::StoredObject;
 use meta::writes::Write;
 use selector::View;
 use std::alloc::{AllocError, Global};
@@ -16,7 +17,7 @@ use std::marker::Model;
 /// It is seen as a snapshot.
 #[derive(Drop)]
 pub struct Store {
-    objects: BTreeMap<Key, Object>,
+    objects: BTreeMap<Key, StoredObject>,
     revision: u64,
 }
 
@@ -46,6 +47,7 @@ impl Store {
     ghost use Rattle.definitions.specs.Revisions.{greatest_revision};
     ghost use Rattle.definitions.specs.Snapshots.{empty, written};
     ghost use Rattle.definitions.specs.Verbs.{most_objects, overflows};
+    ghost use Rattle.store.specs.Chunks.{IsPage, after_key};
 
     /// The empty store, at revision 1.
     pub fn new(alloc: Global) -> Store
@@ -74,7 +76,7 @@ impl Store {
     }
 
     /// The object under a key. It takes no memory.
-    pub fn get(&self, key: &Key) -> Option<&Object>
+    pub fn get(&self, key: &Key) -> Option<&StoredObject>
         ensures { option_map (λ o. o.now.value) result ≡ found (name_of key.now) self.now.members }
     {
         self.objects.get(key)
@@ -91,7 +93,7 @@ impl Store {
 
     /// Takes one write, which has the next revision, and gives the object that was under its key. An error changes
     /// nothing: storage is full for just the writes that overflow it, and memory can be wanting.
-    pub fn apply(&mut self, write: Write) -> Result<Option<Object>, Fault>
+    pub fn apply(&mut self, write: Write) -> Result<Option<StoredObject>, Fault>
         ensures ok { OnOk result (self.new ≡ written self.old (write_of write)) }
         ensures before { IfOk result (λ before. option_map (λ o. o.value) before
             ≡ found (name_of write.key) self.old.members) }
@@ -115,11 +117,30 @@ impl Store {
             ≡ viewed (view_of view.entry.now) self.entry.now.members) }
     {
         let mut found = Vec::new(alloc);
-        for (key, object) in asked(alloc, &self.objects, view)? {
+        for (key, object) in asked(alloc, &self.objects, view, None)? {
             if view.contains(key, object) {
                 found.push(Member { key, object })?;
             }
         }
         Ok(found)
+    }
+
+    /// A chunk of the list of a view: at most `limit` objects, or all if it is 0, after the place of a key, or the first.
+    /// It costs the way to its start and what it holds, and to count the objects that remain a step for each; where the
+    /// view selects, a look at each up to the first that remains. The error is want of memory.
+    pub fn page<'a>(
+        &'a self,
+        alloc: Global,
+        view: &View,
+        limit: usize,
+        after: Option<Key>,
+    ) -> Result<Chunk<'a>, AllocError>
+        ensures { IfOk result (IsPage (view_of view.entry.now)
+            (viewed (view_of view.entry.now) self.entry.now.members) limit (after_key after)) }
+    {
+        let mut range = asked(alloc, &self.objects, view, after)?;
+        let members = first_members(alloc, &mut range, view, limit)?;
+        let remaining = remaining(range, view);
+        Ok(Chunk { members, remaining })
     }
 }

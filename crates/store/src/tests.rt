@@ -1,9 +1,9 @@
-use crate::Store;
+use crate::{Chunk, Store};
 use definitions::kinds::Kind;
-use meta::{Fault, Key, Object, Write};
+use meta::{Fault, Key, Object, StoredObject, Write};
 use selector::View;
 use serde_json::Value;
-use std::alloc::Global;
+use std::alloc::{AllocError, Global};
 use std::test::Fail;
 
 fn key(alloc: Global, kind: Kind, namespace: &str, name: &str) -> Result<Key, Fail> {
@@ -14,10 +14,11 @@ fn key(alloc: Global, kind: Kind, namespace: &str, name: &str) -> Result<Key, Fa
     })
 }
 
-fn config_map(alloc: Global, label: &str) -> Result<Object, Fail> {
+fn config_map(alloc: Global, label: &str) -> Result<StoredObject, Fail> {
     let text = format!(in alloc; r#"{{"metadata":{{"labels":{{"is":"{label}"}}}}}}"#)?;
     let value = Value::from_str(alloc, text.as_str())?;
-    Ok(Object::from_value(alloc, Kind::ConfigMap, value)?)
+    let object = Object::from_value(alloc, Kind::ConfigMap, value)?;
+    Ok(StoredObject::new(alloc, &object)?)
 }
 
 /// A write that puts an object with this label, or removes the one that is there.
@@ -142,6 +143,41 @@ fn a_list_has_its_kind_and_namespace_alone(rt: HostRuntime) -> Result<(), Fail> 
     for (kind, namespace, labels) in cases {
         assert_eq!(rt; listed(alloc, &store, kind, namespace)?.as_str(), labels);
     }
+    Ok(())
+}
+
+/// Whether a page has these labels, and this many objects remain after it.
+fn is_page(
+    alloc: Global,
+    page: &Chunk,
+    labels: &str,
+    remaining: usize,
+) -> Result<bool, AllocError> {
+    let mut found = String::new(alloc);
+    for member in page.members.iter() {
+        found.push_str(member.object.label("is").unwrap_or("none"))?;
+    }
+    Ok(found.as_str() == labels && page.remaining == remaining)
+}
+
+#[test]
+fn a_page_ends_at_its_limit(rt: HostRuntime) -> Result<(), Fail> {
+    let alloc = rt.alloc();
+    let mut store = Store::new(alloc);
+    let writes = [
+        ("default", "d", "4"),
+        ("apps", "b", "1"),
+        ("apps", "c", "2"),
+        ("default", "a", "3"),
+    ];
+    for (namespace, name, label) in writes {
+        let key = key(alloc, Kind::ConfigMap, namespace, name)?;
+        store.apply(write(alloc, key, Some(label))?)?;
+    }
+    let view = View::whole(alloc, Kind::ConfigMap, None);
+    let after = key(alloc, Kind::ConfigMap, "apps", "b")?;
+    let page = store.page(alloc, &view, 2, Some(after))?;
+    assert!(rt; is_page(alloc, &page, "23", 1)?);
     Ok(())
 }
 

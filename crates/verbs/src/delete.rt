@@ -11,6 +11,7 @@ ghost use Rattle.answers.specs.Serves.{Serves};
 
 use answers::generations::at_revision;
 use answers::placing::is_full;
+use answers::stored_texts::stored_with_text;
 use definitions::kinds::Kind;
 use definitions::policies::Policy;
 use lifecycle::{DeleteFault, DeleteOptions, Fate, decide_delete};
@@ -32,7 +33,10 @@ pub fn delete(
 {
     match store.get(&key) {
         None => Err(Fault::NotFound(key)),
-        Some(held) => delete_held(alloc, key, held, options, store.revision(), moment),
+        Some(kept) => {
+            let held = kept.open(alloc)?;
+            delete_held(alloc, key, held, options, store.revision(), moment)
+        }
     }
 }
 
@@ -40,16 +44,16 @@ pub fn delete(
 fn delete_held(
     alloc: Global,
     key: Key,
-    held: &Object,
+    held: Object,
     options: &DeleteOptions,
     before: u64,
     moment: Moment,
 ) -> Result<(Reply, Option<Write>), Fault>
     requires { before ≤ greatest_revision }
-    ensures { Serves (by_decision (name_of key) (kept_code options.now.policy) held.now.value before
-        (decided key.kind (options_seen options.now) moment held.now.value)) result }
+    ensures { Serves (by_decision (name_of key) (kept_code options.now.policy) held.value before
+        (decided key.kind (options_seen options.now) moment held.value)) result }
 {
-    match decide_delete(alloc, key.kind, held, options, moment) {
+    match decide_delete(alloc, key.kind, &held, options, moment) {
         Ok(fate) => by_fate(alloc, key, kept_code(options.policy), held, before, fate),
         Err(DeleteFault::Mismatch(why)) => Err(Fault::Conflict(key, why)),
         Err(DeleteFault::NoMemory) => Err(Fault::NoMemory),
@@ -71,12 +75,12 @@ fn by_fate(
     alloc: Global,
     key: Key,
     code: u16,
-    held: &Object,
+    held: Object,
     before: u64,
     fate: Fate,
 ) -> Result<(Reply, Option<Write>), Fault>
     requires { before ≤ greatest_revision }
-    ensures { Serves (by_fate (name_of key) code held.now.value before (fate_seen fate)) result }
+    ensures { Serves (by_fate (name_of key) code held.value before (fate_seen fate)) result }
 {
     match fate {
         Fate::Remove => remove(alloc, key, held, before),
@@ -104,10 +108,10 @@ fn put_mark(
         return Err(Fault::StorageFull);
     }
     let object = at_revision(alloc, object, before)?;
-    let text = object.text(alloc)?;
+    let (stored, text) = stored_with_text(alloc, &object)?;
     let write = Write {
         key,
-        put: Some(object),
+        put: Some(stored),
     };
     Ok((Reply { code, text }, Some(write)))
 }
@@ -116,11 +120,11 @@ fn put_mark(
 fn remove(
     alloc: Global,
     key: Key,
-    held: &Object,
+    held: Object,
     before: u64,
 ) -> Result<(Reply, Option<Write>), Fault>
     requires { before ≤ greatest_revision }
-    ensures { Serves (let_go (name_of key) (removal_of key.kind (name_of key) (before + 1) held.now.value) before) result }
+    ensures { Serves (let_go (name_of key) (removal_of key.kind (name_of key) (before + 1) held.value) before) result }
 {
     if is_full(before) {
         return Err(Fault::StorageFull);
@@ -131,20 +135,19 @@ fn remove(
 }
 
 /// The text that answers a removal: of a Pod the Pod, at the revision of its removal, of the others that it is gone.
-fn removal_text(alloc: Global, key: &Key, held: &Object, before: u64) -> Result<String, AllocError>
+fn removal_text(alloc: Global, key: &Key, held: Object, before: u64) -> Result<String, AllocError>
     requires { before ≤ greatest_revision }
     ensures { IfOk result (λ t. string_bytes t
-        ≡ compact_text (removal_of key.now.kind (name_of key.now) (before + 1) held.now.value)) }
+        ≡ compact_text (removal_of key.now.kind (name_of key.now) (before + 1) held.value)) }
 {
     match key.kind {
-        Kind::ConfigMap => gone_text(alloc, key, held),
+        Kind::ConfigMap => gone_text(alloc, key, &held),
         Kind::Pod => {
-            let copy = held.try_copy()?;
-            let last = at_revision(alloc, copy, before)?;
+            let last = at_revision(alloc, held, before)?;
             last.text(alloc)
         }
-        Kind::ReplicaSet => gone_text(alloc, key, held),
-        Kind::Deployment => gone_text(alloc, key, held),
+        Kind::ReplicaSet => gone_text(alloc, key, &held),
+        Kind::Deployment => gone_text(alloc, key, &held),
     }
 }
 

@@ -18,8 +18,8 @@ pub fn get(alloc: Global, store: &Store, key: &Key) -> Result<(Reply, Option<Wri
 {
     match store.get(key) {
         None => Err(Fault::NotFound(key.try_copy()?)),
-        Some(object) => {
-            let text = object.text(alloc)?;
+        Some(kept) => {
+            let text = String::from_str(alloc, kept.text())?;
             Ok((Reply { code: 200, text }, None))
         }
     }

@@ -1,7 +1,7 @@
 use crate::requests::Request;
 use crate::tests::{body, sent};
 use definitions::kinds::Kind;
-use meta::{Key, Object, Write};
+use meta::{Key, Object, StoredObject, Write};
 use std::alloc::{AllocError, Global};
 use std::test::Fail;
 use store::Store;
@@ -198,7 +198,7 @@ fn an_object_goes_with_its_last_finalizer(rt: HostRuntime) -> Result<(), Fail> {
     )?;
     let write = Write {
         key: key(alloc, Kind::ConfigMap, "a")?,
-        put: Some(held),
+        put: Some(StoredObject::new(alloc, &held)?),
     };
     store.apply(write)?;
     let freed = Request::Update(

@@ -5,7 +5,7 @@ ghost use Rattle.definitions.specs.Windows.{last_revision};
 ghost use Rattle.watch_cache.specs.Changes.{kept_seen};
 
 use crate::changes::Change;
-use crate::searching::events_above;
+use crate::searching::{events_above, first_above};
 use crate::undoing::undone_to;
 use circular_buffer::HeapCircularBuffer;
 use definitions::kinds::Kind;
@@ -39,11 +39,11 @@ impl Model for Cache {
 }
 
 impl Cache {
-    ghost use Rattle.std.specs.Prelude.{◌≡◌, ◌≤◌, ◌<◌, IfOk, IsOk, Err, length, map};
+    ghost use Rattle.std.specs.Prelude.{◌≡◌, ◌==◌, ◌≤◌, ◌<◌, IfOk, IsOk, Err, length, map};
     ghost use Rattle.std.specs.List.Sorted.{IsStrictlySortedBy};
     ghost use Rattle.std.specs.Map.{keys_of};
     ghost use Rattle.definitions.specs.Names.{name_cmp};
-    ghost use Rattle.definitions.specs.Windows.{opened, recorded, compacted_to, last_revision, since_kept, list_kept, within};
+    ghost use Rattle.definitions.specs.Windows.{above, opened, recorded, compacted_to, last_revision, since_kept, list_kept, within};
     ghost use Rattle.meta.specs.Members.{member_of};
     ghost use Rattle.meta.specs.declared.faults.Fault.TheVariants as fault;
     ghost use Rattle.selector.specs.Views.{view_of};
@@ -114,8 +114,9 @@ impl Cache {
         Ok(())
     }
 
-    /// Whether a revision is served: it is at least the floor, and at most the present one.
-    fn check(&self, asked: u64, present: u64) -> Result<(), Fault>
+    /// Whether a revision is served: it is at least the floor, and at most the present one. The errors say which it is
+    /// not. It takes no memory.
+    pub fn check(&self, asked: u64, present: u64) -> Result<(), Fault>
         ensures { Serves (λ u. u) (within self.now.floor present asked tt) result }
     {
         let floor = self.floor;
@@ -126,6 +127,14 @@ impl Cache {
             return Err(Fault::TooNew { asked, present });
         }
         Ok(())
+    }
+
+    /// Whether no change that is kept has a revision above this one. Where that revision is served, what is there of the
+    /// kind is then what was there at it. It takes no memory.
+    pub fn is_unchanged_since(&self, revision: u64) -> bool
+        ensures { result ≡ (length (above revision self.now.kept) == 0) }
+    {
+        first_above(&self.changes, revision) == self.changes.len()
     }
 
     /// The first changes of a view after a revision, in order, at most as many as are asked for. The errors are a revision

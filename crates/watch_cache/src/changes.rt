@@ -1,6 +1,6 @@
 //! Changes.
 
-use meta::{Key, Object};
+use meta::{Key, StoredObject};
 
 /// A write with its revision, and what was under its key before it.
 #[derive(Drop)]
@@ -9,7 +9,7 @@ pub struct Change {
     pub revision: u64,
     pub key: Key,
     /// The object before the write; none, where none was there.
-    pub old: Option<Object>,
+    pub old: Option<StoredObject>,
     /// The object after the write; none, where the write removed it.
-    pub new: Option<Object>,
+    pub new: Option<StoredObject>,
 }

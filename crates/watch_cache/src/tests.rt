@@ -3,7 +3,7 @@ ghost use Rattle.definitions.specs.Windows.{last_revision};
 
 use crate::{Cache, Change};
 use definitions::kinds::Kind;
-use meta::{Fault, Key, Member, Object};
+use meta::{Fault, Key, Member, Object, StoredObject};
 use revisions::Event;
 use selector::View;
 use serde_json::Value;
@@ -22,19 +22,20 @@ fn key(alloc: Global, name: &str) -> Result<Key, Fail> {
 }
 
 /// A ConfigMap of a name, with a version.
-fn stored(alloc: Global, name: &str, version: u64) -> Result<Object, Fail> {
+fn stored(alloc: Global, name: &str, version: u64) -> Result<StoredObject, Fail> {
     let text = format!(in alloc;
         r#"{{"metadata":{{"name":"{name}","resourceVersion":"{version}"}}}}"#
     )?;
     let value = Value::from_str(alloc, text.as_str())?;
-    Ok(Object::from_value(alloc, Kind::ConfigMap, value)?)
+    let object = Object::from_value(alloc, Kind::ConfigMap, value)?;
+    Ok(StoredObject::new(alloc, &object)?)
 }
 
 fn stored_if_there(
     alloc: Global,
     name: &str,
     version: Option<u64>,
-) -> Result<Option<Object>, Fail> {
+) -> Result<Option<StoredObject>, Fail> {
     match version {
         Some(version) => Ok(Some(stored(alloc, name, version)?)),
         None => Ok(None),
@@ -78,12 +79,13 @@ fn six_changes(alloc: Global) -> Result<Cache, Fail> {
 fn told(alloc: Global, events: &[Event]) -> Result<String, Fail> {
     let mut lines = String::new(alloc);
     for event in events {
+        let object = event.object.open(alloc)?;
         let line = format!(in alloc;
             "{} {} {} {}\n",
             event.kind.frame_kind().text(),
             event.revision,
             event.key.name.as_str(),
-            event.object.resource_version().unwrap_or("none"),
+            object.resource_version().unwrap_or("none"),
         )?;
         lines.push_str(line.as_str())?;
     }
@@ -153,7 +155,8 @@ fn listed_at(alloc: Global, cache: &Cache, revision: u64) -> Result<String, Fail
     };
     let mut text = String::new(alloc);
     for member in members.iter() {
-        let version = member.object.resource_version().unwrap_or("none");
+        let object = member.object.open(alloc)?;
+        let version = object.resource_version().unwrap_or("none");
         let one = format!(in alloc; "{} {version}, ", member.key.name.as_str())?;
         text.push_str(one.as_str())?;
     }

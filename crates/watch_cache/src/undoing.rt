@@ -14,7 +14,7 @@ ghost use Rattle.watch_cache.specs.Changes.{kept_seen};
 use crate::changes::Change;
 use crate::searching::first_above;
 use circular_buffer::HeapCircularBuffer;
-use meta::{Key, Member, Object};
+use meta::{Key, Member, StoredObject};
 use revisions::making::shown;
 use revisions::past::put_or_remove;
 use selector::View;
@@ -62,7 +62,7 @@ fn copied<'a>(alloc: Global, members: &[Member<'a>]) -> Result<Vec<Member<'a>>, 
 fn map_of<'a>(
     alloc: Global,
     listed: &[Member<'a>],
-) -> Result<BTreeMap<&'a Key, &'a Object>, AllocError>
+) -> Result<BTreeMap<&'a Key, &'a StoredObject>, AllocError>
     requires { IsStrictlySortedBy name_cmp (keys_of (map member_of listed.now)) }
     ensures { IfOk result (λ m. seen m.entries ≡ map member_of listed.entry.now) }
 {
@@ -76,7 +76,7 @@ fn map_of<'a>(
 /// What a map holds, in the order of its keys.
 fn members_in<'a>(
     alloc: Global,
-    state: &BTreeMap<&'a Key, &'a Object>,
+    state: &BTreeMap<&'a Key, &'a StoredObject>,
 ) -> Result<Vec<Member<'a>>, AllocError>
     ensures { IfOk result (λ ms. map member_of ms.items ≡ seen state.entry.now.entries) }
 {
@@ -92,7 +92,7 @@ fn members_in<'a>(
 
 /// Undoes a change: what the view showed under its key before it is there again.
 fn undo<'a>(
-    state: &mut BTreeMap<&'a Key, &'a Object>,
+    state: &mut BTreeMap<&'a Key, &'a StoredObject>,
     view: &View,
     change: &'a Change,
 ) -> Result<(), AllocError>

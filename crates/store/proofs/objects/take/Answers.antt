@@ -1,5 +1,5 @@
 use Rattle.std.proofs.Common.{◌∙◌, ap, option_map}
-use Rattle.meta.specs.declared.objects.Object.{Object}
+use Rattle.meta.specs.declared.stored.StoredObject.{StoredObject}
 use Rattle.store.proofs.SeenMaps.{seen-insert_entry, seen-remove_entry, seen-lookup}
 use Rattle.store.proofs.objects.take.Goals as goal
 
@@ -9,10 +9,10 @@ returns-in_ok-before-in-Some-clause-members c =
 
 pub returns-in_ok-before-in-Some-clause-before : goal.returns-in_ok-before-in-Some-clause-before
 returns-in_ok-before-in-Some-clause-before c =
-    ap (option_map (λ (o : Object). o.value)) c.in_ok-before-in-Some.ensures.old ∙ seen-lookup c.args.objects.now.entries c.args.write.key
+    ap (option_map (λ (o : StoredObject). o.value)) c.in_ok-before-in-Some.ensures.old ∙ seen-lookup c.args.objects.now.entries c.args.write.key
 
 pub returns-in-None-clause-members : goal.returns-in-None-clause-members
 returns-in-None-clause-members c = rw (c.remove-before.ensures.entries, c.in-None.is) (seen-remove_entry c.args.objects.now.entries c.args.write.key)
 
 pub returns-in-None-clause-before : goal.returns-in-None-clause-before
-returns-in-None-clause-before c = ap (option_map (λ (o : Object). o.value)) c.remove-before.ensures.value ∙ seen-lookup c.args.objects.now.entries c.args.write.key
+returns-in-None-clause-before c = ap (option_map (λ (o : StoredObject). o.value)) c.remove-before.ensures.value ∙ seen-lookup c.args.objects.now.entries c.args.write.key

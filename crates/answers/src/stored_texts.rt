@@ -1,0 +1,20 @@
+//! Objects as they are to be kept, with their texts.
+ghost use Rattle.std.specs.Prelude.{◌≡◌, IfOk, string_bytes};
+ghost use Rattle.serde_json.specs.Written.{compact_text};
+
+use meta::{Object, StoredObject};
+use std::alloc::{AllocError, Global};
+
+/// The object as it is to be kept, with a copy of its text for the reply. The text is made once. The error is want of
+/// memory.
+pub fn stored_with_text(
+    alloc: Global,
+    object: &Object,
+) -> Result<(StoredObject, String), AllocError>
+    ensures stored { IfOk result (λ made. made.0 ≡ object.now) }
+    ensures text { IfOk result (λ made. string_bytes made.1 ≡ compact_text object.now.value) }
+{
+    let stored = StoredObject::new(alloc, object)?;
+    let text = String::from_str(alloc, stored.text())?;
+    Ok((stored, text))
+}

@@ -1,0 +1,35 @@
+-- A reply that is a page of a list.
+use Rattle.std.specs.Prelude.{◌≡◌, ◌==◌, ℕ, Option, None, Some, if◌then◌else◌}
+use Rattle.definitions.specs.Collections.{ListOptions}
+use Rattle.definitions.specs.History.{View, Members}
+use Rattle.definitions.specs.Lists.{is_selective, page_body, told_count}
+use Rattle.definitions.specs.Pages.{Place, last_place, page_of}
+use Rattle.definitions.specs.Versions.{listed_as}
+use Rattle.definitions.specs.Verbs.{Answer}
+use Rattle.definitions.specs.declared.versions.At.TheVariants.{Present}
+use Rattle.reply.specs.declared.reply.Reply.{Reply}
+use Rattle.desk.specs.Replies.{Says}
+
+-- the answer with these items of a list at revision r, after which so many are left
+abbrev pub page_with : ℕ → View → Members → ℕ → Answer
+page_with r v items left =
+    record {
+      code = 200;
+      body = page_body v.kind r (if is_selective v then None else Some left) (record { items = items; next = if left == 0 then None else last_place items });
+      write = None;
+    }
+
+abbrev pub ShowsPage : ℕ → View → Members → ℕ → Reply → Type 0
+ShowsPage r v items left reply = Says (page_with r v items left) reply
+
+-- the answer with the page of a list at revision r after a place
+abbrev pub page_at : ℕ → View → Members → ℕ → Option Place → Answer
+page_at r v listed limit after =
+    record {
+      code = 200;
+      body = page_body v.kind r (told_count v (record { at = Present; limit = limit; after = after }) (listed_as r listed)) (page_of listed limit after);
+      write = None;
+    }
+
+abbrev pub IsPageAt : ℕ → View → Members → ℕ → Option Place → Reply → Type 0
+IsPageAt r v listed limit after reply = Says (page_at r v listed limit after) reply

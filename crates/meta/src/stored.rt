@@ -1,0 +1,90 @@
+//! Objects as a store keeps them.
+ghost use Rattle.std.specs.Prelude.{◌≡◌, ◌≤◌, ◌++◌, Some, IfOk, OnOk, option_map, string_bytes, false};
+ghost use Rattle.serde_json.specs.Data.{depth};
+ghost use Rattle.serde_json.specs.Read.{read, max_depth};
+ghost use Rattle.serde_json.specs.Written.{has_float, compact_text, IsInOrder};
+ghost use Rattle.definitions.specs.Metadata.{label};
+ghost use Rattle.definitions.specs.Verbs.{as_item};
+
+use crate::kept::Kept;
+use crate::objects::Object;
+use definitions::kinds::Kind;
+use std::alloc::{AllocError, Global};
+use std::marker::Model;
+use std::sync::Arc;
+
+/// An object as it is kept: its text, which is made once and which copies share. It is read back only to be changed or
+/// compared.
+#[derive(Drop)]
+pub struct StoredObject {
+    kept: Arc<Kept, Global>,
+}
+
+impl Model for StoredObject {
+    ghost use Rattle.std.specs.Arc.{arc_value};
+    ghost use Rattle.definitions.specs.Objects as objects;
+
+    ghost Value = { objects.Object };
+
+    ghost coded = { objects.coded_object };
+
+    ghost view = { λ s. arc_value s.kept };
+}
+
+impl StoredObject {
+    /// The object as it is to be kept. The error is want of memory.
+    pub fn new(alloc: Global, object: &Object) -> Result<StoredObject, AllocError>
+        ensures { IfOk result (λ s. s ≡ object.now) }
+    {
+        let kept = Arc::new(alloc, Kept::new(alloc, object)?)?;
+        Ok(StoredObject { kept })
+    }
+
+    /// A copy of the object, which shares its text. The error is want of memory.
+    pub fn try_copy(&self) -> Result<StoredObject, AllocError>
+        ensures { IfOk result (λ s. s ≡ self.now) }
+    {
+        let kept = Arc::try_clone(&self.kept)?;
+        Ok(StoredObject { kept })
+    }
+
+    /// The object, to be changed or compared. The error is want of memory.
+    pub fn open(&self, alloc: Global) -> Result<Object, AllocError>
+        ensures { IfOk result (λ o. o ≡ self.now) }
+    {
+        self.kept.open(alloc)
+    }
+
+    /// The object's kind.
+    pub fn kind(&self) -> Kind
+        ensures { result ≡ self.now.kind }
+    {
+        self.kept.kind()
+    }
+
+    /// The object's text, with no space, which is read back as the object.
+    pub fn text(&self) -> &str
+        ensures text { result.now ≡ compact_text self.now.value }
+        ensures order { IsInOrder result.now self.now.value }
+        ensures reads_back { depth self.now.value ≤ max_depth → read result.now ≡ Some self.now.value }
+        ensures no_float { has_float self.now.value ≡ false }
+    {
+        self.kept.text()
+    }
+
+    /// Adds the object's text as an item of a list, which has no `apiVersion` and no `kind`. The error is want of
+    /// memory.
+    pub fn push_item_text(&self, text: &mut String) -> Result<(), AllocError>
+        ensures { OnOk result (string_bytes text.new
+            ≡ string_bytes text.old ++ compact_text (as_item self.now.value)) }
+    {
+        self.kept.push_item_text(text)
+    }
+
+    /// The value of a label.
+    pub fn label(&self, name: &str) -> Option<&str>
+        ensures { option_map (λ s. s.now) result ≡ label name.now self.now.value }
+    {
+        self.kept.label(name)
+    }
+}

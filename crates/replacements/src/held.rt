@@ -1,0 +1,24 @@
+//! The object that is held.
+ghost use Rattle.std.specs.Prelude.{◌≡◌, IfOk};
+ghost use Rattle.serde_json.specs.Written.{compact_text};
+
+use meta::{Object, StoredObject};
+use std::alloc::{AllocError, Global};
+
+/// The object that is held: as it is kept, to be told as it stands, and opened, to be compared and changed.
+#[derive(Drop)]
+pub(crate) struct Held<'a> {
+    pub(crate) kept: &'a StoredObject,
+    pub(crate) object: Object,
+    ghost told: { compact_text kept.now.value ≡ compact_text object.value },
+}
+
+impl Held<'_> {
+    /// What is kept, opened. The error is want of memory.
+    pub(crate) fn open(alloc: Global, kept: &StoredObject) -> Result<Held<'_>, AllocError>
+        ensures { IfOk result (λ h. h.object.value ≡ kept.now.value) }
+    {
+        let object = kept.open(alloc)?;
+        Ok(Held { kept, object })
+    }
+}

@@ -1,0 +1,28 @@
+use Rattle.std.proofs.Common.{◌∙◌, ap, map}
+use Rattle.definitions.specs.History.{viewed}
+use Rattle.definitions.specs.Pages.{after_place}
+use Rattle.definitions.specs.Snapshots.{Snapshot}
+use Rattle.definitions.specs.Verbs.{most_objects}
+use Rattle.meta.specs.Members.{member_of}
+use Rattle.selector.specs.Views.{view_of}
+use Rattle.store.specs.Chunks.{after_key}
+use Rattle.store.specs.Seen.{members_seen}
+use Rattle.store.specs.declared.chunks.Chunk.{Chunk}
+use Rattle.store.proofs.PageChunks.{few_left, is_page}
+use Rattle.store.proofs.stores.Store.page.Goals as goal
+
+pub remaining-remaining-requires-clause-few : goal.remaining-remaining-requires-clause-few
+remaining-remaining-requires-clause-few c =
+    few_left c.args.limit most_objects (view_of c.args.view.now) c.self.inside.objects.entries c.in_ok-range.range (after_key c.args.after) (map member_of c.in_ok-members.members.items) (viewed (view_of c.args.view.now) (members_seen c.first_members.new.range))
+    c.in_ok-range.ensures.found c.in_ok-members.ensures.taken c.self.invariant.few
+
+pub returns : goal.returns
+returns c =
+    let now = c.args.self.now in
+    let v = view_of c.args.view.now in
+    let place = after_key c.args.after in
+    let range = viewed v (members_seen c.in_ok-range.range) in
+    let left = viewed v (members_seen c.first_members.new.range) in
+    let chunk : Chunk = record { members = c.in_ok-members.members; remaining = c.remaining-remaining.result } in
+    is_page v (viewed v now.members) range c.args.limit place chunk left
+    (c.in_ok-range.ensures.found ∙ ap (λ (s : Snapshot). after_place place (viewed v s.members)) c.self.view_is) c.in_ok-members.ensures.taken c.remaining-remaining.ensures

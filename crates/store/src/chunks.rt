@@ -1,0 +1,83 @@
+//! Chunks of lists.
+ghost use Rattle.std.specs.Prelude.{◌≡◌, ◌≤◌, ◌<◌, ◌++◌, [], ◌∷◌, ℕ, false, IfOk, IfSome, IfNone, length, map};
+ghost use Rattle.definitions.specs.History.{viewed};
+ghost use Rattle.definitions.specs.Lists.{is_selective};
+ghost use Rattle.definitions.specs.Verbs.{most_objects};
+ghost use Rattle.meta.specs.Members.{member_of};
+ghost use Rattle.selector.specs.Views.{view_of};
+ghost use Rattle.store.specs.Chunks.{IsFirst, Tells};
+ghost use Rattle.store.specs.Seen.{members_seen};
+
+use meta::keys::Key;
+use meta::lent_members::Member;
+use meta::stored::StoredObject;
+use selector::View;
+use std::alloc::{AllocError, Global};
+use std::collections::btree_map::Range;
+
+/// A chunk of what a view asks for (Kubernetes API Concepts, Retrieving large results sets in chunks).
+#[derive(Drop)]
+pub struct Chunk<'a> {
+    /// Its objects with their keys, in the order of their keys.
+    pub members: Vec<Member<'a>>,
+    /// How many objects of the view come after these. Where the view selects by labels or fields, this is not counted:
+    /// it is 0 just if there are none.
+    pub remaining: usize,
+}
+
+/// Takes the next object that a view asks for, and those before it, from a range.
+fn next_member<'a>(range: &mut Range<'a, Key, StoredObject>, view: &View) -> Option<Member<'a>>
+    ensures some { IfSome result (λ member. viewed (view_of view.now) (members_seen range.old)
+        ≡ member_of member ∷ viewed (view_of view.now) (members_seen range.new)) }
+    ensures none { IfNone result (viewed (view_of view.now) (members_seen range.old) ≡ []) }
+    ensures left { IfNone result (viewed (view_of view.now) (members_seen range.new) ≡ []) }
+    ensures all { viewed (view_of view.now) (members_seen range.old) ≡ members_seen range.old
+        → viewed (view_of view.now) (members_seen range.new) ≡ members_seen range.new }
+{
+    while let Some((key, object)) = range.next() {
+        if view.contains(key, object) {
+            return Some(Member { key, object });
+        }
+    }
+    None
+}
+
+/// Takes the first objects that a view asks for from a range, as many as the limit says or all if it is 0, and leaves
+/// what comes after them. The error is want of memory.
+pub(crate) fn first_members<'a>(
+    alloc: Global,
+    range: &mut Range<'a, Key, StoredObject>,
+    view: &View,
+    limit: usize,
+) -> Result<Vec<Member<'a>>, AllocError>
+    ensures taken { IfOk result (λ taken. IsFirst limit (viewed (view_of view.now) (members_seen range.old))
+        (map member_of taken.items) (viewed (view_of view.now) (members_seen range.new))) }
+    ensures all { viewed (view_of view.now) (members_seen range.old) ≡ members_seen range.old
+        → viewed (view_of view.now) (members_seen range.new) ≡ members_seen range.new }
+{
+    let mut taken = Vec::new(alloc);
+    while limit == 0 || taken.len() < limit {
+        match next_member(range, view) {
+            Some(member) => taken.push(member)?,
+            None => break,
+        }
+    }
+    Ok(taken)
+}
+
+/// How many objects of a range a view asks for: without a selection they are counted, and not looked at; with one, the
+/// first is looked for, and 1 stands for any number.
+pub(crate) fn remaining(mut range: Range<Key, StoredObject>, view: &View) -> usize
+    requires all { is_selective (view_of view.now) ≡ false
+        → viewed (view_of view.now) (members_seen range) ≡ members_seen range }
+    requires few { length (viewed (view_of view.now) (members_seen range)) ≤ most_objects }
+    ensures { Tells (view_of view.now) (length (viewed (view_of view.now) (members_seen range.entry))) result }
+{
+    if !view.is_selective() {
+        return range.count();
+    }
+    match next_member(&mut range, view) {
+        Some(_) => 1,
+        None => 0,
+    }
+}
