@@ -2,4 +2,3 @@ pub mod Windows
 pub mod Served
 pub mod Watches
 pub mod ListedMembers
-pub mod Paged

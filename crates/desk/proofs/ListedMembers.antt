@@ -1,5 +1,5 @@
 -- Lists of a server stand in the order of places.
-use Rattle.std.proofs.Common.{◌≡◌, ℕ, suc, ◌-◌, List, [], ◌∷◌, length, map, nat_lt, arith, Bool, true, false, cond, Option, Some, None, Ordering, Less, Equal, Greater, is_eq, Result, Ok, Err, refl, sym, ap, ◌∙◌, subst}
+use Rattle.std.proofs.Common.{◌≡◌, ℕ, suc, ◌-◌, List, [], ◌∷◌, length, map, nat_lt, arith, Bool, true, false, cond, Option, Some, None, Ordering, Less, Equal, Greater, is_eq, Ok, Err, refl, sym, ap, ◌∙◌, subst}
 use Rattle.std.specs.Prelude.{slice_get}
 use Rattle.std.specs.Map.{remove_entry}
 use Rattle.std.specs.Ordering.{match_ordering}
@@ -93,10 +93,6 @@ earlier_in_place seen_of w now r v ms ls y up at is =
     let all : AllIn v ls = subst (λ z. AllIn v z) (sym at) (viewed_in v ms) in
     let rising : IsAscending name_cmp ls = subst (λ z. IsAscending name_cmp z) (sym at) (viewed_ascending v ms up) in
     subst (λ z. AreInPlace z) left (in_place v (undone v ls (above r w.kept)) (undone_in v ls (above r w.kept) all) (undone_ascending v ls (above r w.kept) rising))
-
--- and so does the present one
-pub present_in_place : (v : View) (ms ls : Members) → IsAscending name_cmp ms → ls ≡ viewed v ms → AreInPlace ls
-present_in_place v ms ls up at = subst (λ z. AreInPlace z) (sym at) (in_place v (viewed v ms) (viewed_in v ms) (viewed_ascending v ms up))
 
 -- ---- the place of the last member
 

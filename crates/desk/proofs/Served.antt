@@ -1,17 +1,13 @@
 -- What a served request says of its outcome.
-use Rattle.std.proofs.Common.{◌≡◌, ℕ, List, false, Option, None, Some, Ok, Err, IfSome, option_map, inl, refl, sym, ap, ◌∙◌, subst}
+use Rattle.std.proofs.Common.{◌≡◌, ℕ, List, false, Option, Some, Ok, IfSome, option_map, sym, ap, ◌∙◌, subst}
 use Rattle.definitions.specs.History.{Members}
-use Rattle.definitions.specs.Servers.{Server, after_writing}
 use Rattle.definitions.specs.Verbs as outcomes
 use Rattle.definitions.specs.Verbs.{Outcome, Request, answered, refused, accept_at, overflows}
 use Rattle.definitions.proofs.Limits.{room}
 use Rattle.meta.specs.Writes.{write_of}
-use Rattle.meta.specs.declared.faults.Fault.{Fault}
-use Rattle.meta.specs.declared.faults.Fault.TheVariants as fault
 use Rattle.meta.specs.declared.writes.Write.{Write}
 use Rattle.reply.specs.declared.reply.Reply.{Reply}
 use Rattle.answers.specs.Serves.{Serves}
-use Rattle.desk.specs.Replies.{Replies}
 
 pub served_write : (o : Outcome) (r : Reply) (w : Option Write) → Serves o (Ok (r, w)) → option_map write_of w ≡ outcomes.write_of o
 served_write (answered a) r w is = is.write

@@ -1,6 +1,5 @@
 -- A reply that is a page of a list.
-use Rattle.std.specs.Prelude.{◌≡◌, ◌==◌, ℕ, Option, None, Some, if◌then◌else◌}
-use Rattle.definitions.specs.Collections.{ListOptions}
+use Rattle.std.specs.Prelude.{◌==◌, ℕ, Option, None, Some, if◌then◌else◌}
 use Rattle.definitions.specs.History.{View, Members}
 use Rattle.definitions.specs.Lists.{is_selective, page_body, told_count}
 use Rattle.definitions.specs.Pages.{Place, last_place, page_of}

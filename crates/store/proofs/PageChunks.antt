@@ -10,13 +10,11 @@ use Rattle.std.specs.Map.Iter.{TakesFirst, deref_pair}
 use Rattle.serde_json.specs.Data.{Data}
 use Rattle.definitions.specs.Names.{Name}
 use Rattle.definitions.specs.History.{View, Members, viewed, in_view}
-use Rattle.definitions.specs.Lists.{is_selective}
 use Rattle.definitions.specs.Pages.{Place, is_after, after_place, page_of, remaining}
 use Rattle.meta.specs.Keys.{name_of}
 use Rattle.meta.specs.Members.{member_of}
 use Rattle.meta.specs.declared.keys.Key.{Key}
 use Rattle.meta.specs.declared.stored.StoredObject.{StoredObject}
-use Rattle.meta.specs.declared.lent_members.Member.{Member}
 use Rattle.store.specs.Chunks.{IsFirst, Tells, IsPage}
 use Rattle.store.specs.Seen.{members_seen}
 use Rattle.store.specs.declared.chunks.Chunk.{Chunk}

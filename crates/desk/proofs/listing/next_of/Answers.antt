@@ -5,5 +5,5 @@ use Rattle.desk.proofs.listing.next_of.Goals as goal
 
 pub returns-in_ok-after-in-Some-clause-place : goal.returns-in_ok-after-in-Some-clause-place
 returns-in_ok-after-in-Some-clause-place c =
-    let last = last_member c.args.page.items.now c.in-Some.member.now (sym c.in-Some.ensures.value) in
-    rw (ne_eqb c.args.page.remaining 0 c.if-page-eq0.false) (ap Some c.in_ok-after-in-Some.ensures.place ∙ sym last)
+    let last = last_member c.args.items.now c.in-Some.member.now (sym c.in-Some.ensures.value) in
+    rw (ne_eqb c.args.remaining 0 c.if-remaining-eq0.false) (ap Some c.in_ok-after-in-Some.ensures.place ∙ sym last)
