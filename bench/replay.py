@@ -29,8 +29,8 @@ COLLECTION = "/api/v1/namespaces/default/configmaps"
 SMALLER = [100, 10_000]
 
 # How many lines of a part that is about one object, and how many of one that is about a thousand.
-LINES = 10_000
-REPEATS = 200
+LINES = 50_000
+REPEATS = 1_000
 
 # How many objects a list has, and changes a watch.
 MANY = 1_000
