@@ -10,7 +10,7 @@ pub enum Group {
 }
 
 /// A kind of object. Kinds are ordered as they stand here.
-#[derive(Clone, Copy, Debug, PartialEq, Eq, PartialOrd, Ord)]
+#[derive(Clone, Copy, Debug, PartialEq, Eq, PartialOrd, Ord, Hash)]
 pub enum Kind {
     /// Texts that programs read (Kubernetes API reference, ConfigMap v1).
     ConfigMap,

@@ -7,7 +7,7 @@ use std::alloc::AllocError;
 
 /// What one object at a time is called: its kind, its namespace and its name. Keys go by kind, then namespace, then
 /// name, the texts in byte order.
-#[derive(Debug, PartialEq, Eq, PartialOrd, Ord, Drop)]
+#[derive(Debug, PartialEq, Eq, PartialOrd, Ord, Hash, Drop)]
 pub struct Key {
     pub kind: Kind,
     pub namespace: String,

@@ -1,23 +1,26 @@
-//! What a write does to a map of objects.
-ghost use Rattle.std.specs.Prelude.{◌≡◌, ◌+◌, ◌≤◌, ◌&&◌, not, IfOk, OnOk, OnErr, is_some, length, option_map, if◌then◌else◌};
+//! What a write does to the objects that are there, in their order and in their index.
+ghost use Rattle.std.specs.Prelude.{◌≡◌, ◌+◌, ◌≤◌, ◌&&◌, not, IfOk, OnOk, OnErr, Some, is_some, length, option_map, if◌then◌else◌};
+ghost use Rattle.std.specs.BTreeMap.{insert_entry};
 ghost use Rattle.definitions.specs.History.{after, found};
 ghost use Rattle.meta.specs.Keys.{name_of};
 ghost use Rattle.meta.specs.Writes.{write_of};
-ghost use Rattle.store.specs.Seen.{members_seen};
+ghost use Rattle.store.specs.Seen.{members_seen, IsIndexOf};
 
 use meta::keys::Key;
 use meta::stored::StoredObject;
 use meta::writes::Write;
 use std::alloc::AllocError;
-use std::collections::BTreeMap;
+use std::collections::{BTreeMap, HashMap};
 
-/// Takes one write, and gives the object that was under its key, which is looked up once. The error is want of memory,
-/// and changes nothing.
+/// Takes one write, and gives the object that was under its key. The error is want of memory, and changes nothing.
 pub fn take(
     objects: &mut BTreeMap<Key, StoredObject>,
+    index: &mut HashMap<Key, StoredObject>,
     write: Write,
 ) -> Result<Option<StoredObject>, AllocError>
+    requires indexed { IsIndexOf index.old (members_seen objects.old.entries) }
     ensures members { OnOk result (members_seen objects.new.entries ≡ after (members_seen objects.old.entries) (write_of write)) }
+    ensures indexed { IsIndexOf index.new (members_seen objects.new.entries) }
     ensures before { IfOk result (λ before. option_map (λ o. o.value) before
         ≡ found (name_of write.key) (members_seen objects.old.entries)) }
     ensures len { IfOk result (λ before. length objects.new.entries
@@ -26,13 +29,36 @@ pub fn take(
 {
     let Write { key, put } = write;
     match put {
-        Some(object) => {
-            let before = objects.insert(key, object)?;
-            Ok(before)
-        }
+        Some(object) => put_under(objects, index, key, object),
         None => {
             let before = objects.remove(&key);
+            index.remove(&key);
             Ok(before)
         }
     }
+}
+
+/// Puts an object under a key. What the index needs is made first, so that it takes the object once the map has it.
+fn put_under(
+    objects: &mut BTreeMap<Key, StoredObject>,
+    index: &mut HashMap<Key, StoredObject>,
+    key: Key,
+    object: StoredObject,
+) -> Result<Option<StoredObject>, AllocError>
+    requires indexed { IsIndexOf index.old (members_seen objects.old.entries) }
+    ensures members { OnOk result (members_seen objects.new.entries
+        ≡ after (members_seen objects.old.entries) (record { key = name_of key; put = Some object.value })) }
+    ensures indexed { IsIndexOf index.new (members_seen objects.new.entries) }
+    ensures before { IfOk result (λ before. option_map (λ o. o.value) before
+        ≡ found (name_of key) (members_seen objects.old.entries)) }
+    ensures len { IfOk result (λ before. length objects.new.entries
+        ≤ length objects.old.entries + (if not (is_some before) then 1 else 0)) }
+    ensures err { OnErr result (objects.new.entries ≡ objects.old.entries) }
+{
+    index.reserve(1)?;
+    let copy = key.try_copy()?;
+    let shared = object.try_copy()?;
+    let before = objects.insert(key, object)?;
+    index.insert(copy, shared)?;
+    Ok(before)
 }

@@ -10,14 +10,17 @@ use meta::stored::StoredObject;
 use meta::writes::Write;
 use selector::View;
 use std::alloc::{AllocError, Global};
-use std::collections::BTreeMap;
+use std::collections::{BTreeMap, HashMap};
 use std::marker::Model;
 
 /// All that is there, with one revision over all kinds: 1 for the empty store, and one more after each write.
 /// It is seen as a snapshot.
 #[derive(Drop)]
 pub struct Store {
+    /// In the order of their keys, for lists.
     objects: BTreeMap<Key, StoredObject>,
+    /// The same objects, for one under its key: it is found without the way through the order.
+    index: HashMap<Key, StoredObject>,
     revision: u64,
 }
 
@@ -29,11 +32,11 @@ impl Model for Store {
 
     ghost coded = { coded_snapshot };
 
-    ghost use Rattle.store.specs.Seen.{members_seen, IsWithin};
+    ghost use Rattle.store.specs.Seen.{members_seen, IsKept};
 
     ghost view = { λ s. record { members = members_seen s.objects.entries; revision = s.revision } };
 
-    ghost invariant = { λ s. IsWithin s.objects.entries s.revision };
+    ghost invariant = { λ s. IsKept s.objects.entries s.index s.revision };
 }
 
 impl Store {
@@ -55,6 +58,7 @@ impl Store {
     {
         Store {
             objects: BTreeMap::new(alloc),
+            index: HashMap::new(alloc),
             revision: 1,
         }
     }
@@ -79,7 +83,7 @@ impl Store {
     pub fn get(&self, key: &Key) -> Option<&StoredObject>
         ensures { option_map (λ o. o.now.value) result ≡ found (name_of key.now) self.now.members }
     {
-        self.objects.get(key)
+        self.index.get(key)
     }
 
     /// Whether a write makes more objects than there may be, or has a revision past the greatest. The key is looked up
@@ -106,7 +110,7 @@ impl Store {
         if self.overflows(&write) {
             return Err(Fault::StorageFull);
         }
-        let before = take(&mut self.objects, write)?;
+        let before = take(&mut self.objects, &mut self.index, write)?;
         self.revision += 1;
         Ok(before)
     }
