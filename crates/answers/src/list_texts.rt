@@ -16,6 +16,9 @@ use pages::Token;
 use serde_json::{Value, json};
 use std::alloc::{AllocError, Global};
 
+/// About how much longer a page with few objects is than their texts.
+const PAGE_LEN: usize = 256;
+
 /// The text of a page of a list at a revision. Where more follows, `next` asks for it, and `remaining` says how many objects
 /// that is, if it is to be told. The error is want of memory.
 pub fn page_text(
@@ -33,7 +36,7 @@ pub fn page_text(
     let version = quoted(alloc, kind.api_version())?;
     let name = list_name(alloc, kind)?;
     let metadata = metadata(alloc, revision, next, remaining)?.to_string(alloc)?;
-    let mut text = String::new(alloc);
+    let mut text = String::with_capacity(alloc, likely_len(members))?;
     push_all(
         &mut text,
         &["{\"apiVersion\":", version.as_str(), ",\"items\":["],
@@ -50,6 +53,16 @@ pub fn page_text(
         ],
     )?;
     Ok(text)
+}
+
+/// About how long the text of a page of these objects is: an item is a little shorter than its object's text, which makes
+/// up for what the page says of itself. The text grows if that does not.
+fn likely_len(members: &[Member<'_>]) -> usize {
+    let mut len = PAGE_LEN;
+    for member in members {
+        len = len.saturating_add(member.object.text().len());
+    }
+    len
 }
 
 /// What a page says of itself.

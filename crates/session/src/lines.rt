@@ -29,12 +29,15 @@ enum Shown<'a> {
     Initial(Member<'a>),
 }
 
+/// How many bytes a reply line has more than its text: a code's five digits at the most, the space and the end of the line.
+const MOST_ADDED: usize = 7;
+
 /// A code, a space, a text and the end of the line.
 pub fn line(alloc: Global, code: u16, text: &str) -> Result<Vec<u8>, AllocError>
     ensures { IfOk result (λ l. l.items ≡ decimal code ++ (32 ∷ (text.now ++ 10 ∷ []))) }
 {
     let digits = code.to_string(alloc)?;
-    let mut line = Vec::new(alloc);
+    let mut line = Vec::with_capacity(alloc, text.len().saturating_add(MOST_ADDED))?;
     line.extend_from_slice(digits.as_bytes())?;
     line.push(b' ')?;
     line.extend_from_slice(text.as_bytes())?;
