@@ -1,2 +1,1 @@
 pub mod PageTexts
-pub mod Placed

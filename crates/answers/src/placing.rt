@@ -1,15 +1,15 @@
 //! Objects in the place of others.
-ghost use Rattle.std.specs.Prelude.{◌≡◌, ◌+◌, ◌≤◌, ◌&&◌, IfOk, IfSome, is_some, length, nat_lt, string_bytes, if◌then◌else◌};
+ghost use Rattle.std.specs.Prelude.{◌≡◌, ◌+◌, ◌≤◌, IfOk, IfSome, is_some, string_bytes, if◌then◌else◌};
 ghost use Rattle.serde_json.specs.Written.{compact_text};
 ghost use Rattle.definitions.specs.Replacements.{is_let_go, says_the_same};
 ghost use Rattle.definitions.specs.Revisions.{greatest_revision};
-ghost use Rattle.definitions.specs.Verbs.{is_past_greatest, longest_object, put_in_place, let_go};
+ghost use Rattle.definitions.specs.Verbs.{is_past_greatest, put_in_place, let_go};
 ghost use Rattle.meta.specs.Keys.{name_of};
 ghost use Rattle.answers.specs.Serves.{Serves};
 
 use crate::limits::is_too_large;
 use crate::stored_texts::stored_with_text;
-use lifecycle::after_update;
+use lifecycle::is_let_go;
 use meta::{Fault, Key, Object, StoredObject, Write};
 use reply::Reply;
 use std::alloc::{AllocError, Global};
@@ -64,13 +64,6 @@ pub fn put_in_place(
     Ok((Reply { code: 200, text }, Some(write)))
 }
 
-/// Whether a write puts an object, and its text is longer than an object may be.
-fn puts_too_much(write: &Write, text: &str) -> bool
-    ensures { result ≡ (is_some write.now.put && nat_lt longest_object (length text.now)) }
-{
-    write.put.is_some() && is_too_large(text)
-}
-
 /// The object under a key in the place of the one that is held or, where nothing keeps that any more, its removal; or the
 /// first refusal: of the length of what is put, the room.
 pub fn replaced(
@@ -84,13 +77,13 @@ pub fn replaced(
     ensures { Serves (if is_let_go held.now.value object.now.value then let_go (name_of key) object.now.value before
         else put_in_place (name_of key) object.now.value before) result }
 {
-    let (stored, text) = stored_with_text(alloc, object)?;
-    let change = after_update(held, key, object, stored);
-    if puts_too_much(&change, text.as_str()) {
-        return Err(Fault::TooLarge);
+    if !is_let_go(held, object) {
+        return put_in_place(alloc, key, object, before);
     }
+    let text = object.text(alloc)?;
     if is_full(before) {
         return Err(Fault::StorageFull);
     }
-    Ok((Reply { code: 200, text }, Some(change)))
+    let write = Write { key, put: None };
+    Ok((Reply { code: 200, text }, Some(write)))
 }

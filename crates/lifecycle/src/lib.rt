@@ -8,7 +8,7 @@ mod updates;
 
 pub use fates::{DeleteFault, Fate, decide_delete};
 pub use options::DeleteOptions;
-pub use updates::after_update;
+pub use updates::{after_update, is_let_go};
 
 #[cfg(test)]
 mod tests;

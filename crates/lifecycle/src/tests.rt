@@ -1,9 +1,9 @@
 //! What the rules of finalizers, preconditions and policies say, by example.
-use crate::{DeleteFault, DeleteOptions, Fate, after_update, decide_delete};
+use crate::{DeleteFault, DeleteOptions, Fate, after_update, decide_delete, is_let_go};
 use definitions::kinds::Kind;
 use definitions::policies::{Policy, PolicySaid};
 use definitions::refusals::{Mismatch, Part};
-use meta::{Fault, Key, Object, StoredObject};
+use meta::{Fault, Key, Object};
 use serde_json::Value;
 use stamps::moments::Moment;
 use std::alloc::Global;
@@ -201,23 +201,18 @@ fn the_last_finalizer_lets_go(rt: HostRuntime) -> Result<(), Fail> {
         namespace: String::from_str(alloc, "default")?,
         name: String::from_str(alloc, "a")?,
     };
-    let same = after_update(
-        &held,
-        key.try_copy()?,
-        &held,
-        StoredObject::new(alloc, &held)?,
-    );
-    assert!(rt; same.put.is_some() && same.key == key);
     let freed = replica_set(alloc, "{}")?;
-    let removal = after_update(
-        &held,
-        key.try_copy()?,
-        &freed,
-        StoredObject::new(alloc, &freed)?,
-    );
-    assert!(rt; removal.put.is_none() && removal.key == key);
     let live = replica_set(alloc, r#"{"finalizers":["a"]}"#)?;
-    let kept = after_update(&live, key, &freed, StoredObject::new(alloc, &freed)?);
-    assert!(rt; kept.put.is_some());
+    // what is held, what is to be in its place, and whether it is let go
+    let cases = [
+        (&held, &held, false),
+        (&held, &freed, true),
+        (&live, &freed, false),
+    ];
+    for (before, object, goes) in cases {
+        assert_eq!(rt; is_let_go(before, object), goes);
+        let write = after_update(alloc, before, key.try_copy()?, object)?;
+        assert!(rt; write.put.is_none() == goes && write.key == key);
+    }
     Ok(())
 }
