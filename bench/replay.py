@@ -4,8 +4,10 @@
 A store is filled by creates, each of an object with about 100 bytes of data; the last create is followed by the lines that are
 measured, all of one part: creates, each with the delete of what it made, so that the store stays as large as it is; gets, updates
 and patches of objects all over the store; lists of a thousand, plain and by four requirements; and watches of the last thousand
-changes. The time of a part is that of a run with it without that of a run that only fills the store, each the best of several. The
-beginning of each line of the replies is checked, so that a run that refuses its requests is not taken for a fast one.
+changes. The time of a part is that of a run with it without that of a run that only fills the store, each the best of several. It is
+the processor's time, of the program and of what the system does for it, so that what else runs on the machine does not count; the
+program works on one processor. In the runs that are measured the replies go nowhere; in one run before them the beginning of each
+line is checked, so that a program that refuses its requests is not taken for a fast one.
 
 Usage: replay.py [--program PATH] [--count N] [--runs N] [--seconds N]
   --program PATH   an executable that is built; without it `rt run -- replay` in crates/kcp proves and builds one first
@@ -29,7 +31,7 @@ COLLECTION = "/api/v1/namespaces/default/configmaps"
 SMALLER = [100, 10_000]
 
 # How many lines of a part that is about one object, and how many of one that is about a thousand.
-LINES = 50_000
+LINES = 100_000
 REPEATS = 1_000
 
 # How many objects a list has, and changes a watch.
@@ -103,29 +105,33 @@ def peak_memory(process):
 
 
 def run(command, given, written, limit):
-    """The seconds that one run took, and its peak resident memory in KiB, as it was last seen."""
-    memory = 0
+    """The seconds of the processor that one run took, and its peak resident memory in KiB, as it was last seen."""
+    memory, ended = 0, 0
     with open(given, "rb") as source, open(written, "wb") as sink:
-        began = time.perf_counter()
+        began = time.monotonic()
         process = subprocess.Popen(command, stdin=source, stdout=sink)
-        while process.poll() is None:
-            if time.perf_counter() > began + limit:
+        while not ended:
+            if time.monotonic() > began + limit:
                 process.kill()
                 sys.exit(f"{command[0]} took more than {limit} seconds")
             memory = max(memory, peak_memory(process))
-            time.sleep(0.001)
-        seconds = time.perf_counter() - began
+            time.sleep(0.002)
+            ended, status, used = os.wait4(process.pid, os.WNOHANG)
+        process.returncode = os.waitstatus_to_exitcode(status)
     if process.returncode != 0:
         sys.exit(f"{command[0]} ended with status {process.returncode}")
-    return seconds, memory
+    return used.ru_utime + used.ru_stime, memory
 
 
-def best(command, folder, lines, asked):
-    """The shortest time of several runs over these lines, the greatest memory, and what the last run wrote."""
+def best(command, folder, lines, codes, asked):
+    """The shortest time of several runs over these lines, the greatest memory, and how long the replies are, which begin so."""
     given, written = folder / "given", folder / "written"
     given.write_text("".join(f"{line}\n" for line in lines))
-    seconds, memory = zip(*(run(command, given, written, asked.seconds) for _ in range(asked.runs)))
-    return min(seconds), max(memory), written.read_bytes()
+    run(command, given, written, asked.seconds)
+    replies = written.read_bytes()
+    check(replies, codes)
+    seconds, memory = zip(*(run(command, given, os.devnull, asked.seconds) for _ in range(asked.runs)))
+    return min(seconds), max(memory), len(replies)
 
 
 def check(replies, codes):
@@ -152,29 +158,38 @@ def parts(count):
 def measure(program, folder, count, asked):
     """The rows of a store of so many objects."""
     filled = fills(count)
-    before, memory, replies = best([program, "replay"], folder, filled, asked)
     codes = [b"201"] * count
-    check(replies, codes)
-    rows = [("creates into the empty store", count, before, len(replies), memory)]
+    before, memory, length = best([program, "replay"], folder, filled, codes, asked)
+    rows = [("creates into the empty store", count, before, length, memory)]
     for name, lines, each, begins in parts(count):
-        seconds, memory, all_replies = best([program, "replay"], folder, filled + lines, asked)
-        check(all_replies, codes + begins)
-        rows.append((name, len(lines) // each, seconds - before, len(all_replies) - len(replies), memory))
+        seconds, memory, whole = best([program, "replay"], folder, filled + lines, codes + begins, asked)
+        rows.append((name, len(lines) // each, seconds - before, whole - length, memory))
     return rows
+
+
+def growths(costs):
+    """How many times as much as with the fewest objects each part of one object costs with the most."""
+    first, last = costs[min(costs)], costs[max(costs)]
+    return [(name, last[name] / first[name]) for name in first if "of" not in name.split() and "into" not in name.split()]
 
 
 def main():
     asked = shared.arguments(__doc__, "count", most=65536, default=65000, runs=3)
     program = shared.built(asked.program, "kcp", ["replay"])
-    print(f"best of {asked.runs} runs, {os.cpu_count()} processors")
+    print(f"best of {asked.runs} runs, processor time on one of {os.cpu_count()} processors")
     print("| Objects | Part | So many | Microseconds each | So many a second | MB a second | Peak memory, MB |")
     print("|---|---|---|---|---|---|---|")
+    costs = {}
     for count in sorted({size for size in SMALLER if size < asked.count} | {asked.count}):
+        costs[count] = {}
         with tempfile.TemporaryDirectory() as folder:
             for name, done, seconds, length, memory in measure(program, pathlib.Path(folder), count, asked):
                 each = f"{seconds / done * 1e6:,.1f}"
                 rates = f"{shared.rate(done, seconds)} | {shared.rate(length / 1e6, seconds)}"
                 print(f"| {count:,} | {name} | {done:,} | {each} | {rates} | {memory * 1024 / 1e6:.1f} |", flush=True)
+                costs[count][name] = seconds / done
+    for name, times in growths(costs):
+        print(f"{name}: {times:.2f} times as much at the last size as at the first")
 
 
 if __name__ == "__main__":
