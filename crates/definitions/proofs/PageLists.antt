@@ -15,8 +15,7 @@ use Rattle.definitions.specs.SelectorFields.{fields_meet}
 use Rattle.definitions.specs.Selectors.{meets_all}
 use Rattle.definitions.specs.Names.{Name, name_cmp}
 use Rattle.definitions.specs.History.{History, View, Members, viewed, in_view, in_namespace, list, up_to, members}
-use Rattle.definitions.specs.PageLaws.{AreInPlace}
-use Rattle.definitions.specs.Pages.{Place, place_of, place_cmp, after_place, last_place, Page, page_of, remaining, ArePages, joined}
+use Rattle.definitions.specs.Pages.{Place, place_of, place_cmp, after_place, last_place, Page, page_of, remaining, ArePages, joined, AreInPlace}
 use Rattle.definitions.proofs.PutLaws.{IsAbove, IsAscending, IsAscending-after_all}
 
 abbrev pub order : Name → Name → Ordering

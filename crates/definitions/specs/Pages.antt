@@ -1,5 +1,6 @@
 -- Lists cut into pages (Kubernetes API Concepts, Retrieving large results sets in chunks).
-use Rattle.std.specs.Prelude.{◌≡◌, ◌==◌, ℕ, ◌-◌, List, [], ◌∷◌, length, take, filter, flat_map, Bool, true, nat_le, Option, Some, None, if◌then◌else◌}
+use Rattle.std.specs.Prelude.{◌≡◌, ◌==◌, ℕ, ◌-◌, List, [], ◌∷◌, length, map, take, filter, flat_map, Bool, true, nat_le, Option, Some, None, if◌then◌else◌}
+use Rattle.std.specs.List.Sorted.{IsStrictlySortedBy}
 use Rattle.std.specs.Ordering.{nat_cmp, then_cmp, on, is_lt}
 use Rattle.std.specs.Cmp.Lexicographic.{slice_cmp}
 use Rattle.std.specs.declared.cmp.Ordering.{Ordering}
@@ -17,6 +18,10 @@ place_of n = record { namespace = n.namespace; name = n.name }
 -- by namespace, then name, in byte order, as names of one kind go
 abbrev pub place_cmp : Place → Place → Ordering
 place_cmp = then_cmp (on (λ (p : Place). p.namespace) (slice_cmp nat_cmp)) (on (λ (p : Place). p.name) (slice_cmp nat_cmp))
+
+-- the members stand in strictly ascending order of their places
+abbrev pub AreInPlace : Members → Type 0
+AreInPlace ms = IsStrictlySortedBy place_cmp (map (λ m. place_of m.0) ms)
 
 -- whether a name comes after a place; where there is none, each does
 abbrev pub is_after : Option Place → Name → Bool

@@ -7,8 +7,7 @@ use Rattle.std.specs.BTreeMap.{insert_entry, is_at}
 use Rattle.serde_json.specs.Data.{Data}
 use Rattle.definitions.specs.Names.{Name, name_cmp}
 use Rattle.definitions.specs.History.{View, Members, viewed, in_view, put_or_remove, seen}
-use Rattle.definitions.specs.PageLaws.{AreInPlace}
-use Rattle.definitions.specs.Pages.{place_of, last_place}
+use Rattle.definitions.specs.Pages.{AreInPlace, place_of, last_place}
 use Rattle.definitions.specs.Refusals.{Refusal, expired, too_new}
 use Rattle.definitions.specs.Windows.{Kept, Window, above, undone, list_kept}
 use Rattle.meta.specs.Keys.{name_of}

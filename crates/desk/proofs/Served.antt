@@ -3,7 +3,7 @@ use Rattle.std.proofs.Common.{◌≡◌, ℕ, List, false, Option, Some, Ok, IfS
 use Rattle.definitions.specs.History.{Members}
 use Rattle.definitions.specs.Verbs as outcomes
 use Rattle.definitions.specs.Verbs.{Outcome, Request, answered, refused, accept_at, overflows}
-use Rattle.definitions.proofs.Limits.{room}
+use Rattle.laws.proofs.Limits.{room}
 use Rattle.meta.specs.Writes.{write_of}
 use Rattle.meta.specs.declared.writes.Write.{Write}
 use Rattle.reply.specs.declared.reply.Reply.{Reply}

@@ -8,8 +8,7 @@ use Rattle.std.specs.FinMap.Entries.{below_all}
 use Rattle.definitions.specs.Names.{Name, name_cmp, is_named}
 use Rattle.definitions.specs.Expectations.{Owner, owner_cmp, Expectation, change, forgotten}
 use Rattle.definitions.proofs.TaskOrder.{name_total, name_tells}
-use Rattle.definitions.proofs.Expected.{owner_total, keys_tied}
-use Rattle.definitions.proofs.Falling.{owner_tells}
+use Rattle.definitions.proofs.Expected.{owner_total, owner_tells, keys_tied}
 use Rattle.expectations.specs.Seen.{uid_cmp, Owners, Nested, inside, flattened, flat, changed_from, changed_at}
 use Rattle.expectations.proofs.SeenTexts.{uid_total, uid_tells}
 

@@ -9,7 +9,7 @@ use Rattle.serde_json.proofs.OnLiterals.{serde_json_on_literals}
 use Rattle.definitions.specs.declared.kinds.Kind.{Kind}
 use Rattle.definitions.specs.declared.kinds.Kind.TheVariants.{ConfigMap, Pod, ReplicaSet, Deployment}
 use Rattle.definitions.specs.Frames.{kind_text, frame_data, bookmark_data, bookmark_event}
-use Rattle.definitions.proofs.TextLengths.{length-escape}
+use Rattle.definitions.proofs.EscapedTexts.{length-escape}
 use Rattle.framing.specs.Texts.{IsWithin, framed_text}
 use Rattle.definitions.specs.declared.frames.FrameKind.TheVariants.{Bookmark}
 use Rattle.framing.proofs.FrameTexts.{frame_bytes}

@@ -3,8 +3,7 @@ use Rattle.std.proofs.Common.{◌≡◌, ◌<◌, ℕ, zero, suc, List, [], ◌�
 use Rattle.std.specs.List.{AllByRecursion}
 use Rattle.std.specs.List.Sorted.{IsStrictlySortedBy, IsPartitionedBy, IsPartitionPoint}
 use Rattle.std.specs.Ordering.{is_lt}
-use Rattle.definitions.specs.PageLaws.{AreInPlace}
-use Rattle.definitions.specs.Pages.{Place, place_of, place_cmp, is_after}
+use Rattle.definitions.specs.Pages.{AreInPlace, Place, place_of, place_cmp, is_after}
 use Rattle.definitions.specs.PageTokens.{Token, token_place}
 use Rattle.definitions.proofs.PageLists.{place_total}
 use Rattle.meta.specs.Members.{member_of}

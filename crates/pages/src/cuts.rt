@@ -1,8 +1,7 @@
 //! Pages of lists.
 ghost use Rattle.std.specs.Prelude.{◌≡◌, ◌≤◌, length, map, drop};
-ghost use Rattle.definitions.specs.PageLaws.{AreInPlace};
 ghost use Rattle.definitions.specs.Pages as pages;
-ghost use Rattle.definitions.specs.Pages.{place_of, place_cmp, after_place};
+ghost use Rattle.definitions.specs.Pages.{AreInPlace, place_of, place_cmp, after_place};
 ghost use Rattle.meta.specs.Keys.{name_of};
 ghost use Rattle.meta.specs.Members.{member_of};
 ghost use Rattle.pages.specs.Seen.{token_of, asked_place, is_passed, list_after};

@@ -12,10 +12,10 @@ use Rattle.definitions.specs.Changes.{Change, changes, play, play_one}
 use Rattle.definitions.specs.Frames.{Event, frame_kind, bookmark_event}
 use Rattle.definitions.specs.Streams.{Line, change, bookmark, initial, initial_end, Goes, event_of}
 use Rattle.definitions.specs.Revisions.{greatest_revision}
-use Rattle.definitions.specs.WatchLaws.{AreBetween}
-use Rattle.definitions.proofs.Played.{list_played, goes_on, lie_between}
+use Rattle.laws.specs.WatchLaws.{AreBetween}
+use Rattle.laws.proofs.Played.{list_played, goes_on, lie_between}
 use Rattle.definitions.specs.Reflectors.{Shown, Step, Run, run, step, shown, if_above, or_unreadable, put_step, remove_step, name_in, play_delta, play_deltas, going_on, mark_step}
-use Rattle.definitions.specs.SentLaws.{whole, IsTold}
+use Rattle.laws.specs.SentLaws.{whole, IsTold}
 use Rattle.reflector.proofs.Marks.{bookmark_step}
 
 -- ---- the first change

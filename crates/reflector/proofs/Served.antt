@@ -10,11 +10,11 @@ use Rattle.definitions.specs.Frames.{kind_text, frame_kind}
 use Rattle.definitions.specs.History.{list, present}
 use Rattle.definitions.specs.Reflectors.{Reflector, with_list, all_fed, play_deltas}
 use Rattle.definitions.specs.Lines.{history_of}
-use Rattle.definitions.specs.SentLaws.{whole, IsShort, listed_at}
+use Rattle.laws.specs.SentLaws.{whole, IsShort, listed_at}
 use Rattle.definitions.specs.Streams.{Line, change, bookmark, initial, initial_end, Goes, change_event, text_of}
-use Rattle.definitions.proofs.Limits.{limits}
-use Rattle.definitions.proofs.SentChanges.{changes_told}
-use Rattle.definitions.proofs.SentLists.{lists_read}
+use Rattle.laws.proofs.Limits.{limits}
+use Rattle.laws.proofs.SentChanges.{changes_told}
+use Rattle.laws.proofs.SentLists.{lists_read}
 use Rattle.framing.specs.Texts.{framed_text, IsWithin}
 use Rattle.framing.proofs.Bookmarks.{IsWithin-bookmark}
 use Rattle.framing.proofs.FrameTexts.{frame_bytes}

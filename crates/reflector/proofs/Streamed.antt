@@ -10,7 +10,7 @@ use Rattle.definitions.specs.Streams.{Line, event_of, text_of}
 use Rattle.definitions.specs.Changes.{changes}
 use Rattle.definitions.specs.Reflectors.{Reflector, Fed, Run, run, ran, all_fed, play_deltas}
 use Rattle.framing.specs.Decoders.{fed_after}
-use Rattle.definitions.specs.SentLaws.{whole}
+use Rattle.laws.specs.SentLaws.{whole}
 use Rattle.reflector.specs.Laws.{IsReadBack, IsSent, IsAt, GoesOn}
 use Rattle.reflector.proofs.Cutting.{reading_twice, flat, no_cutting_at, at_revision}
 use Rattle.reflector.proofs.Followed.{Reaches, follows}

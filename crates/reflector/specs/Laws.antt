@@ -10,7 +10,7 @@ use Rattle.definitions.specs.Streams.{Line, IsStream, event_of, text_of}
 use Rattle.definitions.specs.Revisions.{greatest_revision}
 use Rattle.definitions.specs.Reflectors.{Reflector, Fed, Listed, list_of, list_delta, with_list, play_deltas, fed, all_fed}
 use Rattle.definitions.specs.Lines.{history_of}
-use Rattle.definitions.specs.SentLaws.{whole, IsTold, IsListText}
+use Rattle.laws.specs.SentLaws.{whole, IsTold, IsListText}
 use Rattle.framing.specs.Texts.{ReadsAs, IsWithin}
 
 -- however the bytes of a watch are cut into pieces, what comes of them, and the reflector in the end, are the same

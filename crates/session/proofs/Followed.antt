@@ -7,15 +7,15 @@ use Rattle.definitions.specs.Lines as lines
 use Rattle.definitions.specs.Lines.{Line, ask, at, compact, unreadable, line_of, outcome, reply_text, watch_reply, compact_reply, history_from}
 use Rattle.definitions.specs.Lists.{list_answer}
 use Rattle.definitions.specs.Refusals.{Refusal}
-use Rattle.definitions.specs.ServerLaws.{HoldOrRefuse}
+use Rattle.laws.specs.ServerLaws.{HoldOrRefuse}
 use Rattle.definitions.specs.Servers.{Server, Holds, after_writing, list_by, compact_by}
 use Rattle.definitions.specs.Streams as streams
 use Rattle.definitions.specs.Targets.{Asked, request, list, watch, read_request}
 use Rattle.definitions.specs.Verbs.{Request, refused, write_of, accept_at, accept, history_after}
 use Rattle.definitions.specs.Versions.{Listed, list_for, compacts}
 use Rattle.definitions.specs.WatchReplies.{watch_lines, watch_served}
-use Rattle.definitions.proofs.HeldAnswers.{pages_held, lines_held}
-use Rattle.definitions.proofs.HeldHistories.{opened_holds, accepted_holds, compaction_holds}
+use Rattle.laws.proofs.HeldAnswers.{pages_held, lines_held}
+use Rattle.laws.proofs.HeldHistories.{opened_holds, accepted_holds, compaction_holds}
 use Rattle.session.specs.Held.{Held, accepted, reply_for, reply_to, server_from, server_or, held_after, compact_text}
 use Rattle.session.specs.Laws.{Follows, SessionsFollow}
 

@@ -1,7 +1,7 @@
 -- What a served request says of its outcome.
 use Rattle.std.proofs.Common.{◌≡◌, ℕ, List, [], ◌∷◌, ◌++◌, false, Option, Ok, IfSome, decimal, option_map, string_bytes, ap, ap₂, sym, subst}
 use Rattle.answers.specs.Serves.{Serves}
-use Rattle.definitions.proofs.Limits.{room}
+use Rattle.laws.proofs.Limits.{room}
 use Rattle.definitions.specs.Lines.{outcome, reply_text}
 use Rattle.definitions.specs.Servers.{Server, after_writing}
 use Rattle.definitions.specs.Verbs as verbs

@@ -1,5 +1,0 @@
-use Rattle.definitions.proofs.DefaultsRead.{defaults_read}
-use Rattle.definitions.proofs.check_laws.defaults_read_again.Goals as goal
-
-pub returns : goal.returns
-returns c = defaults_read

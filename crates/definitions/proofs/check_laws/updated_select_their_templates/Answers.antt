@@ -1,5 +1,0 @@
-use Rattle.definitions.proofs.CheckLaws.{updated_select}
-use Rattle.definitions.proofs.check_laws.updated_select_their_templates.Goals as goal
-
-pub returns : goal.returns
-returns c = updated_select

@@ -1,5 +1,0 @@
-use Rattle.definitions.proofs.Falling.{stays_over}
-use Rattle.definitions.proofs.expectation_laws.stays_over.Goals as goal
-
-pub returns : goal.returns
-returns c = stays_over

@@ -1,5 +1,0 @@
-use Rattle.definitions.proofs.NamedVersions.{deletes_uid}
-use Rattle.definitions.proofs.lifecycle_laws.deletes_find_their_uid.Goals as goal
-
-pub returns : goal.returns
-returns c = deletes_uid

@@ -1,5 +1,0 @@
-use Rattle.definitions.proofs.NamedVersions.{deletes_version}
-use Rattle.definitions.proofs.lifecycle_laws.deletes_remove_their_version.Goals as goal
-
-pub returns : goal.returns
-returns c = deletes_version

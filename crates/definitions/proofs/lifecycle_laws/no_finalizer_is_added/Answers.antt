@@ -1,5 +1,0 @@
-use Rattle.definitions.proofs.Removals.{adds_no_other}
-use Rattle.definitions.proofs.lifecycle_laws.no_finalizer_is_added.Goals as goal
-
-pub returns : goal.returns
-returns c = adds_no_other

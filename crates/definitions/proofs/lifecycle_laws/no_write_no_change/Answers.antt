@@ -1,5 +1,0 @@
-use Rattle.definitions.proofs.Generations.{no_change}
-use Rattle.definitions.proofs.lifecycle_laws.no_write_no_change.Goals as goal
-
-pub returns : goal.returns
-returns c = no_change

@@ -1,5 +1,0 @@
-use Rattle.definitions.proofs.NamedVersions.{patches_version}
-use Rattle.definitions.proofs.lifecycle_laws.patches_replace_their_version.Goals as goal
-
-pub returns : goal.returns
-returns c = patches_version

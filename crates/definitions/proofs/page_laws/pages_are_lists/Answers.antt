@@ -1,5 +1,0 @@
-use Rattle.definitions.proofs.PageLists.{pages_are_lists}
-use Rattle.definitions.proofs.page_laws.pages_are_lists.Goals as goal
-
-pub returns : goal.returns
-returns c = pages_are_lists

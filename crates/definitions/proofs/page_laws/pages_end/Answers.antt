@@ -1,5 +1,0 @@
-use Rattle.definitions.proofs.PageLists.{nothing_remains}
-use Rattle.definitions.proofs.page_laws.pages_end.Goals as goal
-
-pub returns : goal.returns
-returns c = nothing_remains

@@ -1,5 +1,0 @@
-use Rattle.definitions.proofs.TokenTexts.{one_token}
-use Rattle.definitions.proofs.page_laws.tokens_are_distinct.Goals as goal
-
-pub returns : goal.returns
-returns c = one_token

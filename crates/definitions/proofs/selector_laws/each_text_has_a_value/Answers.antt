@@ -1,6 +1,0 @@
-use Rattle.definitions.proofs.SelectorForms.{value-read}
-use Rattle.definitions.proofs.SelectorSound.{said-sound}
-use Rattle.definitions.proofs.selector_laws.each_text_has_a_value.Goals as goal
-
-pub returns : goal.returns
-returns c = λ t rs h. value-read rs (said-sound t rs h)

@@ -1,6 +1,0 @@
-use Rattle.definitions.proofs.SelectorForms.{pair-read}
-use Rattle.definitions.proofs.SelectorTextsRead.{equality-read}
-use Rattle.definitions.proofs.selector_laws.pairs_are_equalities.Goals as goal
-
-pub returns : goal.returns
-returns c = λ k v h g. (equality-read k v h g, pair-read k v h g)

@@ -1,6 +1,0 @@
-use Rattle.definitions.proofs.SelectorForms.{value-read}
-use Rattle.definitions.proofs.SelectorTextsRead.{text-read}
-use Rattle.definitions.proofs.selector_laws.texts_and_values_agree.Goals as goal
-
-pub returns : goal.returns
-returns c = λ rs h. (text-read rs h, value-read rs h)

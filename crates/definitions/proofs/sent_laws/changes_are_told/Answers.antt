@@ -1,5 +1,0 @@
-use Rattle.definitions.proofs.SentChanges.{changes_told}
-use Rattle.definitions.proofs.sent_laws.changes_are_told.Goals as goal
-
-pub returns : goal.returns
-returns c = changes_told

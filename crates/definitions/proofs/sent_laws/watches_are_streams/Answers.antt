@@ -1,5 +1,0 @@
-use Rattle.definitions.proofs.ShownWatches.{watches_stream}
-use Rattle.definitions.proofs.sent_laws.watches_are_streams.Goals as goal
-
-pub returns : goal.returns
-returns c = watches_stream

@@ -1,5 +1,0 @@
-use Rattle.definitions.proofs.HeldAnswers.{lists_held}
-use Rattle.definitions.proofs.server_laws.servers_list.Goals as goal
-
-pub returns : goal.returns
-returns c = lists_held

@@ -1,5 +1,0 @@
-use Rattle.definitions.proofs.HeldAnswers.{lines_held}
-use Rattle.definitions.proofs.server_laws.servers_show.Goals as goal
-
-pub returns : goal.returns
-returns c = lines_held

@@ -1,5 +1,0 @@
-use Rattle.definitions.proofs.HeldHistories.{written_holds}
-use Rattle.definitions.proofs.server_laws.servers_write.Goals as goal
-
-pub returns : goal.returns
-returns c = written_holds

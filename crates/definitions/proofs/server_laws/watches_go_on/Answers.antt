@@ -1,5 +1,0 @@
-use Rattle.definitions.proofs.StandingWatches.{watches_go_on}
-use Rattle.definitions.proofs.server_laws.watches_go_on.Goals as goal
-
-pub returns : goal.returns
-returns c = watches_go_on

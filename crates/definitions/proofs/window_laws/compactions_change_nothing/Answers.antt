@@ -1,5 +1,0 @@
-use Rattle.definitions.proofs.ServedWindows.{compaction_changes_nothing}
-use Rattle.definitions.proofs.window_laws.compactions_change_nothing.Goals as goal
-
-pub returns : goal.returns
-returns c = compaction_changes_nothing

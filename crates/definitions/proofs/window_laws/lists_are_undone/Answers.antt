@@ -1,5 +1,0 @@
-use Rattle.definitions.proofs.ServedWindows.{list_undone}
-use Rattle.definitions.proofs.window_laws.lists_are_undone.Goals as goal
-
-pub returns : goal.returns
-returns c = list_undone

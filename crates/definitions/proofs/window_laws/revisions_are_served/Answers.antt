@@ -1,5 +1,0 @@
-use Rattle.definitions.proofs.ServedWindows.{revisions_served}
-use Rattle.definitions.proofs.window_laws.revisions_are_served.Goals as goal
-
-pub returns : goal.returns
-returns c = revisions_served

@@ -1,5 +1,0 @@
-use Rattle.definitions.proofs.ServedWindows.{watch_served}
-use Rattle.definitions.proofs.window_laws.watches_are_served.Goals as goal
-
-pub returns : goal.returns
-returns c = watch_served

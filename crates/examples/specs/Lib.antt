@@ -1,0 +1,12 @@
+pub mod CheckExamples
+pub mod CollectionExamples
+pub mod DeletionExamples
+pub mod PageExamples
+pub mod ReflectorExamples
+pub mod RequestExamples
+pub mod SelectorExamples
+pub mod ServerExamples
+pub mod ServingExamples
+pub mod VerbExamples
+pub mod WatchExamples
+pub mod WindowExamples

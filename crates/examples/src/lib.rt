@@ -1,0 +1,16 @@
+//! What the definitions give in single cases, computed by the checker: a slip in a definition shows here.
+//! No crate stands on this one.
+#![tactic(auto)]
+
+pub mod check_examples;
+pub mod collection_examples;
+pub mod deletion_examples;
+pub mod page_examples;
+pub mod reflector_examples;
+pub mod request_examples;
+pub mod selector_examples;
+pub mod server_examples;
+pub mod serving_examples;
+pub mod verb_examples;
+pub mod watch_examples;
+pub mod window_examples;

@@ -1,0 +1,156 @@
+-- Bodies, objects and revisions stay within their limits.
+use Rattle.std.proofs.Common.{◌≡◌, ℕ, suc, ◌+◌, ◌-◌, ◌≤◌, ◌||◌, ◌&&◌, not, is_some, Option, IfSome, List, [], ◌∷◌, ◌++◌, length, Bool, true, false, cond, Some, None, Ok, Err, nat_le, nat_lt, Ordering, Less, Equal, Greater, arith, subst, refl, sym, ap, ◌∙◌}
+use Rattle.std.specs.Cmp.{IsTotalOrder}
+use Rattle.std.specs.Ordering.{match_ordering}
+use Rattle.std.specs.Map.{lookup, remove_entry}
+use Rattle.std.specs.BTreeMap.{insert_entry, is_at}
+use Rattle.serde_json.specs.Data.{Data}
+use Rattle.laws.specs.HistoryLaws.{BodiesFit, RunsStayWithinLimits, WritesHaveRoom}
+use Rattle.definitions.specs.Lines.{start, default_window}
+use Rattle.definitions.specs.Names.{Name, name_cmp}
+use Rattle.definitions.specs.History.{History, Write, write, writes, up_to, Members, after, after_all, put_or_remove, members, found, present}
+use Rattle.definitions.specs.Refusals.{too_large}
+use Rattle.definitions.specs.Targets.{Asked, asks_with, body_or}
+use Rattle.definitions.specs.Values.{data_of}
+use Rattle.definitions.specs.Verbs.{Request, accept, new_name, with_write, write_of, overflows, most_objects, is_past_greatest}
+use Rattle.laws.proofs.Cases.{of_accept_at}
+use Rattle.laws.proofs.Past.{writes-append, whole}
+use Rattle.definitions.proofs.PutLaws.{IsAscending, IsAbove-below, none_above, name_cmp_total, IsAscending-after_all}
+use Rattle.laws.proofs.Compacted.{snapshot-compaction}
+use Rattle.laws.proofs.Runs.{by_lines}
+use Rattle.laws.proofs.HeldMembers.{at_most}
+use Rattle.laws.proofs.VerbLaws.{present-write}
+
+body_at : (b : Bool) (f : Data → Request) (text : List ℕ) (q : Asked) → nat_lt 1048576 (length text) ≡ b → asks_with f (cond b (Err too_large) (body_or (data_of text))) ≡ Ok q → length text ≤ 1048576
+body_at true f text q at is = cc
+body_at false f text q at is = at_most 1048576 (length text) at
+
+pub bodies : BodiesFit
+bodies f text q is = body_at (nat_lt 1048576 (length text)) f text q refl is
+
+module _ {K X : Type 0} {R : K → K → Ordering} (o : IsTotalOrder R) (k : K) (v : X) where
+  one_more_at : (e : K × X) (es : List (K × X)) (r : Ordering) → length (insert_entry R es k v) ≤ length es + 1
+      → length (match_ordering r ((k, v) ∷ e ∷ es) ((e.0, v) ∷ es) (e ∷ insert_entry R es k v)) ≤ suc (length es) + 1
+  one_more_at e es Less h = omega arith
+  one_more_at e es Equal h = omega arith
+  one_more_at e es Greater h = omega (arith, h)
+
+  one_more : (es : List (K × X)) → length (insert_entry R es k v) ≤ length es + 1
+  one_more [] = omega arith
+  one_more (e ∷ es) = one_more_at e es (R k e.0) (one_more es)
+
+  as_many_at : (e : K × X) (es : List (K × X)) (d : X) (r : Ordering) → R k e.0 ≡ r → IsAscending R (e ∷ es) → lookup (is_at (R k)) (e ∷ es) ≡ Some d
+      → (lookup (is_at (R k)) es ≡ Some d → length (insert_entry R es k v) ≡ length es)
+      → length (match_ordering r ((k, v) ∷ e ∷ es) ((e.0, v) ∷ es) (e ∷ insert_entry R es k v)) ≡ suc (length es)
+  as_many_at e es d Less at a is later =
+      let gone : lookup (is_at (R k)) es ≡ None = none_above o k es (IsAbove-below o k e.0 es at a.0) in
+      let left : lookup (is_at (R k)) (e ∷ es) ≡ None = rw at gone in
+      let never : None ≡ Some d = sym left ∙ is in cc
+  as_many_at e es d Equal at a is later = refl
+  as_many_at e es d Greater at a is later =
+      let left : lookup (is_at (R k)) (e ∷ es) ≡ lookup (is_at (R k)) es = rw at refl in
+      ap suc (later (sym left ∙ is))
+
+  as_many : (es : List (K × X)) (d : X) → IsAscending R es → lookup (is_at (R k)) es ≡ Some d → length (insert_entry R es k v) ≡ length es
+  as_many [] d a is = cc
+  as_many (e ∷ es) d a is = as_many_at e es d (R k e.0) refl a is (as_many es d a.1)
+
+after_all-append : (ms : Members) (ws : List Write) (w : Write) → after_all ms (ws ++ w ∷ []) ≡ after (after_all ms ws) w
+after_all-append ms [] w = refl
+after_all-append ms (v ∷ ws) w = after_all-append (after ms v) ws w
+
+now : History → Members
+now h = members h (present h)
+
+now-is : (h : History) → now h ≡ after_all [] (writes h)
+unfolding now
+now-is h = ap (after_all []) (whole (present h - 1) (writes h) (omega arith))
+
+now-write : (h : History) (w : Write) → now (h ++ write w ∷ []) ≡ after (now h) w
+now-write h w =
+    now-is (h ++ write w ∷ []) ∙ ap (after_all []) (writes-append h (write w ∷ [])) ∙ after_all-append [] (writes h) w ∙ ap (λ ms. after ms w) (sym (now-is h))
+
+-- what is there after one more write
+pub members-write : (h : History) (w : Write) → members (h ++ write w ∷ []) (present (h ++ write w ∷ [])) ≡ after (members h (present h)) w
+unfolding now
+members-write h w = now-write h w
+
+abbrev pub Within : History → Type 0
+Within h = (length (members h (present h)) ≤ 65536) × (present h ≤ 9007199254740991)
+
+no_more_at : (k : Name) (e : Name × Data) (es : Members) (b : Bool) → length (remove_entry (is_at (name_cmp k)) es) ≤ length es → length (cond b es (e ∷ remove_entry (is_at (name_cmp k)) es)) ≤ suc (length es)
+no_more_at k e es true h = omega arith
+no_more_at k e es false h = omega (arith, h)
+
+no_more : (k : Name) (es : Members) → length (remove_entry (is_at (name_cmp k)) es) ≤ length es
+no_more k [] = omega arith
+no_more k (e ∷ es) = no_more_at k e es (is_at (name_cmp k) e.0) (no_more k es)
+
+room_left : (n : ℕ) → (nat_le 65536 n && true) ≡ false → n + 1 ≤ 65536
+room_left n h = room_at (nat_le 65536 n) refl h
+  where
+    room_at : (b : Bool) → nat_le 65536 n ≡ b → (b && true) ≡ false → n + 1 ≤ 65536
+    room_at true is h = cc
+    room_at false is h = grind arith
+
+few_at : (k : Name) (d : Data) (ms : Members) (o : Option Data) → found k ms ≡ o → IsAscending name_cmp ms → length ms ≤ 65536
+    → (nat_le 65536 (length ms) && true && not (is_some o)) ≡ false → length (insert_entry name_cmp ms k d) ≤ 65536
+few_at k d ms None is a few room =
+    let left : length ms + 1 ≤ 65536 = room_left (length ms) (sym (and_true (nat_le 65536 (length ms) && true)) ∙ room) in
+    let more : length (insert_entry name_cmp ms k d) ≤ length ms + 1 = one_more name_cmp_total k d ms in
+    omega (arith, left, more)
+  where
+    and_true : (b : Bool) → (b && true) ≡ b
+    and_true true = refl
+    and_true false = refl
+few_at k d ms (Some held) is a few room = subst (λ n. n ≤ 65536) (sym (as_many name_cmp_total k d ms held a is)) few
+
+few_after : (k : Name) (o : Option Data) (ms : Members) → IsAscending name_cmp ms → length ms ≤ 65536
+    → (nat_le 65536 (length ms) && is_some o && not (is_some (found k ms))) ≡ false → length (put_or_remove ms k o) ≤ 65536
+few_after k None ms a few room = let less = no_more k ms in omega (arith, less, few)
+few_after k (Some d) ms a few room = few_at k d ms (found k ms) refl a few room
+
+either_false : (a b : Bool) → (a || b) ≡ false → (a ≡ false) × (b ≡ false)
+either_false true b h = cc
+either_false false b h = (refl, h)
+
+pub at_most_next : (n : ℕ) → nat_lt 9007199254740991 n ≡ false → n ≤ 9007199254740991
+at_most_next n h = at_most 9007199254740991 n h
+
+-- a write that does not overflow leaves what is within the limits within them
+pub within-write : (h : History) (w : Write) → overflows (members h (present h)) (present h) w ≡ false → Within h → Within (h ++ write w ∷ [])
+within-write h w room within =
+    let parts = either_false (nat_le 65536 (length (members h (present h))) && is_some w.put && not (is_some (found w.key (members h (present h))))) (is_past_greatest (present h + 1)) room in (
+      subst (λ ms. length ms ≤ 65536) (sym (members-write h w)) (few_after w.key w.put (members h (present h)) (IsAscending-after_all [] (up_to (present h) h) tt) within.0 parts.0),
+      subst (λ r. r ≤ 9007199254740991) (sym (present-write h w)) (at_most_next (present h + 1) parts.1),
+    )
+
+held_room : (a b : Bool) (o : Option Data) (d : Data) → o ≡ Some d → b ≡ false → ((a && not (is_some o)) || b) ≡ false
+held_room a b None d is low = cc
+held_room true b (Some e) d is low = low
+held_room false b (Some e) d is low = low
+
+room_of : (a b c : Bool) → (a || b) ≡ false → ((a && true && not c) || b) ≡ false
+room_of true b c h = cc
+room_of false b c h = h
+
+gone_room : (a b c : Bool) → b ≡ false → ((a && false && c) || b) ≡ false
+gone_room true b c h = h
+gone_room false b c h = h
+
+pub room : WritesHaveRoom
+room q ms r moment =
+    let full = nat_le most_objects (length ms) in
+    let last = is_past_greatest (r + 1) in
+    of_accept_at (λ o. IfSome (write_of o) (λ w. overflows ms r w ≡ false)) (λ f. tt) (λ code body. tt) q ms r moment
+    (λ kind ns o fits free left. room_of full last (is_some (found (new_name kind ns o ms r) ms)) left) (λ k o held at valid fits low. held_room (full && true) last (found k ms) held at low)
+    (λ k o held at free low. gone_room full last (not (is_some (found k ms))) low) (λ k o held at fits low. held_room (full && true) last (found k ms) held at low)
+    (λ k o held at low. held_room (full && true) last (found k ms) held at low) (λ k o held at none low. gone_room full last (not (is_some (found k ms))) low)
+
+each_outcome : (h : History) (o : Option Write) → IfSome o (λ w. overflows (members h (present h)) (present h) w ≡ false) → Within h → Within (with_write h o)
+each_outcome h None r w = w
+each_outcome h (Some v) r w = within-write h v r w
+
+pub limits : RunsStayWithinLimits
+limits lines =
+    by_lines Within (λ q h moment w. each_outcome h (write_of (accept q h moment)) (room q (members h (present h)) (present h) moment) w) (λ h r le w. subst (λ z. (length z.members ≤ 65536) × (z.revision ≤ 9007199254740991)) (sym (snapshot-compaction h r)) w) (start default_window) lines (omega arith, omega arith)

@@ -1,0 +1,138 @@
+-- What holds after any lines.
+use Rattle.std.proofs.Common.{◌≡◌, ◌≤◌, ℕ, ◌+◌, ◌==◌, List, [], ◌∷◌, ◌++◌, length, Bool, true, false, cond, nat_lt, Option, Some, None, IfSome, Result, Ok, Err, decimal, arith, append_assoc, subst, refl, sym, ap, ◌∙◌}
+use Rattle.std.proofs.lemmas.Bool.{ltb-false}
+use Rattle.definitions.specs.declared.kinds.Kind.{Kind}
+use Rattle.definitions.specs.Collections.{ListOptions, WatchOptions}
+use Rattle.definitions.specs.History.{History, Entry, Write, View, write, compaction, writes, Follows, CanHappen, present}
+use Rattle.laws.specs.HistoryLaws.{RunsOnlyAdd, WindowsOnlyForget, RunsCanHappen, Carry, RunsCarryRevisions}
+use Rattle.definitions.specs.Lines.{Session, start, default_window, Line, ask, at, compact, unreadable, line_of, outcome, reply_for, watch_reply, compact_reply, history_from, session_after, next, after_lines}
+use Rattle.definitions.specs.Lists.{list_answer}
+use Rattle.definitions.specs.Refusals.{Refusal, too_new}
+use Rattle.definitions.specs.Streams as streams
+use Rattle.definitions.specs.Targets.{Asked, request, list, watch, read_request}
+use Rattle.definitions.specs.Verbs.{Request, accept, with_write, write_of}
+use Rattle.definitions.specs.Versions.{Listed, list_for, compacts}
+use Rattle.definitions.specs.WatchReplies.{watch_lines}
+use Rattle.definitions.specs.Metadata.{version}
+use Rattle.laws.proofs.Compacted.{same_writes, follows_compaction}
+use Rattle.laws.proofs.Past.{writes-append}
+use Rattle.laws.proofs.VerbLaws.{versions}
+
+-- a list and a watch leave what has happened as it is
+kept_list : (h : History) (v : View) (o : ListOptions) (r : Result Listed Refusal) → history_from h (outcome (list_answer v o r)) ≡ h
+kept_list h v o (Err f) = refl
+kept_list h v o (Ok l) = refl
+
+kept_watch : (h : History) (k : Kind) (r : Result (List streams.Line) Refusal) → history_from h (watch_reply k r) ≡ h
+kept_watch h k (Err f) = refl
+kept_watch h k (Ok ls) = refl
+
+pub kept_asked : (s : Session) (v : View) (o : ListOptions) → history_from s.history (reply_for s (Ok (list v o))) ≡ s.history
+kept_asked s v o = kept_list s.history v o (list_for s.window s.history v o.at)
+
+pub kept_watched : (s : Session) (v : View) (o : WatchOptions) → history_from s.history (reply_for s (Ok (watch v o))) ≡ s.history
+kept_watched s v o = kept_watch s.history v.kind (watch_lines s.window s.history v o)
+
+by_compact : (P : History → Type 0) (still : (h : History) (r : ℕ) → r ≤ present h → P h → P (h ++ compaction r ∷ [])) (b : Bool) (h : History) (r : ℕ) → nat_lt (present h) r ≡ b → P h
+    → P (history_from h (compact_reply (cond b (Err (too_new r (present h))) (Ok (h ++ compaction r ∷ [])))))
+by_compact P still true h r is p = p
+by_compact P still false h r is p = still h r (ltb-false (present h) r is) p
+
+-- a property that compactions leave which reach no further than what has happened
+pub by_compaction : (P : History → Type 0) (still : (h : History) (r : ℕ) → r ≤ present h → P h → P (h ++ compaction r ∷ [])) (h : History) (r : ℕ) → P h → P (history_from h (compact_reply (compacts h r)))
+by_compaction P still h r p = by_compact P still (nat_lt (present h) r) h r refl p
+
+-- a property of histories that a write leaves, and a compaction, is kept by every line
+module _ (P : History → Type 0) (each : (q : Request) (h : History) (moment : List ℕ) → P h → P (with_write h (write_of (accept q h moment)))) (still : (h : History) (r : ℕ) → r ≤ present h → P h → P (h ++ compaction r ∷ [])) where
+  by_request : (s : Session) (r : Result Asked Refusal) → P s.history → P (history_from s.history (reply_for s r))
+  by_request s (Err f) p = p
+  by_request s (Ok (request q)) p = each q s.history s.moment p
+  by_request s (Ok (list v o)) p = subst P (sym (kept_asked s v o)) p
+  by_request s (Ok (watch v o)) p = subst P (sym (kept_watched s v o)) p
+
+  by_line : (s : Session) (line : Line) → P s.history → P (session_after s line).history
+  by_line s (ask method target body) p = by_request s (read_request method target body) p
+  by_line s (at moment) p = p
+  by_line s (compact r) p = by_compaction P still s.history r p
+  by_line s unreadable p = p
+
+  by_text : (b : Bool) (s : Session) (t : List ℕ) → P s.history → P (cond b s (session_after s (line_of t))).history
+  by_text true s t p = p
+  by_text false s t p = by_line s (line_of t) p
+
+  pub by_lines : (s : Session) (lines : List (List ℕ)) → P s.history → P (after_lines s lines).history
+  by_lines s [] p = p
+  by_lines s (t ∷ ts) p = by_lines (next s t) ts (by_text (length t == 0) s t p)
+
+abbrev Begins : History → History → Type 0
+Begins h whole = (more : History) × (whole ≡ h ++ more)
+
+nothing : (h : History) → h ≡ h ++ []
+nothing [] = refl
+nothing (e ∷ h) = ap (λ l. e ∷ l) (nothing h)
+
+begins-write : (h whole : History) (w : Option Write) → Begins h whole → Begins h (with_write whole w)
+begins-write h whole None b = b
+begins-write h whole (Some w) b = (b.0 ++ write w ∷ [], ap (λ l. l ++ write w ∷ []) b.1 ∙ append_assoc h b.0 (write w ∷ []))
+
+begins-entry : (h whole : History) (e : Entry) → Begins h whole → Begins h (whole ++ e ∷ [])
+begins-entry h whole e b = (b.0 ++ e ∷ [], ap (λ l. l ++ e ∷ []) b.1 ∙ append_assoc h b.0 (e ∷ []))
+
+pub only_add : RunsOnlyAdd
+only_add s lines =
+    by_lines (Begins s.history) (λ q h moment b. begins-write s.history h (write_of (accept q h moment)) b) (λ h r le b. begins-entry s.history h (compaction r) b) s lines ([], nothing s.history)
+
+follows-write : (r : ℕ) (h : History) (w : Write) → Follows r h → Follows r (h ++ write w ∷ [])
+follows-write r [] w f = tt
+follows-write r (write v ∷ h) w f = follows-write (r + 1) h w f
+follows-write r (compaction c ∷ h) w f = (f.0, follows-write r h w f.1)
+
+follows-outcome : (h : History) (o : Option Write) → CanHappen h → CanHappen (with_write h o)
+follows-outcome h None f = f
+follows-outcome h (Some w) f = follows-write 1 h w f
+
+pub can_happen : RunsCanHappen
+can_happen lines =
+    by_lines CanHappen (λ q h moment f. follows-outcome h (write_of (accept q h moment)) f) (λ h r le f. follows_compaction 1 (present h) r h (omega arith) le f) (start default_window) lines tt
+
+carry-append : (r n : ℕ) (ws : List Write) (w : Write) → n ≡ r + length ws → Carry r ws → IfSome w.put (λ d. version d ≡ Some (decimal n)) → Carry r (ws ++ w ∷ [])
+carry-append r n [] w is c last =
+    let here : n ≡ r = omega (arith, is) in
+    (subst (λ m. IfSome w.put (λ d. version d ≡ Some (decimal m))) here last, tt)
+carry-append r n (v ∷ ws) w is c last = (c.0, carry-append (r + 1) n ws w (omega (arith, is)) c.1 last)
+
+carry-write : (h : History) (o : Option Write) → IfSome o (λ w. IfSome w.put (λ d. version d ≡ Some (decimal (present h + 1)))) → Carry 2 (writes h) → Carry 2 (writes (with_write h o))
+carry-write h None v c = c
+carry-write h (Some w) v c = subst (Carry 2) (sym (writes-append h (write w ∷ []))) (carry-append 2 (present h + 1) (writes h) w (omega arith) c v)
+
+pub carry : RunsCarryRevisions
+carry lines =
+    by_lines (λ h. Carry 2 (writes h)) (λ q h moment c. carry-write h (write_of (accept q h moment)) (versions q h moment) c) (same_writes (Carry 2)) (start default_window) lines tt
+
+-- ---- windows
+
+abbrev Same : Session → Session → Type 0
+Same s t = (s.history ≡ t.history) × (s.moment ≡ t.moment)
+
+same_request : (s t : Session) (r : Result Asked Refusal) → Same s t → history_from s.history (reply_for s r) ≡ history_from t.history (reply_for t r)
+same_request s t (Err f) is = is.0
+same_request s t (Ok (request q)) is = λ i. with_write (is.0 i) (write_of (accept q (is.0 i) (is.1 i)))
+same_request s t (Ok (list v o)) is = kept_asked s v o ∙ is.0 ∙ sym (kept_asked t v o)
+same_request s t (Ok (watch v o)) is = kept_watched s v o ∙ is.0 ∙ sym (kept_watched t v o)
+
+same_line : (s t : Session) (line : Line) → Same s t → Same (session_after s line) (session_after t line)
+same_line s t (ask method target body) is = (same_request s t (read_request method target body) is, is.1)
+same_line s t (at moment) is = (is.0, refl)
+same_line s t (compact r) is = (ap (λ h. history_from h (compact_reply (compacts h r))) is.0, is.1)
+same_line s t unreadable is = is
+
+same_text : (b : Bool) (s t : Session) (text : List ℕ) → Same s t → Same (cond b s (session_after s (line_of text))) (cond b t (session_after t (line_of text)))
+same_text true s t text is = is
+same_text false s t text is = same_line s t (line_of text) is
+
+same_after : (s t : Session) (lines : List (List ℕ)) → Same s t → (after_lines s lines).history ≡ (after_lines t lines).history
+same_after s t [] is = is.0
+same_after s t (text ∷ texts) is = same_after (next s text) (next t text) texts (same_text (length text == 0) s t text is)
+
+pub windows_forget : WindowsOnlyForget
+windows_forget m n lines = same_after (start m) (start n) lines (refl, refl)

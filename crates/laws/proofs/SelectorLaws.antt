@@ -1,0 +1,53 @@
+-- Requirements that stand in both of two lists.
+use Rattle.std.proofs.Common.{◌≡◌, inl, inr, ◌↔◌, ℕ, List, [], ◌∷◌, ◌++◌, Bool, true, false, ◌&&◌, None, refl, sym, ap, ◌∙◌}
+use Rattle.serde_json.specs.Data.{Members}
+use Rattle.definitions.specs.declared.selectors.Operator.TheVariants.{In, NotIn}
+use Rattle.definitions.specs.Labels.{label_at}
+use Rattle.definitions.specs.Selectors.{Requirement, holds, meets, meets_all}
+use Rattle.laws.specs.SelectorLaws.{IsSaid}
+
+and-first : (u v : Bool) → (u && v) ≡ true → u ≡ true
+and-first true v h = refl
+and-first false v h = h
+
+and-second : (u v : Bool) → (u && v) ≡ true → v ≡ true
+and-second true v h = h
+and-second false v h = cc
+
+and-true : (u v : Bool) → u ≡ true → v ≡ true → (u && v) ≡ true
+and-true true v h k = k
+and-true false v h k = h
+
+meets-said : (r : Requirement) (rs : List Requirement) (l : Members) → meets_all rs l ≡ true → IsSaid r rs → meets r l ≡ true
+meets-said r [] l h m = absurd m
+meets-said r (s ∷ rs) l h (inl e) = ap (λ q. meets q l) e ∙ and-first (meets s l) (meets_all rs l) h
+meets-said r (s ∷ rs) l h (inr m) = meets-said r rs l (and-second (meets s l) (meets_all rs l) h) m
+
+meets-each : (rs : List Requirement) (l : Members) → ((r : Requirement) → IsSaid r rs → meets r l ≡ true) → meets_all rs l ≡ true
+meets-each [] l f = refl
+meets-each (s ∷ rs) l f = and-true (meets s l) (meets_all rs l) (f s (inl refl)) (meets-each rs l (λ r m. f r (inr m)))
+
+both-true : (u v : Bool) → (u ≡ true → v ≡ true) → (v ≡ true → u ≡ true) → u ≡ v
+both-true true v f g = sym (f refl)
+both-true false true f g = g refl
+both-true false false f g = refl
+
+pub meets-alike : (rs ss : List Requirement) (l : Members) → ((r : Requirement) → IsSaid r rs ↔ IsSaid r ss) → meets_all rs l ≡ meets_all ss l
+meets-alike rs ss l f =
+    both-true (meets_all rs l) (meets_all ss l)
+    (λ h. meets-each ss l (λ r m. meets-said r rs l h ((f r).1 m)))
+    (λ h. meets-each rs l (λ r m. meets-said r ss l h ((f r).0 m)))
+
+pub excluded : (k : List ℕ) (values : List (List ℕ)) (l : Members) → label_at k l ≡ None → meets (record { key = k; operator = NotIn; values = values }) l ≡ true
+excluded k values l h = ap (holds NotIn values) h
+
+pub included : (k : List ℕ) (values : List (List ℕ)) (l : Members) → label_at k l ≡ None → meets (record { key = k; operator = In; values = values }) l ≡ false
+included k values l h = ap (holds In values) h
+
+and-assoc : (u v w : Bool) → (u && (v && w)) ≡ ((u && v) && w)
+and-assoc true v w = refl
+and-assoc false v w = refl
+
+pub each-holds : (rs ss : List Requirement) (l : Members) → meets_all (rs ++ ss) l ≡ (meets_all rs l && meets_all ss l)
+each-holds [] ss l = refl
+each-holds (r ∷ rs) ss l = ap (λ b. meets r l && b) (each-holds rs ss l) ∙ and-assoc (meets r l) (meets_all rs l) (meets_all ss l)

@@ -1,0 +1,275 @@
+-- What holds of what is stored, after any lines.
+use Rattle.std.proofs.Common.{◌≡◌, ◌≤◌, ◌+◌, ◌-◌, ◌==◌, ◌&&◌, ℕ, List, [], ◌∷◌, ◌++◌, length, drop, Bool, true, false, cond, not, nat_le, nat_lt, codes, bytes_eq, IfSome, Option, Some, None, Result, Ok, Err, refl, sym, subst, arith}
+use Rattle.std.proofs.lemmas.List.{take-append-drop}
+use Rattle.std.specs.Str.{is_utf8}
+use Rattle.serde_json.specs.Data.{Data}
+use Rattle.serde_json.specs.Read.{read}
+use Rattle.definitions.specs.declared.methods.Method.{Method}
+use Rattle.definitions.specs.declared.methods.Method.TheVariants.{Get, Post, Put, Patch, Delete}
+use Rattle.definitions.specs.declared.refusals.Part.{Part}
+use Rattle.definitions.specs.declared.refusals.Part.TheVariants as part
+use Rattle.definitions.specs.History.{History, Write, write, compaction, writes, last_of, members, found, present, up_to}
+use Rattle.definitions.specs.Lines.{Session, start, default_window, history_of, Line, ask, at, compact, compact_at, unreadable, ask_if, cut, target_alone, target_and_body, line_from, line_of, reply_for, history_from, session_after, next, after_lines}
+use Rattle.definitions.specs.Moments as moments
+use Rattle.definitions.specs.Moments.{has_form, is_day, is_digit, is_moment}
+use Rattle.definitions.specs.Names.{Name, is_named, is_namespace}
+use Rattle.definitions.specs.Collections as collections
+use Rattle.definitions.specs.Collections.{Read}
+use Rattle.definitions.specs.RequestQueries.{Query}
+use Rattle.definitions.specs.Revisions.{revision_of}
+use Rattle.definitions.specs.Values.{data_of}
+use Rattle.definitions.specs.Refusals.{Refusal, bad_request, method_not_allowed, too_large}
+use Rattle.definitions.specs.Targets.{Asked, request, list, watch, Route, collection, object_at, status_of, route, path_of, decoded, query_for, names_namespace, is_allowed, body_or, body_of, asks_with, with_body, delete_options, deletes_with, read_as, selected, asked, asked_with, asked_at, read_request}
+use Rattle.definitions.specs.Verbs.{Request, create_object, update_object, update_status, patch_object, accept, with_write, write_of}
+use Rattle.definitions.specs.DeleteOptions.{Options}
+use Rattle.definitions.specs.History as history
+use Rattle.laws.specs.SentLaws.{IsKept, AreKept, RunsKeepObjects}
+use Rattle.laws.proofs.NeatMembers.{IsFilled}
+use Rattle.laws.proofs.NestedOrder.{HasOrders, orders_read}
+use Rattle.laws.proofs.NoFloatsRead.{both_true}
+use Rattle.laws.proofs.Past.{writes-append}
+use Rattle.laws.proofs.Compacted.{same_writes}
+use Rattle.laws.proofs.Runs.{kept_asked, kept_watched, by_compaction}
+use Rattle.definitions.proofs.PutLaws.{found-after_all, same_name}
+use Rattle.laws.proofs.SentObjects.{IsStored, IsAsked, IsHeld, filled_long}
+use Rattle.laws.proofs.SentVerbs.{IsTime, stores}
+
+-- ---- what is asked
+
+abbrev AsksWell : Result Asked Refusal → Type 0
+AsksWell (Err f) = Unit {0}
+AsksWell (Ok (request q)) = IsAsked q
+AsksWell (Ok (list v o)) = Unit {0}
+AsksWell (Ok (watch v o)) = Unit {0}
+
+well_or : (b : Bool) (f : Refusal) (r : Result Asked Refusal) → (b ≡ false → AsksWell r) → AsksWell (cond b (Err f) r)
+well_or true f r each = tt
+well_or false f r each = each refl
+
+ordered_data : (b : Bool) (text : List ℕ) → IfSome (cond b (read text) None) HasOrders
+ordered_data true text = orders_read text
+ordered_data false text = tt
+
+abbrev IsOrderedBody : Result Data Refusal → Type 0
+IsOrderedBody (Err f) = Unit {0}
+IsOrderedBody (Ok d) = HasOrders d
+
+ordered_or : (o : Option Data) → IfSome o HasOrders → IsOrderedBody (body_or o)
+ordered_or None h = tt
+ordered_or (Some d) h = h
+
+ordered_unless : (b : Bool) (r : Result Data Refusal) → IsOrderedBody r → IsOrderedBody (cond b (Err too_large) r)
+ordered_unless true r h = tt
+ordered_unless false r h = h
+
+ordered_body : (text : List ℕ) → IsOrderedBody (body_of text)
+ordered_body text = ordered_unless (nat_lt 1048576 (length text)) (body_or (data_of text)) (ordered_or (data_of text) (ordered_data (is_utf8 text) text))
+
+well_with : (f : Data → Request) (r : Result Data Refusal) → ((d : Data) → HasOrders d → IsAsked (f d)) → IsOrderedBody r → AsksWell (asks_with f r)
+well_with f (Err e) each h = tt
+well_with f (Ok d) each h = each d h
+
+well_body : (f : Data → Request) (text : List ℕ) → ((d : Data) → HasOrders d → IsAsked (f d)) → AsksWell (with_body f text)
+well_body f text each = well_with f (body_of text) each (ordered_body text)
+
+well_deletes : (n : Name) (r : Result Options Refusal) → AsksWell (deletes_with n r)
+well_deletes n (Err e) = tt
+well_deletes n (Ok o) = tt
+
+filled_namespace : (ns : List ℕ) → is_namespace ns ≡ true → IsFilled ns
+filled_namespace [] h = cc
+filled_namespace (b ∷ bs) h = filled_long (b ∷ bs) (omega arith)
+
+well_read : (v : history.View) (r : Read) → AsksWell (Ok (read_as v r))
+well_read v (collections.list o) = tt
+well_read v (collections.watch o) = tt
+
+well_asked : (method : Method) (r : Route) (q : Query) (text : List ℕ) → names_namespace r ≡ true → AsksWell (asked method r q text)
+well_asked Get (collection k ns) q text h = well_read (selected k ns q.collection) q.collection.read
+well_asked Get (object_at n) q text h = tt
+well_asked Get (status_of n) q text h = tt
+well_asked Post (collection k None) q text h = tt
+well_asked Post (collection k (Some ns)) q text h = well_body (create_object k ns) text (λ d a. (filled_namespace ns h, a))
+well_asked Post (object_at n) q text h = tt
+well_asked Post (status_of n) q text h = tt
+well_asked Put (collection k ns) q text h = tt
+well_asked Put (object_at n) q text h = well_body (update_object n) text (λ d a. a)
+well_asked Put (status_of n) q text h = well_body (update_status n) text (λ d a. a)
+well_asked Patch (collection k ns) q text h = tt
+well_asked Patch (object_at n) q text h = well_body (patch_object n) text (λ d a. a)
+well_asked Patch (status_of n) q text h = tt
+well_asked Delete (collection k ns) q text h = tt
+well_asked Delete (object_at n) q text h = well_deletes n (delete_options q text)
+well_asked Delete (status_of n) q text h = tt
+
+well_query : (method : Method) (r : Route) (text : List ℕ) (o : Result Query Part) → names_namespace r ≡ true → AsksWell (asked_with method r text o)
+well_query method r text (Err p) h = tt
+well_query method r text (Ok q) h = well_asked method r q text h
+
+not_false : (b : Bool) → not b ≡ false → b ≡ true
+not_false true h = refl
+not_false false h = cc
+
+well_at : (method : Method) (target text : List ℕ) (o : Option Route) → AsksWell (asked_at method target text o)
+well_at method target text None = tt
+well_at method target text (Some r) =
+    well_or (not (names_namespace r)) (bad_request part.Path) _
+    (λ names. well_or (not (is_allowed method r)) method_not_allowed (asked_with method r text (query_for method r target))
+    (λ _. well_query method r text (query_for method r target) (not_false (names_namespace r) names)))
+
+well_request : (method : Method) (target text : List ℕ) → AsksWell (read_request method target text)
+well_request method target text = well_at method (decoded target) text (route (path_of (decoded target)))
+
+-- ---- the moments
+
+abbrev IsTimed : Line → Type 0
+IsTimed (ask method target body) = Unit {0}
+IsTimed (at moment) = IsTime moment
+IsTimed (compact r) = Unit {0}
+IsTimed unreadable = Unit {0}
+
+-- a text of a form is as long as the form
+as_long : (form t : List ℕ) → has_form form t ≡ true → length t ≡ length form
+as_long [] [] h = refl
+as_long [] (b ∷ bs) h = cc
+as_long (f ∷ fs) [] h = cc
+as_long (f ∷ fs) (b ∷ bs) h =
+    let more : length bs ≡ length fs = as_long fs bs (both_true (cond (f == 48) (is_digit b) (b == f)) (has_form fs bs) h).1 in omega arith
+
+first_true : (a b c d e : Bool) → (a && b && c && d && e) ≡ true → a ≡ true
+first_true true b c d e h = refl
+first_true false b c d e h = h
+
+has_moment_form : (t : List ℕ) → is_moment t ≡ true → has_form (codes "0000-00-00T00:00:00Z") t ≡ true
+has_moment_form t h =
+    first_true (has_form (codes "0000-00-00T00:00:00Z") t) (is_day (moments.part 0 4 t) (moments.part 5 2 t) (moments.part 8 2 t)) (nat_le (moments.part 11 2 t) 23) (nat_le (moments.part 14 2 t) 59)
+    (nat_le (moments.part 17 2 t) 59) h
+
+timed_moment : (t : List ℕ) → is_moment t ≡ true → IsTime t
+timed_moment t h =
+    let long : length t ≡ 20 = as_long (codes "0000-00-00T00:00:00Z") t (has_moment_form t h) in
+    (filled_long t (omega arith), omega arith)
+
+timed_either : (b : Bool) (x y : Line) → IsTimed x → IsTimed y → IsTimed (cond b x y)
+timed_either true x y p q = p
+timed_either false x y p q = q
+
+timed_if : (method : Method) (target body : List ℕ) → IsTimed (ask_if method target body)
+timed_if method target body = timed_either (length target == 0) unreadable (ask method target body) tt tt
+
+timed_alone : (method : Method) (rest : List ℕ) (o : Option (List ℕ × List ℕ)) → IsTimed (target_alone method rest o)
+timed_alone method rest None = timed_if method rest []
+timed_alone method rest (Some p) = timed_if method p.0 p.1
+
+timed_both : (method : Method) (o : Option (List ℕ × List ℕ)) → IsTimed (target_and_body method o)
+timed_both method None = tt
+timed_both method (Some p) = timed_if method p.0 p.1
+
+timed_compact : (o : Option ℕ) → IsTimed (compact_at o)
+timed_compact None = tt
+timed_compact (Some r) = tt
+
+timed_at : (a b : Bool) (t : List ℕ) (y : Line) → (b ≡ true → IsTime t) → IsTimed y → IsTimed (cond (a && b) (at t) y)
+timed_at true true t y h q = h refl
+timed_at true false t y h q = q
+timed_at false b t y h q = q
+
+timed_from : (o : Option (List ℕ × List ℕ)) → IsTimed (line_from o)
+timed_from None = tt
+timed_from (Some p) =
+    timed_either (bytes_eq p.0 (codes "GET")) (target_alone Get p.1 (cut p.1)) _ (timed_alone Get p.1 (cut p.1))
+    (timed_either (bytes_eq p.0 (codes "DELETE")) (target_alone Delete p.1 (cut p.1)) _ (timed_alone Delete p.1 (cut p.1))
+    (timed_either (bytes_eq p.0 (codes "POST")) (target_and_body Post (cut p.1)) _ (timed_both Post (cut p.1))
+    (timed_either (bytes_eq p.0 (codes "PUT")) (target_and_body Put (cut p.1)) _ (timed_both Put (cut p.1))
+    (timed_either (bytes_eq p.0 (codes "PATCH")) (target_and_body Patch (cut p.1)) _ (timed_both Patch (cut p.1))
+    (timed_at (bytes_eq p.0 (codes "AT")) (is_moment p.1) p.1 _ (timed_moment p.1)
+    (timed_either (bytes_eq p.0 (codes "COMPACT")) (compact_at (revision_of p.1)) unreadable (timed_compact (revision_of p.1)) tt))))))
+
+-- ---- after any lines
+
+-- a property of histories that a write leaves, where requests come of lines
+module _ (P : History → Type 0) (each : (q : Request) (h : History) (moment : List ℕ) → IsAsked q → IsTime moment → P h → P (with_write h (write_of (accept q h moment)))) (still : (h : History) (r : ℕ) → r ≤ present h → P h → P (h ++ compaction r ∷ [])) where
+  abbrev Holds : Session → Type 0
+  Holds s = IsTime s.moment × P s.history
+
+  by_request : (s : Session) (r : Result Asked Refusal) → AsksWell r → Holds s → P (history_from s.history (reply_for s r))
+  by_request s (Err f) well p = p.1
+  by_request s (Ok (request q)) well p = each q s.history s.moment well p.0 p.1
+  by_request s (Ok (list v o)) well p = subst P (sym (kept_asked s v o)) p.1
+  by_request s (Ok (watch v o)) well p = subst P (sym (kept_watched s v o)) p.1
+
+  by_line : (s : Session) (line : Line) → IsTimed line → Holds s → Holds (session_after s line)
+  by_line s (ask method target body) timed p = (p.0, by_request s (read_request method target body) (well_request method target body) p)
+  by_line s (at moment) timed p = (timed, p.1)
+  by_line s (compact r) timed p = (p.0, by_compaction P still s.history r p.1)
+  by_line s unreadable timed p = p
+
+  by_text : (b : Bool) (s : Session) (t : List ℕ) → Holds s → Holds (cond b s (session_after s (line_of t)))
+  by_text true s t p = p
+  by_text false s t p = by_line s (line_of t) (timed_from (cut t)) p
+
+  by_session : (s : Session) (lines : List (List ℕ)) → Holds s → Holds (after_lines s lines)
+  by_session s [] p = p
+  by_session s (t ∷ ts) p = by_session (next s t) ts (by_text (length t == 0) s t p)
+
+  pub by_asked : (lines : List (List ℕ)) → P [] → P (history_of lines)
+  by_asked lines p = (by_session (start default_window) lines ((refl, omega arith), p)).1
+
+-- ---- what is stored
+
+-- these writes in order, the first at revision r
+abbrev pub AreStored : ℕ → List Write → Type 0
+AreStored r [] = Unit {0}
+AreStored r (w ∷ ws) = IfSome w.put (IsStored w.key r) × AreStored (r + 1) ws
+
+stored_append : (r n : ℕ) (ws : List Write) (w : Write) → n ≡ r + length ws → AreStored r ws → IfSome w.put (IsStored w.key n) → AreStored r (ws ++ w ∷ [])
+stored_append r n [] w is c last =
+    let here : n ≡ r = omega (arith, is) in
+    (subst (λ m. IfSome w.put (IsStored w.key m)) here last, tt)
+stored_append r n (v ∷ ws) w is c last = (c.0, stored_append (r + 1) n ws w (omega (arith, is)) c.1 last)
+
+stored_write : (h : History) (o : Option Write) → IfSome o (λ w. IfSome w.put (IsStored w.key (present h + 1))) → AreStored 2 (writes h) → AreStored 2 (writes (with_write h o))
+stored_write h None v c = c
+stored_write h (Some w) v c = subst (AreStored 2) (sym (writes-append h (write w ∷ []))) (stored_append 2 (present h + 1) (writes h) w (omega arith) c v)
+
+pub AreStored-split : (r : ℕ) (us ws : List Write) → AreStored r (us ++ ws) → AreStored r us × AreStored (r + length us) ws
+AreStored-split r [] ws a = (tt, subst (λ n. AreStored n ws) (omega arith) a)
+AreStored-split r (u ∷ us) ws a =
+    let more = AreStored-split (r + 1) us ws a.1 in
+    let place : r + 1 + length us ≡ r + length (u ∷ us) = omega arith in
+    ((a.0, more.0), subst (λ n. AreStored n ws) place more.1)
+
+pub AreStored-up_to : (h : History) (r : ℕ) → AreStored 2 (writes h) → AreStored 2 (up_to r h)
+AreStored-up_to h r a = (AreStored-split 2 (up_to r h) (drop (r - 1) (writes h)) (subst (AreStored 2) (sym (take-append-drop (r - 1) (writes h))) a)).0
+
+some_held : (k l : Name) (r : ℕ) (o : Option Data) → k ≡ l → IfSome o (IsStored l r) → IfSome o (IsHeld k)
+some_held k l r None is a = tt
+some_held k l r (Some d) is a = (r, subst (λ n. IsStored n r d) (sym is) a)
+
+held_cond : (b : Bool) (k : Name) (r : ℕ) (w : Write) (before : Option Data) → is_named k w.key ≡ b → IfSome before (IsHeld k) → IfSome w.put (IsStored w.key r) → IfSome (cond b w.put before) (IsHeld k)
+held_cond true k r w before is h a = some_held k w.key r w.put (same_name k w.key is) a
+held_cond false k r w before is h a = h
+
+-- what is under a name is stored so
+pub last_held : (k : Name) (r : ℕ) (ws : List Write) (before : Option Data) → IfSome before (IsHeld k) → AreStored r ws → IfSome (last_of before k ws) (IsHeld k)
+last_held k r [] before h a = h
+last_held k r (w ∷ ws) before h a = last_held k (r + 1) ws (cond (is_named k w.key) w.put before) (held_cond (is_named k w.key) k r w before refl h a.0) a.1
+
+pub found_held : (h : History) (r : ℕ) (k : Name) → AreStored 2 (writes h) → IfSome (found k (members h r)) (IsHeld k)
+found_held h r k a = subst (λ o. IfSome o (IsHeld k)) (sym (found-after_all k [] (up_to r h) tt)) (last_held k 2 (up_to r h) None tt (AreStored-up_to h r a))
+
+pub all_stored : (lines : List (List ℕ)) → AreStored 2 (writes (history_of lines))
+all_stored lines =
+    by_asked (λ h. AreStored 2 (writes h)) (λ q h moment well filled a. stored_write h (write_of (accept q h moment)) (stores q h moment well filled (λ k. found_held h (present h) k a)) a)
+    (same_writes (AreStored 2)) lines tt
+
+one_kept : (k : Name) (r : ℕ) (o : Option Data) → IfSome o (IsStored k r) → IfSome o (IsKept k r)
+one_kept k r None a = tt
+one_kept k r (Some d) a = a.kept
+
+all_kept : (r : ℕ) (ws : List Write) → AreStored r ws → AreKept r ws
+all_kept r [] a = tt
+all_kept r (w ∷ ws) a = (one_kept w.key r w.put a.0, all_kept (r + 1) ws a.1)
+
+pub runs_keep : RunsKeepObjects
+runs_keep lines = all_kept 2 (writes (history_of lines)) (all_stored lines)

@@ -1,0 +1,270 @@
+-- What each verb stores is stored as it should be.
+use Rattle.std.proofs.Common.{◌≡◌, ◌≤◌, ◌+◌, ◌||◌, ◌&&◌, ◌==◌, ℕ, List, length, Bool, true, false, cond, not, nat_le, codes, decimal, bytes_eq, is_some, IfSome, Option, Some, None, Result, Ok, Err, refl, sym, ap, ◌∙◌, subst, arith}
+use Rattle.std.proofs.lemmas.Slice.Eq.{bytes_eq-Decides}
+use Rattle.serde_json.specs.Data.{Data, string, array, object, Items, put}
+use Rattle.serde_json.specs.Events.{items_len}
+use Rattle.serde_json.specs.Find.{get}
+use Rattle.serde_json.proofs.Views.{get_member-put_other}
+use Rattle.definitions.specs.declared.kinds.Kind.{Kind}
+use Rattle.definitions.specs.declared.policies.Policy.{Policy}
+use Rattle.definitions.specs.declared.refusals.Field.TheVariants as field
+use Rattle.definitions.specs.declared.refusals.Part.{Part}
+use Rattle.definitions.specs.declared.refusals.Part.TheVariants as part
+use Rattle.definitions.specs.declared.refusals.Mismatch.TheVariants as mismatch
+use Rattle.definitions.specs.declared.schemas.Schema.TheVariants.{Metadata}
+use Rattle.definitions.specs.Checks.{create_fault, update_fault, is_status_valid, finalizers}
+use Rattle.definitions.specs.DeleteOptions.{Options}
+use Rattle.definitions.specs.Deletion.{Fate, remove, mark, keep, decided, fate, kept_code, leaves, left_by, marked, removal_of, with_deletion}
+use Rattle.definitions.specs.Kinds.{has_generation}
+use Rattle.definitions.specs.Names.{Name}
+use Rattle.definitions.specs.History as history
+use Rattle.definitions.specs.History.{History, members, found, present}
+use Rattle.definitions.specs.Metadata.{is_other, differs, metadata_of, name, namespace, uid, version, at_revision, is_being_deleted}
+use Rattle.definitions.specs.NewObjects.{created, first_status, new_metadata, with_status}
+use Rattle.definitions.specs.Reading.{reading, is_body}
+use Rattle.definitions.specs.Refusals.{bad_request, already_exists, invalid, too_large, storage_full}
+use Rattle.definitions.specs.Replacements.{generation, in_place, is_let_go, is_new_generation, next_generation, said_status, says_the_same, updated, with_next_generation, with_said_status}
+use Rattle.definitions.specs.Values.{inner_of, members_of, merged}
+use Rattle.definitions.specs.Verbs.{Request, get_object, list_objects, create_object, update_object, update_status, patch_object, delete_object, accept, by_decision, by_fate, delete, removed, stored, shown, said, create_read, create_checked, create_as, new_name, update_read, replace, replace_with, replace_changed, let_go, put_in_place, status_read, restate, restate_with, patch, patch_read, names_path, is_too_large, is_past_greatest, most_objects}
+use Rattle.laws.proofs.Guards.{there, either}
+use Rattle.laws.proofs.HeldMembers.{name-new_metadata, namespace-new_metadata, uid-new_metadata, name-in_place, namespace-in_place, uid-in_place, text-with_next_generation}
+use Rattle.definitions.proofs.JsonMembers.{apart, text_in, text_in-put_other, metadata_of-with}
+use Rattle.laws.proofs.JsonOrder.{IsOrdered, IsOrdered-put}
+use Rattle.laws.proofs.LeftFinalizers.{one_finalizers, texts_held, texts_left}
+use Rattle.laws.proofs.MarkedObjects.{marked_fits, room_marked, with_finalizers}
+use Rattle.laws.proofs.NeatMembers.{Neat, Neat-put, IsFilled, One}
+use Rattle.laws.proofs.NestedOrder.{HasOrders}
+use Rattle.laws.proofs.TextLengths.{put_twice}
+use Rattle.laws.proofs.VerbLaws.{text-with_deletion}
+use Rattle.laws.proofs.WholeObjects.{AreWhole, get-members_of, may_first, neat_metadata, ordered_metadata, orders_merged, whole_in_place, whole_read, whole_said, whole_status, whole_with_said}
+use Rattle.laws.proofs.SentObjects.{IsStored, IsHeld, IsAsked, Says, stored_in, stored_at, whole_stored, filled_new, neat_generation, neat_new, ordered_generation, ordered_new, Stores, low_after, either_false, behind, behind_field, by_if_same, by_put}
+
+-- ---- create
+
+by_create_as : (k : Name) (d : Data) (ms : history.Members) (r : ℕ) → (is_too_large d ≡ false → r + 1 ≤ 9007199254740991 → IsStored k (r + 1) d) → Stores (r + 1) (create_as k d ms r)
+by_create_as k d ms r each =
+    behind (r + 1) (is_too_large d) too_large _
+    (λ fits. behind (r + 1) (is_some (found k ms)) (already_exists k) _
+    (λ _. behind (r + 1) (nat_le most_objects (length ms) || is_past_greatest (r + 1)) storage_full (stored 201 k d)
+    (λ room. each fits (low_after (r + 1) (either_false (nat_le most_objects (length ms)) (is_past_greatest (r + 1)) room)))))
+
+by_create : (kind : Kind) (ns : List ℕ) (d : Data) (read : Result Data Part) (ms : history.Members) (r : ℕ) (moment : List ℕ) → said kind d ≡ read → IsFilled ns → IsFilled moment
+    → HasOrders d → Stores (r + 1) (create_read kind ns read ms r moment)
+by_create kind ns d (Err p) ms r moment is space now a = tt
+by_create kind ns d (Ok o) ms r moment is space now a =
+    let k = new_name kind ns o ms r in
+    let meta = new_metadata kind (r + 1) ns k.name moment (metadata_of o) in
+    let new = object (with_status (first_status kind) (members_of o)) in
+    let w : AreWhole kind (members_of o) = whole_said kind d o is a in
+    let says : Says k meta =
+    record {
+      name = name-new_metadata kind (r + 1) ns k.name moment (metadata_of o);
+      namespace = namespace-new_metadata kind (r + 1) ns k.name moment (metadata_of o);
+      uid = ap is_some (uid-new_metadata kind (r + 1) ns k.name moment (metadata_of o));
+    } in
+    behind (r + 1) (is_other (namespace o) ns || is_some (version o)) (bad_request part.Object) (create_checked k o ms r moment)
+    (λ _. behind_field (r + 1) k (create_fault kind k.name r o) (create_as k (created kind (r + 1) ns k.name moment o) ms r)
+    (λ none. by_create_as k (created kind (r + 1) ns k.name moment o) ms r
+    (λ fits low. stored_at k (r + 1) meta new (whole_status kind (first_status kind) (members_of o) (may_first kind) w)
+    (neat_new kind (r + 1) ns k.name moment (metadata_of o) space (filled_new kind ns o ms r r none) now (neat_metadata kind o w))
+    (ordered_new kind (r + 1) ns k.name moment (metadata_of o) (ordered_metadata kind o w)) says low fits)))
+
+-- ---- update
+
+-- it names the object of its path
+path_named : (a : Bool) (k : List ℕ) (o : Option (List ℕ)) → not (not a && not (differs (Some k) o)) ≡ false → o ≡ Some k
+path_named true k o h = cc
+path_named false k None h = cc
+path_named false k (Some t) h = same_at (bytes_eq k t) k t refl h
+  where
+    same_at : (b : Bool) (s t : List ℕ) → bytes_eq s t ≡ b → not (not (not b)) ≡ false → Some t ≡ Some s
+    same_at true s t is h = ap Some (sym ((bytes_eq-Decides s t).0 is))
+    same_at false s t is h = cc
+
+kept_some : (o new : Option (List ℕ)) → is_some o ≡ true → IfSome o (λ t. new ≡ Some t) → is_some new ≡ true
+kept_some None new h k = cc
+kept_some (Some t) new h k = ap is_some k
+
+kept_is : (o new : Option (List ℕ)) (t : List ℕ) → o ≡ Some t → IfSome o (λ s. new ≡ Some s) → new ≡ Some t
+kept_is None new t h k = cc
+kept_is (Some s) new t h k = k ∙ h
+
+-- what stands in the place of an object says what it said
+says_in_place : (k : Name) (s : ℕ) (held o : Data) (is_new : Bool) → IsStored k s held → not (names_path k o) ≡ false → Says k (with_next_generation is_new held (metadata_of (in_place k.kind held o)))
+says_in_place k s held o is_new was path =
+    let d = in_place k.kind held o in
+    record {
+      name = text-with_next_generation (codes "name") is_new held (metadata_of d) refl ∙ name-in_place k.kind held o ∙ path_named (is_other (namespace o) k.namespace) k.name (name o) path;
+      namespace =
+          text-with_next_generation (codes "namespace") is_new held (metadata_of d) refl
+          ∙ kept_is (namespace held) (namespace d) k.namespace was.kept.namespace (namespace-in_place k.kind held o);
+      uid = ap is_some (text-with_next_generation (codes "uid") is_new held (metadata_of d) refl) ∙ kept_some (uid held) (uid d) was.kept.uid (uid-in_place k.kind held o);
+    }
+
+by_changed : (k : Name) (o : Data) (r s : ℕ) (held : Data) → AreWhole k.kind (members_of o) → not (names_path k o) ≡ false → IsStored k s held
+    → Stores (r + 1) (replace_changed k held (in_place k.kind held o) r)
+by_changed k o r s held w path was =
+    let d = in_place k.kind held o in
+    let is_new = is_new_generation k.kind held d in
+    let new = updated k.kind (r + 1) held d in
+    let made : AreWhole k.kind (members_of d) = whole_in_place k.kind held o (whole_stored k s held was) w in
+    let meta : Neat 98 Metadata (with_next_generation is_new held (metadata_of d)) =
+    neat_generation is_new (next_generation (generation held)) (metadata_of d) (neat_metadata k.kind d made) in
+    let order : IsOrdered (with_next_generation is_new held (metadata_of d)) =
+    ordered_generation is_new (next_generation (generation held)) (metadata_of d) (ordered_metadata k.kind d made) in
+    either (Stores (r + 1)) (says_the_same held d) (shown held) _ (λ _. tt)
+    (λ _. either (Stores (r + 1)) (is_let_go held new) (let_go k new r) (put_in_place k new r) (λ _. behind (r + 1) (is_past_greatest (r + 1)) storage_full _ (λ _. tt))
+    (λ _. by_put k new r (λ fits low. stored_at k (r + 1) (with_next_generation is_new held (metadata_of d)) d made meta order (says_in_place k s held o is_new was path) low fits)))
+
+by_replace : (k : Name) (o : Data) (r s : ℕ) (held : Data) → AreWhole k.kind (members_of o) → not (names_path k o) ≡ false → IsStored k s held → Stores (r + 1) (replace k o r held)
+by_replace k o r s held w path was =
+    let d = in_place k.kind held o in
+    by_if_same (r + 1) k o held (replace_with k held d r) (behind_field (r + 1) k (update_fault k.kind k.name r held d) (replace_changed k held d r) (λ _. by_changed k o r s held w path was))
+
+by_update : (k : Name) (d : Data) (read : Result Data Part) (ms : history.Members) (r : ℕ) → said k.kind d ≡ read → HasOrders d → IfSome (found k ms) (IsHeld k)
+    → Stores (r + 1) (update_read k read ms r)
+by_update k d (Err p) ms r is a held = tt
+by_update k d (Ok o) ms r is a held =
+    behind (r + 1) (not (names_path k o)) (bad_request part.Object) _
+    (λ path. there (Stores (r + 1)) (λ f. tt) k (replace k o r) (found k ms)
+    (λ was at. let there_is = subst (λ x. IfSome x (IsHeld k)) at held in by_replace k o r there_is.0 was (whole_said k.kind d o is a) path there_is.1))
+
+-- ---- update of the status
+
+metadata-with_status : (s : Option Data) (held : Data) → metadata_of (object (with_status s (members_of held))) ≡ metadata_of held
+metadata-with_status None held = ap inner_of (sym (get-members_of (codes "metadata") held))
+metadata-with_status (Some d) held =
+    ap inner_of (get_member-put_other (codes "metadata") (codes "status") d (members_of held) (apart (codes "metadata") (codes "status") refl) ∙ sym (get-members_of (codes "metadata") held))
+
+says_held : (k : Name) (s : ℕ) (held : Data) → IsStored k s held → Says k (metadata_of held)
+says_held k s held was = record { name = was.kept.name; namespace = was.kept.namespace; uid = was.kept.uid }
+
+by_restate : (k : Name) (o : Data) (r s : ℕ) (held : Data) → AreWhole k.kind (members_of o) → IsStored k s held → Stores (r + 1) (restate k held (with_said_status k.kind held o) r)
+by_restate k o r s held w was =
+    let d = with_said_status k.kind held o in
+    let made : AreWhole k.kind (members_of d) = whole_with_said k.kind held o (whole_stored k s held was) w in
+    let says : Says k (metadata_of d) = subst (Says k) (sym (metadata-with_status (said_status k.kind (get (codes "status") o)) held)) (says_held k s held was) in
+    behind (r + 1) (not (is_status_valid k.kind d)) (invalid k field.Status) _
+    (λ _. either (Stores (r + 1)) (says_the_same held d) (shown held) _ (λ _. tt)
+    (λ _. by_put k (at_revision (r + 1) (metadata_of d) d) r (λ fits low. stored_at k (r + 1) (metadata_of d) d made (neat_metadata k.kind d made) (ordered_metadata k.kind d made) says low fits)))
+
+by_status : (k : Name) (d : Data) (read : Result Data Part) (ms : history.Members) (r : ℕ) → reading k.kind d ≡ read → HasOrders d → IfSome (found k ms) (IsHeld k)
+    → Stores (r + 1) (status_read k read ms r)
+by_status k d (Err p) ms r is a held = tt
+by_status k d (Ok o) ms r is a held =
+    behind (r + 1) (not (names_path k o)) (bad_request part.Object) _
+    (λ path. there (Stores (r + 1)) (λ f. tt) k (restate_with k o r) (found k ms)
+    (λ was at.
+    let there_is = subst (λ x. IfSome x (IsHeld k)) at held in
+    by_if_same (r + 1) k o was (restate k was (with_said_status k.kind was o) r) (by_restate k o r there_is.0 was (whole_read k.kind d o is a) there_is.1)))
+
+-- ---- patch
+
+by_patched : (k : Name) (d : Data) (read : Result Data Part) (r s : ℕ) (held : Data) → said k.kind (merged held d) ≡ read → IsStored k s held → Stores (r + 1) (patch_read k r held read)
+by_patched k d (Err p) r s held is was = tt
+by_patched k d (Ok o) r s held is was =
+    behind (r + 1) (not (names_path k o)) (bad_request part.Object) (replace k o r held)
+    (λ path. by_replace k o r s held (whole_said k.kind (merged held d) o is (orders_merged held d (was.ordered, was.nested))) path was)
+
+by_patch : (k : Name) (d : Data) (ms : history.Members) (r : ℕ) → IfSome (found k ms) (IsHeld k) → Stores (r + 1) (patch k d ms r)
+by_patch k d ms r held =
+    behind (r + 1) (not (is_body d)) (bad_request part.Body) _
+    (λ _. there (Stores (r + 1)) (λ f. tt) k (λ was. patch_read k r was (said k.kind (merged was d))) (found k ms)
+    (λ was at. let there_is = subst (λ x. IfSome x (IsHeld k)) at held in by_patched k d (said k.kind (merged was d)) r there_is.0 was refl there_is.1))
+
+-- ---- delete
+
+-- a moment as objects carry it
+abbrev pub IsTime : List ℕ → Type 0
+IsTime moment = IsFilled moment × (length moment ≤ 20)
+
+one_deletion : (moment : List ℕ) → IsFilled moment → One 98 Metadata (codes "deletionTimestamp") (string moment)
+one_deletion moment h = (refl, h, tt, omega arith, refl)
+
+neat_deletion : (is_marked is_new : Bool) (moment : List ℕ) (held : Data) → IsFilled moment → Neat 98 Metadata (metadata_of held)
+    → Neat 98 Metadata (cond is_marked (metadata_of held) (put (codes "deletionTimestamp") (string moment) (with_next_generation is_new held (metadata_of held))))
+neat_deletion true is_new moment held now m = m
+neat_deletion false is_new moment held now m =
+    Neat-put 98 Metadata (codes "deletionTimestamp") (string moment) (with_next_generation is_new held (metadata_of held)) (one_deletion moment now)
+    (neat_generation is_new (next_generation (generation held)) (metadata_of held) m)
+
+ordered_deletion : (is_marked is_new : Bool) (moment : List ℕ) (held : Data) → IsOrdered (metadata_of held)
+    → IsOrdered (cond is_marked (metadata_of held) (put (codes "deletionTimestamp") (string moment) (with_next_generation is_new held (metadata_of held))))
+ordered_deletion true is_new moment held a = a
+ordered_deletion false is_new moment held a =
+    IsOrdered-put (codes "deletionTimestamp") (string moment) (with_next_generation is_new held (metadata_of held))
+    (ordered_generation is_new (next_generation (generation held)) (metadata_of held) a)
+
+-- what is marked says what it said
+text_marked : (q : List ℕ) (k : Kind) (moment : List ℕ) (left : Items) (held : Data) → bytes_eq q (codes "finalizers") ≡ false → bytes_eq q (codes "deletionTimestamp") ≡ false
+    → bytes_eq q (codes "generation") ≡ false → text_in q (with_finalizers left (with_deletion k moment held)) ≡ text_in q (metadata_of held)
+text_marked q k moment left held a b c =
+    text_in-put_other q (codes "finalizers") (array left) (with_deletion k moment held) a ∙ text-with_deletion q k moment held (is_being_deleted held) b c
+
+says_marked : (k : Name) (s : ℕ) (moment : List ℕ) (left : Items) (held : Data) → IsStored k s held → Says k (with_finalizers left (with_deletion k.kind moment held))
+says_marked k s moment left held was =
+    record {
+      name = text_marked (codes "name") k.kind moment left held refl refl refl ∙ was.kept.name;
+      namespace = text_marked (codes "namespace") k.kind moment left held refl refl refl ∙ was.kept.namespace;
+      uid = ap is_some (text_marked (codes "uid") k.kind moment left held refl refl refl) ∙ was.kept.uid;
+    }
+
+-- a mark is its object with other metadata
+marked_at : (k : Kind) (r : ℕ) (moment : List ℕ) (left : Items) (held : Data)
+    → at_revision r (metadata_of (marked k moment left held)) (marked k moment left held) ≡ at_revision r (with_finalizers left (with_deletion k moment held)) held
+marked_at k r moment left held =
+    let meta = with_finalizers left (with_deletion k moment held) in
+    let now = put (codes "resourceVersion") (string (decimal r)) meta in
+    ap (λ m. at_revision r m (marked k moment left held)) (metadata_of-with meta held) ∙ ap object (put_twice (codes "metadata") (object meta) (object now) (members_of held))
+
+by_mark : (k : Name) (o : Option Policy) (r s : ℕ) (moment : List ℕ) (held : Data) → IsTime moment → IsStored k s held → (items_len (left_by o (finalizers held)) == 0) ≡ false → r ≤ 9007199254740991
+    → IsStored k r (at_revision r (metadata_of (marked k.kind moment (left_by o (finalizers held)) held)) (marked k.kind moment (left_by o (finalizers held)) held))
+by_mark k o r s moment held now was some low =
+    let left = left_by o (finalizers held) in
+    let from = with_deletion k.kind moment held in
+    let meta = with_finalizers left from in
+    let w : AreWhole k.kind (members_of held) = whole_stored k s held was in
+    let m : Neat 98 Metadata (metadata_of held) = neat_metadata k.kind held w in
+    let a : IsOrdered (metadata_of held) = ordered_metadata k.kind held w in
+    let neat : Neat 98 Metadata meta =
+    Neat-put 98 Metadata (codes "finalizers") (array left) from (one_finalizers left (texts_left o (finalizers held) (texts_held (metadata_of held) m)) some)
+    (neat_deletion (is_being_deleted held) (has_generation k.kind) moment held now.0 m) in
+    let order : IsOrdered meta = IsOrdered-put (codes "finalizers") (array left) from (ordered_deletion (is_being_deleted held) (has_generation k.kind) moment held a) in
+    let stored_so : IsStored k r (at_revision r meta held) =
+    stored_in k r meta held w neat order (says_marked k s moment left held was) low (marked_fits k.kind moment now.1 held a was.room r o low) (room_marked k.kind moment now.1 held a was.room r o) in
+    subst (IsStored k r) (sym (marked_at k.kind r moment left held)) stored_so
+
+by_fated : (k : Name) (code : ℕ) (held : Data) (r : ℕ) (none known : Bool) (d : Data) → (none ≡ false → r + 1 ≤ 9007199254740991 → IsStored k (r + 1) (at_revision (r + 1) (metadata_of d) d))
+    → Stores (r + 1) (by_fate k code held r (cond none remove (cond known keep (mark d))))
+by_fated k code held r true known d each = behind (r + 1) (is_past_greatest (r + 1)) storage_full (removed k (removal_of k.kind k (r + 1) held)) (λ _. tt)
+by_fated k code held r false true d each = tt
+by_fated k code held r false false d each =
+    behind (r + 1) (is_past_greatest (r + 1)) storage_full (stored code k (at_revision (r + 1) (metadata_of d) d)) (λ room. each refl (low_after (r + 1) room))
+
+by_decided : (k : Name) (code : ℕ) (held : Data) (r : ℕ) (other changed : Bool) (f : Fate) → Stores (r + 1) (by_fate k code held r f)
+    → Stores (r + 1) (by_decision k code held r (cond other (Err mismatch.Uid) (cond changed (Err mismatch.ResourceVersion) (Ok f))))
+by_decided k code held r true changed f each = tt
+by_decided k code held r false true f each = tt
+by_decided k code held r false false f each = each
+
+by_delete : (k : Name) (o : Options) (ms : history.Members) (r : ℕ) (moment : List ℕ) → IsTime moment → IfSome (found k ms) (IsHeld k) → Stores (r + 1) (delete k o ms r moment)
+by_delete k o ms r moment now held =
+    there (Stores (r + 1)) (λ f. tt) k (λ was. by_decision k (kept_code o.policy) was r (decided k.kind o moment was)) (found k ms)
+    (λ was at.
+    let there_is = subst (λ x. IfSome x (IsHeld k)) at held in
+    let left = left_by o.policy (finalizers was) in
+    by_decided k (kept_code o.policy) was r (differs o.uid (uid was)) (differs o.version (version was)) (fate k.kind o.policy moment was)
+    (by_fated k (kept_code o.policy) was r (items_len left == 0) (is_being_deleted was && leaves o.policy (finalizers was)) (marked k.kind moment left was)
+    (λ some low. by_mark k o.policy (r + 1) there_is.0 moment was now there_is.1 some low)))
+
+-- ---- the verbs
+
+-- what is written is stored as it should be, where what is there is
+pub stores : (q : Request) (h : History) (moment : List ℕ) → IsAsked q → IsTime moment → ((k : Name) → IfSome (found k (members h (present h))) (IsHeld k)) → Stores (present h + 1) (accept q h moment)
+stores (get_object k) h moment asked now held = there (Stores (present h + 1)) (λ f. tt) k shown (found k (members h (present h))) (λ d is. tt)
+stores (list_objects v) h moment asked now held = tt
+stores (create_object kind ns d) h moment asked now held = by_create kind ns d (said kind d) (members h (present h)) (present h) moment refl asked.0 now.0 asked.1
+stores (update_object k d) h moment asked now held = by_update k d (said k.kind d) (members h (present h)) (present h) refl asked (held k)
+stores (update_status k d) h moment asked now held = by_status k d (reading k.kind d) (members h (present h)) (present h) refl asked (held k)
+stores (patch_object k d) h moment asked now held = by_patch k d (members h (present h)) (present h) (held k)
+stores (delete_object k o) h moment asked now held = by_delete k o (members h (present h)) (present h) moment now (held k)

@@ -1,0 +1,115 @@
+-- No two objects that are created get one uid, whatever lines are read.
+use Rattle.std.proofs.Common.{◌≡◌, ◌≤◌, ◌+◌, ◌-◌, ℕ, List, [], ◌∷◌, ◌++◌, length, Bool, true, false, cond, codes, IfSome, Option, Some, None, arith, refl, sym, subst, ap, ◌∙◌}
+use Rattle.serde_json.specs.Data.{Data}
+use Rattle.definitions.specs.Checks.{finalizers}
+use Rattle.definitions.specs.Deletion.{left_by, marked}
+use Rattle.definitions.specs.History.{History, Write, write, writes, found, last_of, members, present, up_to}
+use Rattle.laws.specs.HistoryLaws.{OfStored, KeepsText}
+use Rattle.laws.specs.LifecycleLaws.{NoneHas, UidsAreGivenOnce}
+use Rattle.definitions.specs.Lines.{start, default_window, history_of}
+use Rattle.definitions.specs.Metadata.{metadata_of, uid, at_revision}
+use Rattle.definitions.specs.Names.{Name, is_named}
+use Rattle.definitions.specs.Replacements.{in_place, updated, with_said_status}
+use Rattle.definitions.specs.Uids.{uid_text, uid_revision, cluster_word}
+use Rattle.definitions.specs.Verbs.{Request, accept, new_name, said, with_write, write_of}
+use Rattle.laws.proofs.Cases.{of_accept, of_create}
+use Rattle.laws.proofs.HeldMembers.{uid-created}
+use Rattle.laws.proofs.Limits.{limits}
+use Rattle.laws.proofs.Past.{whole, writes-append}
+use Rattle.laws.proofs.Compacted.{same_writes}
+use Rattle.laws.proofs.Runs.{by_lines}
+use Rattle.definitions.proofs.Uids.{held}
+use Rattle.laws.proofs.VerbLaws.{found-state, kept_in_place, present-write, text-marked, text-restated}
+
+-- an object whose uid is that of a create up to a revision
+abbrev IsBorn : ℕ → Data → Type 0
+IsBorn n d = (r : ℕ) × (uid d ≡ Some (uid_text cluster_word r)) × (r ≤ n)
+
+abbrev AreBorn : ℕ → List Write → Type 0
+AreBorn n [] = Unit {0}
+AreBorn n (w ∷ ws) = IfSome w.put (IsBorn n) × AreBorn n ws
+
+later_one : (n m : ℕ) (o : Option Data) → n ≤ m → IfSome o (IsBorn n) → IfSome o (IsBorn m)
+later_one n m None le b = tt
+later_one n m (Some d) le b = let low : b.0 ≤ n = b.2 in (b.0, b.1, omega (arith, le, low))
+
+later_all : (n m : ℕ) (ws : List Write) → n ≤ m → AreBorn n ws → AreBorn m ws
+later_all n m [] le b = tt
+later_all n m (w ∷ ws) le b = (later_one n m w.put le b.0, later_all n m ws le b.1)
+
+born_append : (n : ℕ) (ws : List Write) (w : Write) → AreBorn n ws → IfSome w.put (IsBorn n) → AreBorn n (ws ++ w ∷ [])
+born_append n [] w b last = (last, tt)
+born_append n (v ∷ ws) w b last = (b.0, born_append n ws w b.1 last)
+
+either_born : (b : Bool) (n : ℕ) (x y : Option Data) → IfSome x (IsBorn n) → IfSome y (IsBorn n) → IfSome (cond b x y) (IsBorn n)
+either_born true n x y p q = p
+either_born false n x y p q = q
+
+last_born : (n : ℕ) (k : Name) (ws : List Write) (before : Option Data) → IfSome before (IsBorn n) → AreBorn n ws → IfSome (last_of before k ws) (IsBorn n)
+last_born n k [] before h b = h
+last_born n k (w ∷ ws) before h b = last_born n k ws (cond (is_named k w.key) w.put before) (either_born (is_named k w.key) n w.put before b.0 h) b.1
+
+-- what is there was born
+found_born : (h : History) (k : Name) (d : Data) → AreBorn (present h) (writes h) → found k (members h (present h)) ≡ Some d → IsBorn (present h) d
+found_born h k d b at =
+    let all : up_to (present h) h ≡ writes h = whole (present h - 1) (writes h) (omega arith) in
+    let now : last_of None k (writes h) ≡ Some d = ap (last_of None k) (sym all) ∙ sym (found-state h k) ∙ at in
+    subst (λ o. IfSome o (IsBorn (present h))) now (last_born (present h) k (writes h) None tt b)
+
+kept_is : (o new : Option (List ℕ)) (t : List ℕ) → o ≡ Some t → IfSome o (λ s. new ≡ Some s) → new ≡ Some t
+kept_is None new t h k = cc
+kept_is (Some s) new t h k = k ∙ h
+
+-- who keeps the uid stays born
+born_kept : (n : ℕ) (was new : Data) → IsBorn n was → KeepsText (codes "uid") was new → IsBorn (n + 1) new
+born_kept n was new b keeps = let low : b.0 ≤ n = b.2 in (b.0, kept_is (uid was) (uid new) (uid_text cluster_word b.0) b.1 keeps, omega (arith, low))
+
+born_by : (q : Request) (h : History) (moment : List ℕ) → AreBorn (present h) (writes h) → OfStored (accept q h moment) (λ k d. IsBorn (present h + 1) d)
+born_by q h moment b =
+    let r = present h + 1 in
+    of_accept (λ o. OfStored o (λ k d. IsBorn (present h + 1) d)) (λ f. tt) (λ code body. tt) q h moment
+    (λ kind ns o fits free room. (r, uid-created kind r ns (new_name kind ns o (members h (present h)) (present h)).name moment o, omega arith))
+    (λ k o was at valid fits low. born_kept (present h) was (updated k.kind r was (in_place k.kind was o)) (found_born h k was b at) (kept_in_place k.kind r was o).0)
+    (λ k o was at free low. tt)
+    (λ k o was at fits low.
+    let d = with_said_status k.kind was o in
+    born_kept (present h) was (at_revision r (metadata_of d) d) (found_born h k was b at) (text-restated (codes "uid") k.kind r was o refl))
+    (λ k o was at low.
+    let left = left_by o.policy (finalizers was) in
+    let d = marked k.kind moment left was in
+    born_kept (present h) was (at_revision r (metadata_of d) d) (found_born h k was b at) (text-marked (codes "uid") k.kind r moment left was refl refl refl refl))
+    (λ k o was at none low. tt)
+
+born_write : (h : History) (o : Option Write) → IfSome o (λ w. IfSome w.put (IsBorn (present h + 1))) → AreBorn (present h) (writes h) → AreBorn (present (with_write h o)) (writes (with_write h o))
+born_write h None v b = b
+born_write h (Some w) v b =
+    subst (λ n. AreBorn n (writes (with_write h (Some w)))) (sym (present-write h w))
+    (subst (AreBorn (present h + 1)) (sym (writes-append h (write w ∷ []))) (born_append (present h + 1) (writes h) w (later_all (present h) (present h + 1) (writes h) (omega arith) b) v))
+
+born : (lines : List (List ℕ)) → AreBorn (present (history_of lines)) (writes (history_of lines))
+born lines = by_lines (λ h. AreBorn (present h) (writes h)) (λ q h moment b. born_write h (write_of (accept q h moment)) (born_by q h moment b) b) (same_writes (λ ws. AreBorn (length ws + 1) ws)) (start default_window) lines tt
+
+-- a uid of an earlier create is another
+not_next : (n r : ℕ) (d : Data) → n ≤ 9007199254740991 → r ≤ n → uid d ≡ Some (uid_text cluster_word r) → uid d ≡ Some (uid_text cluster_word (n + 1)) → ⊥
+not_next n r d low le is next =
+    let one : uid_text cluster_word r ≡ uid_text cluster_word (n + 1) = one_text (uid_text cluster_word r) (uid_text cluster_word (n + 1)) (sym is ∙ next) in
+    let same : r ≡ n + 1 = sym (held cluster_word r (omega (arith, le, low))) ∙ ap uid_revision one ∙ held cluster_word (n + 1) (omega (arith, low)) in
+    absurd (omega (arith, same, le))
+  where
+    one_text : (s t : List ℕ) → Some s ≡ Some t → s ≡ t
+    one_text s t is = cc
+
+one_has_not : (n : ℕ) (o : Option Data) → n ≤ 9007199254740991 → IfSome o (IsBorn n) → IfSome o (λ d. uid d ≡ Some (uid_text cluster_word (n + 1)) → ⊥)
+one_has_not n None low b = tt
+one_has_not n (Some d) low b = λ next. not_next n b.0 d low b.2 b.1 next
+
+none_has : (n : ℕ) (ws : List Write) → n ≤ 9007199254740991 → AreBorn n ws → NoneHas (uid_text cluster_word (n + 1)) ws
+none_has n [] low b = tt
+none_has n (w ∷ ws) low b = (one_has_not n w.put low b.0, none_has n ws low b.1)
+
+pub given_once : UidsAreGivenOnce
+given_once lines kind ns d moment =
+    let h = (history_of lines) in
+    of_create (λ u. OfStored u (λ k new. (t : List ℕ) × (uid new ≡ Some t) × NoneHas t (writes h))) (λ f. tt) kind ns (said kind d) (members h (present h)) (present h) moment
+    (λ o fits free room.
+    (uid_text cluster_word (present h + 1), uid-created kind (present h + 1) ns (new_name kind ns o (members h (present h)) (present h)).name moment o, none_has (present h) (writes h) (limits lines).1 (born lines)))

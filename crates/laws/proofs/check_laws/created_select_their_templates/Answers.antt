@@ -1,0 +1,5 @@
+use Rattle.laws.proofs.CheckLaws.{created_select}
+use Rattle.laws.proofs.check_laws.created_select_their_templates.Goals as goal
+
+pub returns : goal.returns
+returns c = created_select

@@ -1,0 +1,16 @@
+use Rattle.std.proofs.Common.{ap, sym, ◌∙◌, cond, None, not}
+use Rattle.std.specs.Cmp.{tied_itself}
+use Rattle.std.specs.Ordering.{is_eq}
+use Rattle.std.specs.FinMap as map
+use Rattle.std.specs.FinMap.{get-retain_keys}
+use Rattle.definitions.specs.Names.{is_named}
+use Rattle.definitions.specs.Expectations.{is_met}
+use Rattle.definitions.proofs.TaskOrder.{name_total}
+use Rattle.definitions.proofs.Expected.{keys_tied}
+use Rattle.laws.proofs.expectation_laws.forgets_all.Goals as goal
+
+pub returns : goal.returns
+returns c =
+    λ o now t. ap (is_met now)
+    (get-retain_keys t (λ p. not (is_named o.key p.key)) o (λ x e. ap (λ k. not (is_named o.key k)) (sym (keys_tied o x e)))
+    ∙ ap (λ b. cond (not b) (map.get t o) None) (ap is_eq (tied_itself name_total o.key)))

@@ -1,0 +1,5 @@
+use Rattle.definitions.proofs.Expected.{after_one, after_both}
+use Rattle.laws.proofs.expectation_laws.waits_for_both.Goals as goal
+
+pub returns : goal.returns
+returns c = record { waits = λ o t. after_one o 300000 t; is_patient = λ o t. after_one o 300001 t; is_over = after_both }

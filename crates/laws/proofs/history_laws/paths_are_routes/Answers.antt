@@ -1,0 +1,5 @@
+use Rattle.laws.proofs.Paths.{routes}
+use Rattle.laws.proofs.history_laws.paths_are_routes.Goals as goal
+
+pub returns : goal.returns
+returns c = routes

@@ -1,0 +1,5 @@
+use Rattle.definitions.proofs.Uids.{held}
+use Rattle.laws.proofs.history_laws.uids_hold_revisions.Goals as goal
+
+pub returns : goal.returns
+returns c = held

@@ -1,0 +1,5 @@
+use Rattle.laws.proofs.Removals.{last_removes}
+use Rattle.laws.proofs.lifecycle_laws.last_finalizers_remove.Goals as goal
+
+pub returns : goal.returns
+returns c = last_removes

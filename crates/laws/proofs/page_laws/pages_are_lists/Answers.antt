@@ -1,0 +1,5 @@
+use Rattle.definitions.proofs.PageLists.{pages_are_lists}
+use Rattle.laws.proofs.page_laws.pages_are_lists.Goals as goal
+
+pub returns : goal.returns
+returns c = pages_are_lists

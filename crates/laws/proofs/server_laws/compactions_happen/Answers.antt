@@ -1,0 +1,5 @@
+use Rattle.laws.proofs.HeldHistories.{compaction_happens}
+use Rattle.laws.proofs.server_laws.compactions_happen.Goals as goal
+
+pub returns : goal.returns
+returns c = compaction_happens

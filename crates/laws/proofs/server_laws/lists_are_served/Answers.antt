@@ -1,0 +1,5 @@
+use Rattle.laws.proofs.HeldAnswers.{lists_answered}
+use Rattle.laws.proofs.server_laws.lists_are_served.Goals as goal
+
+pub returns : goal.returns
+returns c = lists_answered

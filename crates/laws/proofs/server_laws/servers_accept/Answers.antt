@@ -1,0 +1,5 @@
+use Rattle.laws.proofs.HeldHistories.{accepted_holds}
+use Rattle.laws.proofs.server_laws.servers_accept.Goals as goal
+
+pub returns : goal.returns
+returns c = accepted_holds

@@ -1,0 +1,5 @@
+use Rattle.laws.proofs.HeldHistories.{compaction_holds}
+use Rattle.laws.proofs.server_laws.servers_compact.Goals as goal
+
+pub returns : goal.returns
+returns c = compaction_holds

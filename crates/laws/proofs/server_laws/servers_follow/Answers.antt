@@ -1,0 +1,5 @@
+use Rattle.laws.proofs.HeldHistories.{entries_hold}
+use Rattle.laws.proofs.server_laws.servers_follow.Goals as goal
+
+pub returns : goal.returns
+returns c = entries_hold

@@ -1,0 +1,5 @@
+use Rattle.laws.proofs.HeldAnswers.{lists_held}
+use Rattle.laws.proofs.server_laws.servers_list.Goals as goal
+
+pub returns : goal.returns
+returns c = lists_held

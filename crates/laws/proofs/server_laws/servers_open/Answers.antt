@@ -1,0 +1,5 @@
+use Rattle.laws.proofs.HeldHistories.{opened_holds}
+use Rattle.laws.proofs.server_laws.servers_open.Goals as goal
+
+pub returns : goal.returns
+returns c = opened_holds

@@ -1,0 +1,5 @@
+use Rattle.laws.proofs.HeldAnswers.{lines_held}
+use Rattle.laws.proofs.server_laws.servers_show.Goals as goal
+
+pub returns : goal.returns
+returns c = lines_held

@@ -1,0 +1,5 @@
+use Rattle.laws.proofs.HeldHistories.{written_holds}
+use Rattle.laws.proofs.server_laws.servers_write.Goals as goal
+
+pub returns : goal.returns
+returns c = written_holds

@@ -1,0 +1,5 @@
+use Rattle.laws.proofs.Played.{lie_between}
+use Rattle.laws.proofs.watch_laws.changes_lie_between.Goals as goal
+
+pub returns : goal.returns
+returns c = lie_between

@@ -1,0 +1,5 @@
+use Rattle.laws.proofs.ServedWindows.{watch_served}
+use Rattle.laws.proofs.window_laws.watches_are_served.Goals as goal
+
+pub returns : goal.returns
+returns c = watch_served

@@ -1,0 +1,12 @@
+pub mod BoardLaws
+pub mod CheckLaws
+pub mod ExpectationLaws
+pub mod HistoryLaws
+pub mod LifecycleLaws
+pub mod PageLaws
+pub mod SelectorLaws
+pub mod SentLaws
+pub mod ServerLaws
+pub mod SnapshotLaws
+pub mod WatchLaws
+pub mod WindowLaws

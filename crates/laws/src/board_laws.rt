@@ -1,0 +1,32 @@
+//! What a controller's author may rely on, whatever is called.
+ghost use Rattle.laws.specs.BoardLaws.{QueuesOnce, HandsApart, NothingIsLost, QueuedIsDirty, AddedIsServed, ShutAddsNothing};
+
+/// A key stands in the queue at most once, however often it was added.
+pub fn queues_once()
+    ensures { QueuesOnce }
+{}
+
+/// The key that is handed out is in no other worker's hands: none is handed out twice before its `done`.
+pub fn hands_apart()
+    ensures { HandsApart }
+{}
+
+/// A key that was added and not handed out since is in the queue, or its worker's `done` puts it there.
+pub fn nothing_is_lost()
+    ensures { NothingIsLost }
+{}
+
+/// Only keys that were added, and not handed out since, wait in the queue.
+pub fn queued_is_dirty()
+    ensures { QueuedIsDirty }
+{}
+
+/// A key that was added before the shut-down still wants a look, or was handed out after it was added.
+pub fn added_is_served()
+    ensures { AddedIsServed }
+{}
+
+/// After the shut-down only keys that wanted a look then are handed out.
+pub fn shut_adds_nothing()
+    ensures { ShutAddsNothing }
+{}

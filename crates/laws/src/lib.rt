@@ -1,0 +1,15 @@
+//! What follows from the definitions, whatever code meets them: each function is a law, and its contract is proved.
+#![tactic(auto)]
+
+pub mod board_laws;
+pub mod check_laws;
+pub mod expectation_laws;
+pub mod history_laws;
+pub mod lifecycle_laws;
+pub mod page_laws;
+pub mod selector_laws;
+pub mod sent_laws;
+pub mod server_laws;
+pub mod snapshot_laws;
+pub mod watch_laws;
+pub mod window_laws;

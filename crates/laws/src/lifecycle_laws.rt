@@ -1,0 +1,73 @@
+//! What becomes of objects, whatever is asked.
+ghost use Rattle.laws.specs.LifecycleLaws.{DeletesSpareFinalizers, LastFinalizersRemove, DeletionsStand, NoFinalizerIsAdded, UidsAreGivenOnce, GenerationsCount, GenerationsBegin, StatusesChangeNothingElse, UpdatesReplaceTheirVersion, StatusesReplaceTheirVersion, PatchesReplaceTheirVersion, DeletesRemoveTheirVersion, DeletesFindTheirUid, NoWriteNoChange};
+
+/// A delete removes no object that has a finalizer, but those by which a policy is known; without a policy, none that has
+/// any.
+pub fn deletes_spare_finalizers()
+    ensures { DeletesSpareFinalizers }
+{}
+
+/// Any other request removes an object only while it is being deleted, by taking its last finalizer.
+pub fn last_finalizers_remove()
+    ensures { LastFinalizersRemove }
+{}
+
+/// An object that is being deleted stays so, since the moment at which that began, until it is removed.
+pub fn deletions_stand()
+    ensures { DeletionsStand }
+{}
+
+/// An object that is being deleted gets no finalizer that it has not, but that of a delete's policy.
+pub fn no_finalizer_is_added()
+    ensures { NoFinalizerIsAdded }
+{}
+
+/// Whatever was asked before, a new object's uid is that of no object that was ever there.
+pub fn uids_are_given_once()
+    ensures { UidsAreGivenOnce }
+{}
+
+/// A generation rises by one where a spec, or a Deployment's annotations, is another or a deletion begins, and only there.
+pub fn generations_count()
+    ensures { GenerationsCount }
+{}
+
+/// The generation of a new ReplicaSet or Deployment is 1.
+pub fn generations_begin()
+    ensures { GenerationsBegin }
+{}
+
+/// An update of the status changes the status and the version, and nothing else.
+pub fn statuses_change_nothing_else()
+    ensures { StatusesChangeNothingElse }
+{}
+
+/// An update that names a version writes, or removes, in the place of exactly that version.
+pub fn updates_replace_their_version()
+    ensures { UpdatesReplaceTheirVersion }
+{}
+
+/// An update of the status that names a version writes in the place of exactly that version.
+pub fn statuses_replace_their_version()
+    ensures { StatusesReplaceTheirVersion }
+{}
+
+/// A patch that names a version writes, or removes, in the place of exactly that version.
+pub fn patches_replace_their_version()
+    ensures { PatchesReplaceTheirVersion }
+{}
+
+/// A delete that names a version marks or removes exactly that version.
+pub fn deletes_remove_their_version()
+    ensures { DeletesRemoveTheirVersion }
+{}
+
+/// A delete that names a uid marks or removes the object with that uid, and none that was made after it under its name.
+pub fn deletes_find_their_uid()
+    ensures { DeletesFindTheirUid }
+{}
+
+/// What writes nothing changes nothing.
+pub fn no_write_no_change()
+    ensures { NoWriteNoChange }
+{}

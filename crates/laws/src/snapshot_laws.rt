@@ -1,0 +1,8 @@
+//! A law of snapshots.
+ghost use Rattle.laws.specs.SnapshotLaws.{SnapshotsFollow};
+
+/// Nothing is there at first, each write makes the next snapshot of the one before, and a compaction changes none: so
+/// who holds the last snapshot needs none of the writes before it.
+pub fn snapshots_follow()
+    ensures { SnapshotsFollow }
+{}
