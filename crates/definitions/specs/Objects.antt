@@ -1,4 +1,13 @@
 -- Objects and their keys, as JSON data.
+pub mod Values
+pub mod Metadata
+pub mod Schemas
+pub mod Reading
+pub mod SelectorValues
+pub mod Defaults
+pub mod Checks
+pub mod NewObjects
+pub mod Replacements
 use Rattle.std.specs.Prelude.{refl}
 use Rattle.std.specs.Coded.{Coded, code_by, coded×}
 use Rattle.serde_json.specs.Data.{Data}

@@ -1,0 +1,8 @@
+-- What each request is answered, and what it writes.
+pub mod Refusals
+pub mod Deletion
+pub mod Verbs
+pub mod Versions
+pub mod Servers
+pub mod Lists
+pub mod Lines

@@ -1,0 +1,166 @@
+-- What is written for what is read: request lines to reply lines, one after another.
+use Rattle.std.specs.Prelude.{ℕ, List, [], ◌∷◌, ◌++◌, ◌&&◌, ◌==◌, length, Option, Some, None, option_map, Result, Ok, Err, codes, decimal, if◌then◌else◌}
+use Rattle.std.specs.List.{slice_split}
+use Rattle.std.specs.Str.{bytes_eq}
+use Rattle.serde_json.specs.Written.{compact_text}
+use Rattle.serde_json.specs.Data.{Data}
+use Rattle.definitions.specs.declared.kinds.Kind.{Kind}
+use Rattle.definitions.specs.State.History.{History}
+use Rattle.definitions.specs.Answers.Lists.{list_outcome}
+use Rattle.definitions.specs.Texts.Moments.{is_moment}
+use Rattle.definitions.specs.declared.methods.Method.{Method}
+use Rattle.definitions.specs.declared.methods.Method.TheVariants.{Get, Post, Put, Patch, Delete}
+use Rattle.definitions.specs.declared.refusals.Part.TheVariants as part
+use Rattle.definitions.specs.Answers.Refusals.{Refusal, bad_request, success_body}
+use Rattle.definitions.specs.Texts.Revisions.{revision_of}
+use Rattle.definitions.specs.Watching.Streams as streams
+use Rattle.definitions.specs.Watching.Streams.{text_of}
+use Rattle.definitions.specs.Requests.Targets.{Asked, request, list, watch, read_request}
+use Rattle.definitions.specs.Answers.Versions.{compacts}
+use Rattle.definitions.specs.Watching.WatchReplies.{watch_lines}
+use Rattle.definitions.specs.Answers.Verbs.{Outcome, refused, outcome_code, outcome_body, history_after, accept}
+
+-- ---- what a line says
+
+-- a method, a target and a body; a moment, from which on it is then; a revision up to which what happened is compacted; anything else
+pub data Line : Type 0 where
+  ask : Method → List ℕ → List ℕ → Line
+  at : List ℕ → Line
+  compact : ℕ → Line
+  unreadable : Line
+
+-- what stands before and after the first space, if there is one
+abbrev pub cut : List ℕ → Option (List ℕ × List ℕ)
+cut [] = None
+cut (b ∷ bs) = if b == 32 then Some ([], bs) else option_map (λ p. (b ∷ p.0, p.1)) (cut bs)
+
+-- a target is not empty
+abbrev pub ask_if : Method → List ℕ → List ℕ → Line
+ask_if method target body = if length target == 0 then unreadable else ask method target body
+
+abbrev pub target_alone : Method → List ℕ → Option (List ℕ × List ℕ) → Line
+target_alone method rest None = ask_if method rest []
+target_alone method rest (Some p) = ask_if method p.0 p.1
+
+abbrev pub target_and_body : Method → Option (List ℕ × List ℕ) → Line
+target_and_body method None = unreadable
+target_and_body method (Some p) = ask_if method p.0 p.1
+
+abbrev pub compact_at : Option ℕ → Line
+compact_at None = unreadable
+compact_at (Some r) = compact r
+
+-- `GET` and `DELETE` may come without a body, `POST`, `PUT` and `PATCH` may not
+abbrev pub line_from : Option (List ℕ × List ℕ) → Line
+line_from None = unreadable
+line_from (Some p) =
+    if bytes_eq p.0 (codes "GET") then target_alone Get p.1 (cut p.1)
+    else
+    (if bytes_eq p.0 (codes "DELETE") then target_alone Delete p.1 (cut p.1)
+    else
+    (if bytes_eq p.0 (codes "POST") then target_and_body Post (cut p.1)
+    else
+    (if bytes_eq p.0 (codes "PUT") then target_and_body Put (cut p.1)
+    else
+    (if bytes_eq p.0 (codes "PATCH") then target_and_body Patch (cut p.1)
+    else
+    (if bytes_eq p.0 (codes "AT") && is_moment p.1 then at p.1
+    else (if bytes_eq p.0 (codes "COMPACT") then compact_at (revision_of p.1) else unreadable))))))
+
+abbrev pub line_of : List ℕ → Line
+line_of t = line_from (cut t)
+
+-- ---- a session
+
+-- what has happened, the moment that it is, and how many of the last writes of each kind are kept for watches and older lists
+pub record Session : Type 0 where
+  pub history : History
+  pub moment : List ℕ
+  pub window : ℕ
+
+-- a session begins with nothing, at the start of 2026
+abbrev pub start : ℕ → Session
+start window = record { history = []; moment = codes "2026-01-01T00:00:00Z"; window = window }
+
+-- what is answered: an outcome, the lines of a watch of a kind, or a compaction, with what has happened then
+pub data Reply : Type 0 where
+  outcome : Outcome → Reply
+  shown : Kind → List streams.Line → Reply
+  compacted : History → Reply
+
+abbrev pub watch_reply : Kind → Result (List streams.Line) Refusal → Reply
+watch_reply k (Err f) = outcome (refused f)
+watch_reply k (Ok ls) = shown k ls
+
+abbrev pub reply_for : Session → Result Asked Refusal → Reply
+reply_for s (Err f) = outcome (refused f)
+reply_for s (Ok (request q)) = outcome (accept q s.history s.moment)
+reply_for s (Ok (list v o)) = outcome (list_outcome s.window s.history v o)
+reply_for s (Ok (watch v o)) = watch_reply v.kind (watch_lines s.window s.history v o)
+
+abbrev pub compact_reply : Result History Refusal → Reply
+compact_reply (Err f) = outcome (refused f)
+compact_reply (Ok more) = compacted more
+
+-- a line of a code, a space, a body as compact JSON
+abbrev pub line_text : ℕ → Data → List ℕ
+line_text code body = decimal code ++ (32 ∷ (compact_text body ++ 10 ∷ []))
+
+-- of an outcome its code and its body; of a watch how many lines follow, and these; of a compaction a success
+abbrev pub reply_text : Reply → List ℕ
+reply_text (outcome o) = line_text (outcome_code o) (outcome_body o)
+reply_text (shown k ls) = codes "200 watch " ++ (decimal (length ls) ++ (10 ∷ text_of k ls))
+reply_text (compacted more) = line_text 200 (success_body None)
+
+abbrev pub history_from : History → Reply → History
+history_from h (outcome o) = history_after h o
+history_from h (shown k ls) = h
+history_from h (compacted more) = more
+
+abbrev pub reply_to : Session → Line → List ℕ
+reply_to s (ask method target body) = reply_text (reply_for s (read_request method target body))
+reply_to s (at moment) = []
+reply_to s (compact r) = reply_text (compact_reply (compacts s.history r))
+reply_to s unreadable = reply_text (outcome (refused (bad_request part.Head)))
+
+abbrev pub session_after : Session → Line → Session
+session_after s (ask method target body) = record s { history = history_from s.history (reply_for s (read_request method target body)) }
+session_after s (at moment) = record s { moment = moment }
+session_after s (compact r) = record s { history = history_from s.history (compact_reply (compacts s.history r)) }
+session_after s unreadable = s
+
+-- an empty line is skipped
+abbrev pub reply : Session → List ℕ → List ℕ
+reply s t = if length t == 0 then [] else reply_to s (line_of t)
+
+abbrev pub next : Session → List ℕ → Session
+next s t = if length t == 0 then s else session_after s (line_of t)
+
+-- ---- the whole run
+
+-- the lines of the bytes, without their newlines
+abbrev pub lines_of : List ℕ → List (List ℕ)
+lines_of bytes = slice_split (λ b. b == 10) bytes
+
+abbrev pub replies : Session → List (List ℕ) → List ℕ
+replies s [] = []
+replies s (t ∷ ts) = reply s t ++ replies (next s t) ts
+
+abbrev pub after_lines : Session → List (List ℕ) → Session
+after_lines s [] = s
+after_lines s (t ∷ ts) = after_lines (next s t) ts
+
+-- how many writes of each kind are kept where nothing else is said
+abbrev pub default_window : ℕ
+default_window = 1024
+
+-- what has happened once these lines were read; no window changes it
+abbrev pub history_of : List (List ℕ) → History
+history_of ts = (after_lines (start default_window) ts).history
+
+-- all that is written for all that is read, with windows of this size
+abbrev pub replay_with : ℕ → List ℕ → List ℕ
+replay_with window bytes = replies (start window) (lines_of bytes)
+
+abbrev pub replay : List ℕ → List ℕ
+replay bytes = replay_with default_window bytes

@@ -1,0 +1,96 @@
+-- A server: what is there, and a window of each kind, and what it answers by these in the place of a history.
+use Rattle.std.specs.Prelude.{◌≡◌, ℕ, ◌+◌, [], ◌∷◌, Option, Some, None, Result}
+use Rattle.std.specs.Result.{result_map_both}
+use Rattle.definitions.specs.declared.kinds.Kind.{Kind}
+use Rattle.definitions.specs.declared.kinds.Kind.TheVariants.{ConfigMap, Pod, ReplicaSet, Deployment}
+use Rattle.definitions.specs.State.History.{History, Write, write, compaction, View, viewed, found}
+use Rattle.definitions.specs.Answers.Refusals.{Refusal}
+use Rattle.definitions.specs.State.Snapshots.{Snapshot, empty, snapshot, written}
+use Rattle.definitions.specs.declared.versions.At.{At}
+use Rattle.definitions.specs.Answers.Versions.{Listed, Watched, once_present, listed_at, watched}
+use Rattle.definitions.specs.State.Windows.{Kept, Window, opened, recorded, compacted_to, since_kept, list_kept, Tracks}
+
+-- what is there, and the last writes of each kind
+pub record Server : Type 0 where
+  pub snapshot : Snapshot
+  pub config_maps : Window
+  pub pods : Window
+  pub replica_sets : Window
+  pub deployments : Window
+
+-- nothing is there at first, and each window has this size
+abbrev pub opened_server : ℕ → Server
+opened_server size =
+    record { snapshot = empty; config_maps = opened ConfigMap size; pods = opened Pod size; replica_sets = opened ReplicaSet size; deployments = opened Deployment size }
+
+-- the window of a kind
+abbrev pub window_of : Kind → Server → Window
+window_of ConfigMap s = s.config_maps
+window_of Pod s = s.pods
+window_of ReplicaSet s = s.replica_sets
+window_of Deployment s = s.deployments
+
+-- with another window of the kind
+abbrev pub with_window : Kind → Window → Server → Server
+with_window ConfigMap w s = record s { config_maps = w }
+with_window Pod w s = record s { pods = w }
+with_window ReplicaSet w s = record s { replica_sets = w }
+with_window Deployment w s = record s { deployments = w }
+
+-- ---- what happens
+
+-- the next write, as a window keeps it
+abbrev pub kept_at : Snapshot → Write → Kept
+kept_at s w = record { revision = s.revision + 1; key = w.key; old = found w.key s.members; new = w.put }
+
+-- a write changes what is there, and the window of its kind records it
+abbrev pub after_write : Server → Write → Server
+after_write s w = with_window w.key.kind (recorded (window_of w.key.kind s) (kept_at s.snapshot w)) (record s { snapshot = written s.snapshot w })
+
+-- after an answer's write, if it has one
+abbrev pub after_writing : Server → Option Write → Server
+after_writing s None = s
+after_writing s (Some w) = after_write s w
+
+-- a compaction to r moves the floor of each window
+abbrev pub after_compaction : Server → ℕ → Server
+after_compaction s r =
+    record {
+      snapshot = s.snapshot;
+      config_maps = compacted_to s.config_maps r;
+      pods = compacted_to s.pods r;
+      replica_sets = compacted_to s.replica_sets r;
+      deployments = compacted_to s.deployments r;
+    }
+
+-- after entries, one after another
+abbrev pub after_entries : Server → History → Server
+after_entries s [] = s
+after_entries s (write w ∷ h) = after_entries (after_write s w) h
+after_entries s (compaction r ∷ h) = after_entries (after_compaction s r) h
+
+-- ---- what it answers
+
+-- the list of the view that is asked
+abbrev pub list_by : Server → View → At → Result Listed Refusal
+list_by s v at =
+    let listed = viewed v s.snapshot.members in
+    listed_at s.snapshot.revision listed (list_kept (window_of v.kind s) s.snapshot.revision listed v) at
+
+-- the first n changes of the view after a, and where the watch then stands
+abbrev pub watch_by : Server → View → ℕ → ℕ → Result Watched Refusal
+watch_by s v a n = result_map_both (watched s.snapshot.revision a n) (λ f. f) (since_kept (window_of v.kind s) s.snapshot.revision v a (n + 1))
+
+-- the server after a compaction to r, which may not be above the present revision
+abbrev pub compact_by : Server → ℕ → Result Server Refusal
+compact_by s r = once_present s.snapshot.revision r (after_compaction s r)
+
+-- ---- how it goes with a history
+
+-- a window of the kind and of this size that follows the history
+abbrev pub IsWindow : ℕ → Kind → History → Window → Type 0
+IsWindow size k h w = (w.kind ≡ k) × (w.size ≡ size) × Tracks w h
+
+-- what is there is what the history left there, and each window is of its kind and follows the history
+abbrev pub Holds : ℕ → Server → History → Type 0
+Holds size s h = (s.snapshot ≡ snapshot h) × ((k : Kind) → IsWindow size k h (window_of k s))

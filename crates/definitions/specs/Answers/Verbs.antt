@@ -1,0 +1,261 @@
+-- What each request is answered, and what it writes, by cases over what is there at the present revision.
+use Rattle.std.specs.Prelude.{ℕ, ◌+◌, List, [], ◌∷◌, ◌++◌, Bool, not, ◌||◌, length, map, Option, Some, None, Result, Ok, Err, codes, decimal, nat_le, nat_lt, is_some, ◌&&◌, if◌then◌else◌}
+use Rattle.serde_json.specs.Data.{Data, string, array, object, no_members, member}
+use Rattle.serde_json.specs.View.{items_of}
+use Rattle.serde_json.specs.Written.{compact_text}
+use Rattle.definitions.specs.declared.kinds.Kind.{Kind}
+use Rattle.definitions.specs.declared.refusals.Part.{Part}
+use Rattle.definitions.specs.declared.refusals.Part.TheVariants as part
+use Rattle.definitions.specs.declared.refusals.Mismatch.{Mismatch}
+use Rattle.definitions.specs.declared.refusals.Mismatch.TheVariants as mismatch
+use Rattle.definitions.specs.declared.refusals.Field.{Field}
+use Rattle.definitions.specs.declared.refusals.Field.TheVariants as field
+use Rattle.definitions.specs.Objects.Checks.{generate_name, create_fault, update_fault, is_status_valid}
+use Rattle.definitions.specs.Objects.Defaults.{defaulted}
+use Rattle.definitions.specs.Texts.GeneratedNames.{name_from}
+use Rattle.definitions.specs.Texts.Kinds.{api_version, kind_text}
+use Rattle.definitions.specs.Texts.Names.{Name}
+use Rattle.definitions.specs.State.History as history
+use Rattle.definitions.specs.State.History.{History, Write, write, View, viewed, members, found, present}
+use Rattle.definitions.specs.Requests.DeleteOptions.{Options}
+use Rattle.definitions.specs.Answers.Deletion.{Fate, remove, mark, keep, decided, removal_of, kept_code}
+use Rattle.definitions.specs.Objects.Metadata.{metadata_of, at_revision, name, namespace, uid, version, is_other, differs}
+use Rattle.definitions.specs.Objects.Reading.{is_body, reading}
+use Rattle.definitions.specs.Answers.Refusals.{Refusal, bad_request, not_found, already_exists, conflict, invalid, too_large, storage_full, code, status_body}
+use Rattle.definitions.specs.Objects.NewObjects.{created}
+use Rattle.definitions.specs.Objects.Replacements.{in_place, is_let_go, says_the_same, updated, with_said_status}
+use Rattle.definitions.specs.Texts.Revisions.{greatest_revision}
+use Rattle.definitions.specs.Objects.Values.{members_of, merged, without}
+
+-- ---- requests and outcomes
+
+-- the verbs of the API, each with what it names (Kubernetes API Concepts, API terminology); the body of an object is JSON data, not yet read
+pub data Request : Type 0 where
+  get_object : Name → Request
+  list_objects : View → Request
+  create_object : Kind → List ℕ → Data → Request
+  update_object : Name → Data → Request
+  update_status : Name → Data → Request
+  patch_object : Name → Data → Request
+  delete_object : Name → Options → Request
+
+-- an answer: its HTTP status code, its body, and at most one write
+pub record Answer : Type 0 where
+  pub code : ℕ
+  pub body : Data
+  pub write : Option Write
+
+-- an answer, with at most one write, or a refusal, with none
+pub data Outcome : Type 0 where
+  answered : Answer → Outcome
+  refused : Refusal → Outcome
+
+abbrev pub outcome_code : Outcome → ℕ
+outcome_code (answered a) = a.code
+outcome_code (refused f) = code f
+
+abbrev pub outcome_body : Outcome → Data
+outcome_body (answered a) = a.body
+outcome_body (refused f) = status_body f
+
+abbrev pub write_of : Outcome → Option Write
+write_of (answered a) = a.write
+write_of (refused f) = None
+
+abbrev pub with_write : History → Option Write → History
+with_write h None = h
+with_write h (Some w) = h ++ write w ∷ []
+
+-- what has happened after the request
+abbrev pub history_after : History → Outcome → History
+history_after h o = with_write h (write_of o)
+
+-- ---- limits
+
+abbrev pub most_objects : ℕ
+most_objects = 65536
+
+abbrev pub longest_object : ℕ
+longest_object = 1572864
+
+-- ---- pieces of the cases
+
+abbrev pub refuse_if : Bool → Refusal → Outcome → Outcome
+refuse_if b f o = if b then refused f else o
+
+-- a field of an object is at fault, or none is
+abbrev pub refuse_field : Name → Option Field → Outcome → Outcome
+refuse_field k None o = o
+refuse_field k (Some f) o = refused (invalid k f)
+
+-- an object is written under its key, and answered
+abbrev pub stored : ℕ → Name → Data → Outcome
+stored code k d = answered (record { code = code; body = d; write = Some (record { key = k; put = Some d }) })
+
+-- an object is removed, and answered
+abbrev pub removed : Name → Data → Outcome
+removed k d = answered (record { code = 200; body = d; write = Some (record { key = k; put = None }) })
+
+abbrev pub is_too_large : Data → Bool
+is_too_large d = nat_lt longest_object (length (compact_text d))
+
+abbrev pub is_past_greatest : ℕ → Bool
+is_past_greatest r = nat_lt greatest_revision r
+
+-- whether a write makes more objects than there may be, or has a revision past the greatest
+abbrev pub overflows : history.Members → ℕ → Write → Bool
+overflows ms r w = (nat_le most_objects (length ms) && is_some w.put && not (is_some (found w.key ms))) || is_past_greatest (r + 1)
+
+-- what a body says, with what is filled in where its spec leaves it out
+abbrev pub with_defaults : Kind → Result Data Part → Result Data Part
+with_defaults k (Err p) = Err p
+with_defaults k (Ok o) = Ok (defaulted k o)
+
+abbrev pub said : Kind → Data → Result Data Part
+said k d = with_defaults k (reading k d)
+
+-- ---- get and list
+
+abbrev pub or_absent : Name → (Data → Outcome) → Option Data → Outcome
+or_absent k f None = refused (not_found k)
+or_absent k f (Some d) = f d
+
+-- an object is answered as it stands (Kubernetes API Concepts, GET)
+abbrev pub shown : Data → Outcome
+shown d = answered (record { code = 200; body = d; write = None })
+
+-- an object as an item of a list, which says the kind once for all (Kubernetes API Concepts, Collections)
+abbrev pub as_item : Data → Data
+as_item d = object (without (codes "kind") (without (codes "apiVersion") (members_of d)))
+
+-- a list at a revision (Kubernetes API Concepts, Collections)
+abbrev pub list_body : Kind → ℕ → history.Members → Data
+list_body k r ms =
+    object
+    (member (codes "apiVersion") (string (api_version k))
+    (member (codes "items") (array (items_of (map (λ m. as_item m.1) ms)))
+    (member (codes "kind") (string (kind_text k ++ codes "List")) (member (codes "metadata") (object (member (codes "resourceVersion") (string (decimal r)) no_members)) no_members))))
+
+abbrev pub listed : View → history.Members → ℕ → Outcome
+listed v ms r = answered (record { code = 200; body = list_body v.kind r (viewed v ms); write = None })
+
+-- ---- create
+
+-- an object is put where none is, in the first case that there is (Kubernetes API Concepts, POST)
+abbrev pub create_as : Name → Data → history.Members → ℕ → Outcome
+create_as k d ms r =
+    refuse_if (is_too_large d) too_large
+    (refuse_if (is_some (found k ms)) (already_exists k) (refuse_if (nat_le most_objects (length ms) || is_past_greatest (r + 1)) storage_full (stored 201 k d)))
+
+abbrev pub is_free : Kind → List ℕ → history.Members → List ℕ → Bool
+is_free kind ns ms name = not (is_some (found (record { kind = kind; namespace = ns; name = name }) ms))
+
+-- the name of a new object: the one that it says, or one that is made
+abbrev pub new_name : Kind → List ℕ → Data → history.Members → ℕ → Name
+new_name kind ns o ms r = record { kind = kind; namespace = ns; name = name_from (is_free kind ns ms) (name o) (generate_name o) (r + 1) }
+
+-- each field of a new object is as it has to be
+abbrev pub create_checked : Name → Data → history.Members → ℕ → List ℕ → Outcome
+create_checked k o ms r moment = refuse_field k (create_fault k.kind k.name r o) (create_as k (created k.kind (r + 1) k.namespace k.name moment o) ms r)
+
+-- a new object names no other namespace than its path, and no version
+abbrev pub create_read : Kind → List ℕ → Result Data Part → history.Members → ℕ → List ℕ → Outcome
+create_read kind ns (Err p) ms r moment = refused (bad_request p)
+create_read kind ns (Ok o) ms r moment =
+    refuse_if (is_other (namespace o) ns || is_some (version o)) (bad_request part.Object) (create_checked (new_name kind ns o ms r) o ms r moment)
+
+-- ---- update
+
+-- an object is put in the place of another
+abbrev pub put_in_place : Name → Data → ℕ → Outcome
+put_in_place k d r = refuse_if (is_too_large d) too_large (refuse_if (is_past_greatest (r + 1)) storage_full (stored 200 k d))
+
+-- what nothing keeps any more is removed, and answered at the revision of its removal (Kubernetes, Finalizers)
+abbrev pub let_go : Name → Data → ℕ → Outcome
+let_go k d r = refuse_if (is_past_greatest (r + 1)) storage_full (removed k d)
+
+-- an object in the place of the one that is held: where it says the same nothing is written
+abbrev pub replace_changed : Name → Data → Data → ℕ → Outcome
+replace_changed k held d r =
+    if says_the_same held d then shown held
+    else (let new = updated k.kind (r + 1) held d in if is_let_go held new then let_go k new r else put_in_place k new r)
+
+-- each field of what replaces an object is as it has to be
+abbrev pub replace_with : Name → Data → Data → ℕ → Outcome
+replace_with k held d r = refuse_field k (update_fault k.kind k.name r held d) (replace_changed k held d r)
+
+-- what is there has the uid and the version that are named (Kubernetes API Conventions, Concurrency Control and Consistency)
+abbrev pub if_same : Name → Data → Data → Outcome → Outcome
+if_same k o held next =
+    refuse_if (differs (uid o) (uid held)) (conflict k mismatch.Uid) (refuse_if (differs (version o) (version held)) (conflict k mismatch.Modified) next)
+
+-- an update names the object of its path, and no other namespace
+abbrev pub names_path : Name → Data → Bool
+names_path k o = not (is_other (namespace o) k.namespace) && not (differs (Some k.name) (name o))
+
+abbrev pub replace : Name → Data → ℕ → Data → Outcome
+replace k o r held = if_same k o held (replace_with k held (in_place k.kind held o) r)
+
+-- the object that is there is replaced (Kubernetes API Concepts, PUT)
+abbrev pub update_read : Name → Result Data Part → history.Members → ℕ → Outcome
+update_read k (Err p) ms r = refused (bad_request p)
+update_read k (Ok o) ms r = refuse_if (not (names_path k o)) (bad_request part.Object) (or_absent k (replace k o r) (found k ms))
+
+-- ---- update of the status
+
+-- a status that says the same is not written, and no count is below 0
+abbrev pub restate : Name → Data → Data → ℕ → Outcome
+restate k held d r =
+    refuse_if (not (is_status_valid k.kind d)) (invalid k field.Status) (if says_the_same held d then shown held else put_in_place k (at_revision (r + 1) (metadata_of d) d) r)
+
+abbrev pub restate_with : Name → Data → ℕ → Data → Outcome
+restate_with k o r held = if_same k o held (restate k held (with_said_status k.kind held o) r)
+
+-- of the object that is there the status is replaced, and nothing else (Kubernetes API Conventions, Spec and Status)
+abbrev pub status_read : Name → Result Data Part → history.Members → ℕ → Outcome
+status_read k (Err p) ms r = refused (bad_request p)
+status_read k (Ok o) ms r = refuse_if (not (names_path k o)) (bad_request part.Object) (or_absent k (restate_with k o r) (found k ms))
+
+-- ---- patch
+
+abbrev pub patch_read : Name → ℕ → Data → Result Data Part → Outcome
+patch_read k r held (Err p) = refused (bad_request p)
+patch_read k r held (Ok o) = refuse_if (not (names_path k o)) (bad_request part.Object) (replace k o r held)
+
+-- a merge patch (RFC 7396) of the object that is there says what an update of it says (Kubernetes API Concepts, PATCH)
+abbrev pub patch : Name → Data → history.Members → ℕ → Outcome
+patch k d ms r = refuse_if (not (is_body d)) (bad_request part.Body) (or_absent k (λ held. patch_read k r held (said k.kind (merged held d))) (found k ms))
+
+-- ---- delete
+
+-- a mark is a write; it has no limit of its own, for what is too long to be marked could not be deleted
+abbrev pub put_mark : ℕ → Name → Data → ℕ → Outcome
+put_mark code k d r = refuse_if (is_past_greatest (r + 1)) storage_full (stored code k (at_revision (r + 1) (metadata_of d) d))
+
+abbrev pub by_fate : Name → ℕ → Data → ℕ → Fate → Outcome
+by_fate k code held r remove = let_go k (removal_of k.kind k (r + 1) held) r
+by_fate k code held r (mark d) = put_mark code k d r
+by_fate k code held r keep = answered (record { code = code; body = held; write = None })
+
+abbrev pub by_decision : Name → ℕ → Data → ℕ → Result Fate Mismatch → Outcome
+by_decision k code held r (Err why) = refused (conflict k why)
+by_decision k code held r (Ok f) = by_fate k code held r f
+
+-- the object that is there is removed, or is being deleted from then on (Kubernetes API Concepts, DELETE)
+abbrev pub delete : Name → Options → history.Members → ℕ → List ℕ → Outcome
+delete k o ms r moment = or_absent k (λ held. by_decision k (kept_code o.policy) held r (decided k.kind o moment held)) (found k ms)
+
+-- ---- the verbs
+
+abbrev pub accept_at : Request → history.Members → ℕ → List ℕ → Outcome
+accept_at (get_object k) ms r moment = or_absent k shown (found k ms)
+accept_at (list_objects v) ms r moment = listed v ms r
+accept_at (create_object kind ns d) ms r moment = create_read kind ns (said kind d) ms r moment
+accept_at (update_object k d) ms r moment = update_read k (said k.kind d) ms r
+accept_at (update_status k d) ms r moment = status_read k (reading k.kind d) ms r
+accept_at (patch_object k d) ms r moment = patch k d ms r
+accept_at (delete_object k o) ms r moment = delete k o ms r moment
+
+-- the answer to a request at a moment, after all that has happened
+abbrev pub accept : Request → History → List ℕ → Outcome
+accept q h moment = accept_at q (members h (present h)) (present h) moment

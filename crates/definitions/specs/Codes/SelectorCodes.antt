@@ -1,0 +1,26 @@
+-- Codes by which models may hold requirements.
+use Rattle.std.specs.Prelude.{ℕ, List, Bool, refl}
+use Rattle.std.specs.Coded.{Coded, code_by, coded×, coded_bool, coded_list}
+use Rattle.definitions.specs.declared.selectors.Operator.{Operator}
+use Rattle.definitions.specs.declared.selectors.SelectableField.{SelectableField}
+use Rattle.definitions.specs.contracts.selectors.Operator as operator
+use Rattle.definitions.specs.contracts.selectors.SelectableField as field
+use Rattle.definitions.specs.Codes.{coded_text}
+use Rattle.definitions.specs.Texts.SelectorFields.{FieldRequirement}
+use Rattle.definitions.specs.Texts.Selectors.{Requirement}
+
+abbrev pub coded_requirement : Coded Requirement
+coded_requirement =
+    code_by (List ℕ × (Operator × List (List ℕ))) (coded× coded_text (coded× operator.the_row.coded (coded_list coded_text)))
+    (λ r. (r.key, (r.operator, r.values))) (λ p. record { key = p.0; operator = p.1.0; values = p.1.1 }) (λ _. refl)
+
+abbrev pub coded_requirements : Coded (List Requirement)
+coded_requirements = coded_list coded_requirement
+
+abbrev pub coded_field_requirement : Coded FieldRequirement
+coded_field_requirement =
+    code_by (SelectableField × (Bool × List ℕ)) (coded× field.the_row.coded (coded× coded_bool coded_text))
+    (λ r. (r.field, (r.wanted, r.value))) (λ p. record { field = p.0; wanted = p.1.0; value = p.1.1 }) (λ _. refl)
+
+abbrev pub coded_field_requirements : Coded (List FieldRequirement)
+coded_field_requirements = coded_list coded_field_requirement

@@ -1,0 +1,51 @@
+-- What is filled in where it is absent, before an object is checked and stored (Kubernetes API reference, ReplicaSetSpec and DeploymentSpec).
+use Rattle.std.specs.Prelude.{ℕ, List, Bool, Option, Some, None, codes, if◌then◌else◌}
+use Rattle.std.specs.Str.{bytes_eq}
+use Rattle.serde_json.specs.Data.{Data, number, unsigned, string}
+use Rattle.serde_json.specs.Find.{get}
+use Rattle.definitions.specs.declared.kinds.Kind.{Kind}
+use Rattle.definitions.specs.declared.kinds.Kind.TheVariants.{ConfigMap, Pod, ReplicaSet, Deployment}
+use Rattle.definitions.specs.Objects.Metadata.{text_at}
+use Rattle.definitions.specs.Objects.Reading.{empty}
+use Rattle.definitions.specs.Objects.SelectorValues.{passes}
+use Rattle.definitions.specs.Objects.Values.{with_member, with_default}
+
+abbrev pub whole : ℕ → Data
+whole n = number (unsigned n)
+
+abbrev pub with_found : List ℕ → (Data → Data) → Option Data → Data → Data
+with_found k change None d = d
+with_found k change (Some e) d = with_member k (change e) d
+
+-- the value with its member changed, where it has it
+abbrev pub with_changed : List ℕ → (Data → Data) → Data → Data
+with_changed k change d = with_found k change (get k d) d
+
+abbrev pub rolling_defaults : Data → Data
+rolling_defaults d = with_default (codes "maxUnavailable") (string (codes "25%")) (with_default (codes "maxSurge") (string (codes "25%")) d)
+
+abbrev pub is_rolling_update : Data → Bool
+is_rolling_update d = passes (bytes_eq (codes "RollingUpdate")) (text_at (codes "type") d)
+
+-- a rolling update has its two amounts
+abbrev pub with_rolling : Data → Data
+with_rolling d =
+    if is_rolling_update d then with_changed (codes "rollingUpdate") rolling_defaults (with_default (codes "rollingUpdate") empty d) else d
+
+abbrev pub strategy_defaults : Data → Data
+strategy_defaults d = with_rolling (with_default (codes "type") (string (codes "RollingUpdate")) d)
+
+abbrev pub replica_set_defaults : Data → Data
+replica_set_defaults d = with_default (codes "replicas") (whole 1) d
+
+abbrev pub deployment_defaults : Data → Data
+deployment_defaults d =
+    with_changed (codes "strategy") strategy_defaults
+    (with_default (codes "strategy") empty (with_default (codes "revisionHistoryLimit") (whole 10) (with_default (codes "replicas") (whole 1) d)))
+
+-- an object of a kind with what its spec leaves out
+abbrev pub defaulted : Kind → Data → Data
+defaulted ConfigMap d = d
+defaulted Pod d = d
+defaulted ReplicaSet d = with_changed (codes "spec") replica_set_defaults d
+defaulted Deployment d = with_changed (codes "spec") deployment_defaults d

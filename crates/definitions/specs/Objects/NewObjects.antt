@@ -1,0 +1,38 @@
+-- What a create stores.
+use Rattle.std.specs.Prelude.{ℕ, List, Option, Some, None, codes, if◌then◌else◌}
+use Rattle.serde_json.specs.Data.{Data, string, object, Members, no_members, member, put}
+use Rattle.definitions.specs.declared.kinds.Kind.{Kind}
+use Rattle.definitions.specs.declared.kinds.Kind.TheVariants.{ConfigMap, Pod, ReplicaSet, Deployment}
+use Rattle.definitions.specs.Objects.Defaults.{whole}
+use Rattle.definitions.specs.Texts.Kinds.{has_generation}
+use Rattle.definitions.specs.Objects.Metadata.{metadata_of, at_revision}
+use Rattle.definitions.specs.Objects.Reading.{empty}
+use Rattle.definitions.specs.Texts.Uids.{uid_text, cluster_word}
+use Rattle.definitions.specs.Objects.Values.{members_of, without}
+
+-- the status of a new object, of a kind that has one (Kubernetes API Conventions, Spec and Status)
+abbrev pub first_status : Kind → Option Data
+first_status ConfigMap = None
+first_status Pod = Some (object (member (codes "phase") (string (codes "Pending")) no_members))
+first_status ReplicaSet = Some (object (member (codes "replicas") (whole 0) no_members))
+first_status Deployment = Some empty
+
+-- the members with this status, if there is one
+abbrev pub with_status : Option Data → Members → Members
+with_status None ms = ms
+with_status (Some s) ms = put (codes "status") s ms
+
+-- the first generation is 1 (Kubernetes API Conventions, Metadata)
+abbrev pub with_generation : Kind → Members → Members
+with_generation k meta = if has_generation k then put (codes "generation") (whole 1) meta else meta
+
+-- what the server sets in the metadata of a new object (Kubernetes API Conventions, Metadata)
+abbrev pub new_metadata : Kind → ℕ → List ℕ → List ℕ → List ℕ → Members → Members
+new_metadata k r ns name moment meta =
+    put (codes "uid") (string (uid_text cluster_word r))
+    (put (codes "creationTimestamp") (string moment)
+    (put (codes "namespace") (string ns) (put (codes "name") (string name) (with_generation k (without (codes "deletionTimestamp") meta)))))
+
+-- a new object of a kind, at a revision, in a namespace, under a name, of what a body says
+abbrev pub created : Kind → ℕ → List ℕ → List ℕ → List ℕ → Data → Data
+created k r ns name moment o = at_revision r (new_metadata k r ns name moment (metadata_of o)) (object (with_status (first_status k) (members_of o)))

@@ -1,0 +1,123 @@
+-- Reading an object: what is wanted of it, and what is left out of it and filled in.
+use Rattle.std.specs.Prelude.{◌≡◌, ℕ, ℤ, List, Bool, true, false, not, nat_le, Result, Ok, Err, ◌&&◌, ◌||◌, ◌==◌, length, if◌then◌else◌, bytes_eq, int_le, is_some, option_map, unwrap_or, codes}
+use Rattle.serde_json.specs.Data.{Num, Data, null, boolean, number, string, array, object, Items, no_items, item, Members, no_members, member, put, depth}
+use Rattle.serde_json.specs.Find.{as_object, as_i64}
+use Rattle.serde_json.specs.Written.{has_float}
+use Rattle.serde_json.specs.Events.{items_len, members_len}
+use Rattle.definitions.specs.declared.kinds.Kind.{Kind}
+use Rattle.definitions.specs.declared.kinds.Kind.TheVariants.{Pod}
+use Rattle.definitions.specs.declared.refusals.Part.{Part}
+use Rattle.definitions.specs.declared.refusals.Part.TheVariants as part
+use Rattle.definitions.specs.declared.schemas.Shape.{Shape}
+use Rattle.definitions.specs.declared.schemas.Shape.TheVariants.{Anything, Text, VersionOf, NameOf, Truth, Whole, TextList, List as ListOf, Object}
+use Rattle.definitions.specs.declared.schemas.Schema.{Schema}
+use Rattle.definitions.specs.declared.schemas.Schema.TheVariants.{Root, Unknown}
+use Rattle.definitions.specs.declared.schemas.Member.{Member}
+use Rattle.definitions.specs.Texts.Kinds.{api_version, kind_text}
+use Rattle.definitions.specs.Objects.Schemas.{member_at}
+use Rattle.definitions.specs.Objects.Values.{with_default, is_null}
+
+-- from the first number to the second
+abbrev pub is_within : ℤ → ℤ → Num → Bool
+is_within least most n = unwrap_or (option_map (λ z. int_le least z && int_le z most) (as_i64 n)) false
+
+-- whether a value has a shape; a member that is null counts as absent (Kubernetes API Conventions, Nullable)
+abbrev mutual
+  pub fits : Shape → Data → Bool
+  fits Anything d = true
+  fits Text (string s) = true
+  fits (VersionOf k) (string s) = bytes_eq s (api_version k)
+  fits (NameOf k) (string s) = bytes_eq s (kind_text k)
+  fits Truth (boolean b) = true
+  fits (Whole least most) (number n) = is_within least most n
+  fits TextList (array ds) = items_fit Text ds
+  fits (ListOf p) (array ds) = items_fit (Object p) ds
+  fits (Object p) (object ms) = members_fit p ms
+  fits s d = false
+
+  pub items_fit : Shape → Items → Bool
+  items_fit s no_items = true
+  items_fit s (item d ds) = fits s d && items_fit s ds
+
+  pub members_fit : Schema → Members → Bool
+  members_fit p no_members = true
+  members_fit p (member k d ms) = (is_null d || fits (member_at p k).shape d) && members_fit p ms
+
+abbrev pub is_empty : Data → Bool
+is_empty null = false
+is_empty (boolean b) = false
+is_empty (number n) = false
+is_empty (string s) = length s == 0
+is_empty (array ds) = items_len ds == 0
+is_empty (object ms) = members_len ms == 0
+
+-- a member that is null counts as absent, and where its table says so an empty one too
+abbrev pub is_absent : Member → Data → Bool
+is_absent m d = is_null d || (m.drops_empty && is_empty d)
+
+abbrev pub schema_of : Shape → Schema
+schema_of (Object p) = p
+schema_of s = Unknown
+
+abbrev pub item_of : Shape → Shape
+item_of TextList = Text
+item_of (ListOf p) = Object p
+item_of s = Anything
+
+-- without the members, at every depth, that count as absent
+abbrev mutual
+  pub tidied : Shape → Data → Data
+  tidied s null = null
+  tidied s (boolean b) = boolean b
+  tidied s (number n) = number n
+  tidied s (string t) = string t
+  tidied s (array ds) = array (tidied_items (item_of s) ds)
+  tidied s (object ms) = object (tidied_members (schema_of s) ms)
+
+  pub tidied_items : Shape → Items → Items
+  tidied_items s no_items = no_items
+  tidied_items s (item d ds) = item (tidied s d) (tidied_items s ds)
+
+  pub tidied_members : Schema → Members → Members
+  tidied_members p no_members = no_members
+  tidied_members p (member k d ms) =
+      if is_absent (member_at p k) (tidied (member_at p k).shape d) then tidied_members p ms
+      else member k (tidied (member_at p k).shape d) (tidied_members p ms)
+
+abbrev pub empty : Data
+empty = object no_members
+
+-- what is filled in where it is absent: what the object is, its metadata, and a Pod's spec (Kubernetes API Conventions, Types)
+abbrev pub with_spec : Kind → Data → Data
+with_spec Pod d = with_default (codes "spec") empty d
+with_spec k d = d
+
+abbrev pub filled : Kind → Data → Data
+filled k d =
+    with_default (codes "apiVersion") (string (api_version k)) (with_default (codes "kind") (string (kind_text k)) (with_spec k (with_default (codes "metadata") empty d)))
+
+-- what an object of a kind has to be
+abbrev pub whole_of : Kind → Shape
+whole_of k = Object (Root k)
+
+-- the deepest nesting that is read, each object or list counting one
+abbrev pub depth_limit : ℕ
+depth_limit = 100
+
+-- a JSON object without fractions or exponents, nested no deeper than is read
+abbrev pub is_body : Data → Bool
+is_body d = is_some (as_object d) && not (has_float d) && nat_le (depth d) depth_limit
+
+-- a value read as an object of a kind, or the part of the request that is at fault
+abbrev pub reading : Kind → Data → Result Data Part
+reading k d =
+    if not (is_body d) then Err part.Body
+    else (if fits (whole_of k) d then Ok (filled k (tidied (whole_of k) d)) else Err part.Object)
+
+-- what reads as itself: it is a body, fits, and has nothing to be left out or filled in
+abbrev pub IsSettled : Kind → Data → Type 0
+IsSettled k d = (is_body d ≡ true) × (fits (whole_of k) d ≡ true) × (filled k (tidied (whole_of k) d) ≡ d)
+
+-- the members with one more, unless it counts as absent
+abbrev pub with_if_there : Member → List ℕ → Data → Members → Members
+with_if_there m k d ms = if is_absent m d then ms else put k d ms

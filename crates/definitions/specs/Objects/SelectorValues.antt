@@ -1,0 +1,123 @@
+-- What a value says that selects by labels, as `spec.selector` does (Kubernetes API reference, LabelSelector).
+use Rattle.std.specs.Prelude.{ℕ, ◌&&◌, List, [], ◌∷◌, ◌++◌, Bool, true, false, codes, is_some, if◌then◌else◌, Option, None, Some, option_and_then, unwrap_or, Result, Ok, Err}
+use Rattle.std.specs.Str.{bytes_eq}
+use Rattle.serde_json.specs.Data.{Data, Items, no_items, item, Members, no_members, member}
+use Rattle.serde_json.specs.Find.{get, as_str, as_array, as_object}
+use Rattle.definitions.specs.declared.selectors.Operator.{Operator}
+use Rattle.definitions.specs.declared.selectors.Operator.TheVariants.{In, NotIn, Exists, DoesNotExist}
+use Rattle.definitions.specs.Texts.Selectors.{Requirement, each_read, label_key, label_value, only_if, put_first, requiring}
+use Rattle.definitions.specs.Objects.Values.{inner_of}
+
+-- why a value selects nothing
+pub data Flaw : Type 0 where
+  -- a member of a wrong type
+  mistyped : Flaw
+  -- a key, an operator or values that do not go
+  unfit : Flaw
+
+-- ---- types
+
+abbrev pub all_items : (Data → Bool) → Items → Bool
+all_items test no_items = true
+all_items test (item d ds) = test d && all_items test ds
+
+abbrev pub all_members : (Data → Bool) → Members → Bool
+all_members test no_members = true
+all_members test (member k d ms) = test d && all_members test ms
+
+-- the test of what is there
+abbrev pub passes : {A : Type 0} → (A → Bool) → Option A → Bool
+passes test None = false
+passes test (Some a) = test a
+
+abbrev pub is_absent_or : (Data → Bool) → Option Data → Bool
+is_absent_or test None = true
+is_absent_or test (Some d) = test d
+
+abbrev pub is_text : Data → Bool
+is_text d = is_some (as_str d)
+
+abbrev pub is_list_of : (Data → Bool) → Data → Bool
+is_list_of test d = passes (all_items test) (as_array d)
+
+abbrev pub is_object_of : (Data → Bool) → Data → Bool
+is_object_of test d = passes (all_members test) (as_object d)
+
+abbrev pub is_expression : Data → Bool
+is_expression d =
+    is_some (as_object d) && is_absent_or is_text (get (codes "key") d) && is_absent_or is_text (get (codes "operator") d)
+    && is_absent_or (is_list_of is_text) (get (codes "values") d)
+
+-- the known members have their types
+abbrev pub is_typed : Data → Bool
+is_typed d =
+    is_some (as_object d) && is_absent_or (is_object_of is_text) (get (codes "matchLabels") d)
+    && is_absent_or (is_list_of is_expression) (get (codes "matchExpressions") d)
+
+-- ---- requirements
+
+-- a text; the empty one where none is
+abbrev pub text_in : Option Data → List ℕ
+text_in found = unwrap_or (option_and_then as_str found) []
+
+-- the items of a list; none where none is
+abbrev pub items_in : Option Data → Items
+items_in found = unwrap_or (option_and_then as_array found) no_items
+
+-- each pair of `matchLabels` is a requirement `In` with one value
+abbrev pub label_requirements : Members → Option (List Requirement)
+label_requirements no_members = Some []
+label_requirements (member k d ms) =
+    put_first (requiring (label_key k) In (each_read label_value (text_in (Some d) ∷ []))) (label_requirements ms)
+
+abbrev pub operator_named : List ℕ → Option Operator
+operator_named word =
+    if bytes_eq word (codes "In") then Some In
+    else (if bytes_eq word (codes "NotIn") then Some NotIn
+    else (if bytes_eq word (codes "Exists") then Some Exists
+    else only_if (bytes_eq word (codes "DoesNotExist")) DoesNotExist))
+
+abbrev pub item_values : Items → Option (List (List ℕ))
+item_values no_items = Some []
+item_values (item d ds) = put_first (label_value (text_in (Some d))) (item_values ds)
+
+-- values that an operator goes with: some for `In` and `NotIn`, none for the others
+abbrev pub fitting : Operator → List (List ℕ) → Option (List (List ℕ))
+fitting In [] = None
+fitting In (v ∷ vs) = Some (v ∷ vs)
+fitting NotIn [] = None
+fitting NotIn (v ∷ vs) = Some (v ∷ vs)
+fitting Exists [] = Some []
+fitting Exists (v ∷ vs) = None
+fitting DoesNotExist [] = Some []
+fitting DoesNotExist (v ∷ vs) = None
+
+abbrev pub operated : Option (List ℕ) → Option Operator → Option (List (List ℕ)) → Option Requirement
+operated key None values = None
+operated key (Some operator) values = requiring key operator (option_and_then (fitting operator) values)
+
+-- one of `matchExpressions`
+abbrev pub expression_requirement : Data → Option Requirement
+expression_requirement d =
+    operated (label_key (text_in (get (codes "key") d))) (operator_named (text_in (get (codes "operator") d)))
+    (item_values (items_in (get (codes "values") d)))
+
+abbrev pub expression_requirements : Items → Option (List Requirement)
+expression_requirements no_items = Some []
+expression_requirements (item d ds) = put_first (expression_requirement d) (expression_requirements ds)
+
+abbrev pub both : {A : Type 0} → Option (List A) → Option (List A) → Option (List A)
+both None bs = None
+both (Some as') None = None
+both (Some as') (Some bs) = Some (as' ++ bs)
+
+abbrev pub or_unfit : Option (List Requirement) → Result (List Requirement) Flaw
+or_unfit None = Err unfit
+or_unfit (Some rs) = Ok rs
+
+-- what a value says; an empty object says nothing
+abbrev pub said_by_value : Data → Result (List Requirement) Flaw
+said_by_value d =
+    if is_typed d
+    then or_unfit (both (label_requirements (inner_of (get (codes "matchLabels") d))) (expression_requirements (items_in (get (codes "matchExpressions") d))))
+    else Err mistyped

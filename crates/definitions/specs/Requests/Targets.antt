@@ -1,0 +1,233 @@
+-- What a method, a target and a body ask for.
+use Rattle.std.specs.Prelude.{ℕ, List, [], ◌∷◌, ◌++◌, Bool, true, false, not, ◌&&◌, length, Option, Some, None, Result, Ok, Err, codes, nat_lt, if◌then◌else◌, option_and_then, option_map, ◌==◌}
+use Rattle.std.specs.List.{slice_split, list_all, before_first}
+use Rattle.std.specs.Str.{bytes_eq, is_utf8}
+use Rattle.std.specs.Str.Lossy.{utf8_lossy}
+use Rattle.serde_json.specs.Data.{Data}
+use Rattle.definitions.specs.declared.kinds.Group.{Group}
+use Rattle.definitions.specs.declared.kinds.Group.TheVariants.{Core, Apps}
+use Rattle.definitions.specs.declared.kinds.Kind.{Kind}
+use Rattle.definitions.specs.declared.methods.Method.{Method}
+use Rattle.definitions.specs.declared.methods.Method.TheVariants.{Get, Post, Put, Patch, Delete}
+use Rattle.definitions.specs.declared.refusals.Part.{Part}
+use Rattle.definitions.specs.declared.refusals.Part.TheVariants as part
+use Rattle.definitions.specs.Texts.Kinds.{group, plural, kind_named, has_status}
+use Rattle.definitions.specs.Texts.Names.{Name, is_namespace}
+use Rattle.definitions.specs.State.History.{View}
+use Rattle.definitions.specs.Requests.DeleteOptions.{Options, options_of, options_with}
+use Rattle.definitions.specs.Requests.Collections as collections
+use Rattle.definitions.specs.Requests.Collections.{ListOptions, WatchOptions, Collection, Read}
+use Rattle.definitions.specs.Requests.Queries.{pairs_of}
+use Rattle.definitions.specs.Requests.RequestQueries.{Query, collection_query, delete_query, other_query}
+use Rattle.definitions.specs.Objects.Values.{data_of}
+use Rattle.definitions.specs.Answers.Refusals.{Refusal, bad_request, no_such_path, method_not_allowed, too_large}
+use Rattle.definitions.specs.Answers.Verbs.{Request, get_object, create_object, update_object, update_status, patch_object, delete_object}
+
+-- a collection of a kind, in one namespace or in all; an object; the status of an object (Kubernetes API Concepts, Resource URIs)
+pub data Route : Type 0 where
+  collection : Kind → Option (List ℕ) → Route
+  object_at : Name → Route
+  status_of : Name → Route
+
+-- ---- paths
+
+-- the start of a group's paths (Kubernetes API Concepts, Resource URIs)
+abbrev pub prefix : Group → List ℕ
+prefix Core = codes "/api/v1"
+prefix Apps = codes "/apis/apps/v1"
+
+-- the path of a route (Kubernetes API Concepts, Resource URIs)
+abbrev pub collection_text : Kind → Option (List ℕ) → List ℕ
+collection_text k None = prefix (group k) ++ (47 ∷ plural k)
+collection_text k (Some ns) = prefix (group k) ++ (codes "/namespaces/" ++ (ns ++ (47 ∷ plural k)))
+
+abbrev pub object_text : Name → List ℕ
+object_text n = collection_text n.kind (Some n.namespace) ++ (47 ∷ n.name)
+
+abbrev pub path_text : Route → List ℕ
+path_text (collection k ns) = collection_text k ns
+path_text (object_at n) = object_text n
+path_text (status_of n) = object_text n ++ codes "/status"
+
+-- the texts between the slashes; none is decoded (RFC 3986, Path)
+abbrev pub segments : List ℕ → List (List ℕ)
+segments path = slice_split (λ b. b == 47) path
+
+-- the forms of a path, with its group and its parts
+pub data Form : Type 0 where
+  all_form : Group → (resource : List ℕ) → Form
+  namespace_form : Group → (namespace resource : List ℕ) → Form
+  object_form : Group → (namespace resource name : List ℕ) → Form
+  status_form : Group → (namespace resource name : List ℕ) → Form
+
+-- below a prefix: `P`, `namespaces/N/P`, `namespaces/N/P/O` and `namespaces/N/P/O/status`
+abbrev pub below : Group → List (List ℕ) → Option Form
+below g [] = None
+below g (resource ∷ []) = Some (all_form g resource)
+below g (word ∷ n ∷ []) = None
+below g (word ∷ n ∷ resource ∷ []) = if bytes_eq (codes "namespaces") word then Some (namespace_form g n resource) else None
+below g (word ∷ n ∷ resource ∷ name ∷ []) = if bytes_eq (codes "namespaces") word then Some (object_form g n resource name) else None
+below g (word ∷ n ∷ resource ∷ name ∷ last ∷ []) =
+    if bytes_eq (codes "namespaces") word && bytes_eq (codes "status") last then Some (status_form g n resource name) else None
+below g (word ∷ n ∷ resource ∷ name ∷ last ∷ more ∷ rest) = None
+
+-- the segments after the words of a prefix
+abbrev pub after_words : List (List ℕ) → List (List ℕ) → Option (List (List ℕ))
+after_words [] segs = Some segs
+after_words (word ∷ words) [] = None
+after_words (word ∷ words) (s ∷ segs) = if bytes_eq word s then after_words words segs else None
+
+abbrev pub below_apps : Option (List (List ℕ)) → Option Form
+below_apps (Some rest) = below Apps rest
+below_apps None = None
+
+abbrev pub below_either : List (List ℕ) → Option (List (List ℕ)) → Option Form
+below_either segs (Some rest) = below Core rest
+below_either segs None = below_apps (after_words (codes "apis" ∷ codes "apps" ∷ codes "v1" ∷ []) segs)
+
+-- the prefix is `api/v1` or `apis/apps/v1`
+abbrev pub by_prefix : List (List ℕ) → Option Form
+by_prefix segs = below_either segs (after_words (codes "api" ∷ codes "v1" ∷ []) segs)
+
+abbrev pub is_filled : List ℕ → Bool
+is_filled s = nat_lt 0 (length s)
+
+-- the path begins with a slash, and no segment after it is empty
+abbrev pub form_of : List (List ℕ) → Option Form
+form_of ([] ∷ segs) = if list_all is_filled segs then by_prefix segs else None
+form_of _ = None
+
+abbrev pub with_status : Kind → Option Kind
+with_status k = if has_status k then Some k else None
+
+abbrev pub route_of : Form → Option Route
+route_of (all_form g resource) = option_map (λ k. collection k None) (kind_named g resource)
+route_of (namespace_form g n resource) = option_map (λ k. collection k (Some n)) (kind_named g resource)
+route_of (object_form g n resource name) = option_map (λ k. object_at (record { kind = k; namespace = n; name = name })) (kind_named g resource)
+route_of (status_form g n resource name) = option_map (λ k. status_of (record { kind = k; namespace = n; name = name })) (option_and_then with_status (kind_named g resource))
+
+-- the route with this path (Kubernetes API Concepts, Resource URIs)
+abbrev pub route : List ℕ → Option Route
+route path = option_and_then route_of (form_of (segments path))
+
+-- whether the namespace that a route names can be one
+abbrev pub names_namespace : Route → Bool
+names_namespace (collection k None) = true
+names_namespace (collection k (Some ns)) = is_namespace ns
+names_namespace (object_at n) = is_namespace n.namespace
+names_namespace (status_of n) = is_namespace n.namespace
+
+-- ---- methods, queries and bodies
+
+-- the methods of each route (Kubernetes API Concepts, API verbs)
+abbrev pub is_allowed : Method → Route → Bool
+is_allowed Get r = true
+is_allowed Post (collection k None) = false
+is_allowed Post (collection k (Some ns)) = true
+is_allowed Post (object_at n) = false
+is_allowed Post (status_of n) = false
+is_allowed Put (collection k ns) = false
+is_allowed Put (object_at n) = true
+is_allowed Put (status_of n) = true
+is_allowed Patch (collection k ns) = false
+is_allowed Patch (object_at n) = true
+is_allowed Patch (status_of n) = false
+is_allowed Delete (collection k ns) = false
+is_allowed Delete (object_at n) = true
+is_allowed Delete (status_of n) = false
+
+-- a target is a path, and a query after a `?` (RFC 3986, Path)
+abbrev pub path_of : List ℕ → List ℕ
+path_of target = before_first (λ b. b == 63) target
+
+abbrev pub longest_body : ℕ
+longest_body = 1048576
+
+-- what is asked: a request of an object, the list of a view, or a watch of it (Kubernetes API Concepts, API verbs)
+pub data Asked : Type 0 where
+  request : Request → Asked
+  list : View → ListOptions → Asked
+  watch : View → WatchOptions → Asked
+
+abbrev pub body_or : Option Data → Result Data Refusal
+body_or None = Err (bad_request part.Body)
+body_or (Some d) = Ok d
+
+-- the data of a body, or the first refusal: it is too long, it is no JSON in UTF-8
+abbrev pub body_of : List ℕ → Result Data Refusal
+body_of text = if nat_lt longest_body (length text) then Err too_large else body_or (data_of text)
+
+abbrev pub asks_with : (Data → Request) → Result Data Refusal → Result Asked Refusal
+asks_with f (Err e) = Err e
+asks_with f (Ok d) = Ok (request (f d))
+
+-- a request with the data of its body
+abbrev pub with_body : (Data → Request) → List ℕ → Result Asked Refusal
+with_body f text = asks_with f (body_of text)
+
+abbrev pub options_or : Result Options Part → Result Options Refusal
+options_or (Err p) = Err (bad_request p)
+options_or (Ok o) = Ok o
+
+abbrev pub options_in : Result Data Refusal → Result Options Refusal
+options_in (Err e) = Err e
+options_in (Ok d) = options_or (options_of d)
+
+-- the options of a delete: what its body says or, without one, its query
+abbrev pub delete_options : Query → List ℕ → Result Options Refusal
+delete_options q text = if length text == 0 then options_or (options_with part.Query None None q.policy) else options_in (body_of text)
+
+abbrev pub deletes_with : Name → Result Options Refusal → Result Asked Refusal
+deletes_with n (Err e) = Err e
+deletes_with n (Ok o) = Ok (request (delete_object n o))
+
+-- the query that a method and a route take
+abbrev pub query_for : Method → Route → List ℕ → Result Query Part
+query_for Get (collection k ns) target = collection_query (pairs_of target)
+query_for Delete r target = delete_query (pairs_of target)
+query_for method r target = other_query (pairs_of target)
+
+-- what is selected of a collection
+abbrev pub selected : Kind → Option (List ℕ) → Collection → View
+selected k ns c = record { kind = k; namespace = ns; labels = c.labels; fields = c.fields }
+
+abbrev pub read_as : View → Read → Asked
+read_as v (collections.list o) = list v o
+read_as v (collections.watch o) = watch v o
+
+-- what a method asks of a route (Kubernetes API Concepts, API verbs)
+abbrev pub asked : Method → Route → Query → List ℕ → Result Asked Refusal
+asked Get (collection k ns) q text = Ok (read_as (selected k ns q.collection) q.collection.read)
+asked Get (object_at n) q text = Ok (request (get_object n))
+asked Get (status_of n) q text = Ok (request (get_object n))
+asked Post (collection k None) q text = Err method_not_allowed
+asked Post (collection k (Some ns)) q text = with_body (create_object k ns) text
+asked Post (object_at n) q text = Err method_not_allowed
+asked Post (status_of n) q text = Err method_not_allowed
+asked Put (collection k ns) q text = Err method_not_allowed
+asked Put (object_at n) q text = with_body (update_object n) text
+asked Put (status_of n) q text = with_body (update_status n) text
+asked Patch (collection k ns) q text = Err method_not_allowed
+asked Patch (object_at n) q text = with_body (patch_object n) text
+asked Patch (status_of n) q text = Err method_not_allowed
+asked Delete (collection k ns) q text = Err method_not_allowed
+asked Delete (object_at n) q text = deletes_with n (delete_options q text)
+asked Delete (status_of n) q text = Err method_not_allowed
+
+abbrev pub asked_with : Method → Route → List ℕ → Result Query Part → Result Asked Refusal
+asked_with method r text (Err p) = Err (bad_request p)
+asked_with method r text (Ok q) = asked method r q text
+
+abbrev pub asked_at : Method → List ℕ → List ℕ → Option Route → Result Asked Refusal
+asked_at method target text None = Err no_such_path
+asked_at method target text (Some r) =
+    if not (names_namespace r) then Err (bad_request part.Path)
+    else (if not (is_allowed method r) then Err method_not_allowed else asked_with method r text (query_for method r target))
+
+-- a target that is no text is read as one, with U+FFFD in the place of what is none (Unicode, U+FFFD Substitution)
+abbrev pub decoded : List ℕ → List ℕ
+decoded t = if is_utf8 t then t else utf8_lossy t
+
+-- what is asked, or the first refusal: of the path, the method, the query, the body
+abbrev pub read_request : Method → List ℕ → List ℕ → Result Asked Refusal
+read_request method target text = asked_at method (decoded target) text (route (path_of (decoded target)))

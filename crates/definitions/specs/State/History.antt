@@ -1,0 +1,115 @@
+-- What has happened, the state at each revision, and its lists.
+use Rattle.std.specs.Prelude.{ℕ, ◌≤◌, ◌+◌, ◌-◌, ◌==◌, ◌&&◌, Bool, true, List, [], ◌∷◌, length, take, filter, slice_get, option_and_then, Option, Some, None, if◌then◌else◌}
+use Rattle.std.specs.BTreeMap.{insert_entry, is_at}
+use Rattle.std.specs.Map.{remove_entry, lookup}
+use Rattle.std.specs.Str.{bytes_eq}
+use Rattle.serde_json.specs.Data.{Data}
+use Rattle.definitions.specs.declared.kinds.Kind.{Kind}
+use Rattle.definitions.specs.Texts.Kinds.{rank}
+use Rattle.definitions.specs.Texts.Labels.{labels_of}
+use Rattle.definitions.specs.Texts.Names.{Name, name_cmp, is_named}
+use Rattle.definitions.specs.Texts.SelectorFields.{FieldRequirement, fields_meet}
+use Rattle.definitions.specs.Texts.Selectors.{Requirement, meets_all}
+
+-- an object is put under a key, or the object there is removed
+pub record Write : Type 0 where
+  pub key : Name
+  pub put : Option Data
+
+-- an entry is a write, or a compaction of what happened up to a revision (etcd API, Compact)
+pub data Entry : Type 0 where
+  write : Write → Entry
+  compaction : ℕ → Entry
+
+abbrev pub History : Type 0
+History = List Entry
+
+abbrev pub writes : History → List Write
+writes [] = []
+writes (write w ∷ h) = w ∷ writes h
+writes (compaction r ∷ h) = writes h
+
+-- the revision of the empty store is 1, and each write takes the next one (etcd API, Revisions)
+abbrev pub present : History → ℕ
+present h = length (writes h) + 1
+
+-- these entries can follow when revision r is present: a compaction reaches no further than what has happened before it (etcd API, Compact)
+abbrev pub Follows : ℕ → History → Type 0
+Follows r [] = Unit {0}
+Follows r (write w ∷ h) = Follows (r + 1) h
+Follows r (compaction c ∷ h) = (c ≤ r) × Follows r h
+
+-- these entries can happen, from the beginning
+abbrev pub CanHappen : History → Type 0
+CanHappen h = Follows 1 h
+
+-- the writes up to revision r: the n-th has revision n + 1
+abbrev pub up_to : ℕ → History → List Write
+up_to r h = take (r - 1) (writes h)
+
+-- what is under a key after these writes, where `before` was there before them: the last write that names the key says it
+abbrev pub last_of : Option Data → Name → List Write → Option Data
+last_of before k [] = before
+last_of before k (w ∷ ws) = last_of (if is_named k w.key then w.put else before) k ws
+
+-- the object under a key at a revision (Kubernetes API Concepts, Resource versions)
+abbrev pub state : History → ℕ → Name → Option Data
+state h r k = last_of None k (up_to r h)
+
+-- the object that the write at a place put, the first place being 0
+abbrev pub put_at : History → ℕ → Option Data
+put_at h place = option_and_then (λ w. w.put) (slice_get (writes h) place)
+
+-- names and their objects, in the order of names
+abbrev pub Members : Type 0
+Members = List (Name × Data)
+
+abbrev pub put_or_remove : Members → Name → Option Data → Members
+put_or_remove ms k None = remove_entry (is_at (name_cmp k)) ms
+put_or_remove ms k (Some d) = insert_entry name_cmp ms k d
+
+abbrev pub after : Members → Write → Members
+after ms w = put_or_remove ms w.key w.put
+
+abbrev pub after_all : Members → List Write → Members
+after_all ms [] = ms
+after_all ms (w ∷ ws) = after_all (after ms w) ws
+
+-- all that is there at a revision
+abbrev pub members : History → ℕ → Members
+members h r = after_all [] (up_to r h)
+
+abbrev pub found : Name → Members → Option Data
+found k ms = lookup (is_at (name_cmp k)) ms
+
+-- what a list or a watch asks for: a kind, in one namespace or in all, with these labels and fields (Kubernetes API Concepts, Resource URIs; Labels and Selectors; Field Selectors)
+pub record View : Type 0 where
+  pub kind : Kind
+  pub namespace : Option (List ℕ)
+  pub labels : List Requirement
+  pub fields : List FieldRequirement
+
+-- all objects of a kind, in one namespace or in all
+abbrev pub whole : Kind → Option (List ℕ) → View
+whole k ns = record { kind = k; namespace = ns; labels = []; fields = [] }
+
+abbrev pub in_namespace : Option (List ℕ) → List ℕ → Bool
+in_namespace None ns = true
+in_namespace (Some wanted) ns = bytes_eq wanted ns
+
+-- whether an object with this name is asked for
+abbrev pub in_view : View → Name → Data → Bool
+in_view v k d =
+    (rank v.kind == rank k.kind) && in_namespace v.namespace k.namespace && meets_all v.labels (labels_of d) && fields_meet v.fields k.name k.namespace
+
+abbrev pub viewed : View → Members → Members
+viewed v ms = filter (λ m. in_view v m.0 m.1) ms
+
+-- the list of a view at a revision, by namespace, then name (Kubernetes API Concepts, Collections)
+abbrev pub list : History → View → ℕ → Members
+list h v r = viewed v (members h r)
+
+-- what is under a name, if the view asks for it
+abbrev pub seen : View → Name → Option Data → Option Data
+seen v k None = None
+seen v k (Some d) = if in_view v k d then Some d else None

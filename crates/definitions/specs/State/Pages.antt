@@ -1,0 +1,67 @@
+-- Lists cut into pages (Kubernetes API Concepts, Retrieving large results sets in chunks).
+use Rattle.std.specs.Prelude.{◌≡◌, ◌==◌, ℕ, ◌-◌, List, [], ◌∷◌, length, map, take, filter, flat_map, Bool, true, nat_le, Option, Some, None, if◌then◌else◌}
+use Rattle.std.specs.List.Sorted.{IsStrictlySortedBy}
+use Rattle.std.specs.Ordering.{nat_cmp, then_cmp, on, is_lt}
+use Rattle.std.specs.Cmp.Lexicographic.{slice_cmp}
+use Rattle.std.specs.declared.cmp.Ordering.{Ordering}
+use Rattle.definitions.specs.Texts.Names.{Name}
+use Rattle.definitions.specs.State.History.{Members}
+
+-- where a page ends: the namespace and the name of its last object
+pub record Place : Type 0 where
+  pub namespace : List ℕ
+  pub name : List ℕ
+
+abbrev pub place_of : Name → Place
+place_of n = record { namespace = n.namespace; name = n.name }
+
+-- by namespace, then name, in byte order, as names of one kind go
+abbrev pub place_cmp : Place → Place → Ordering
+place_cmp = then_cmp (on (λ (p : Place). p.namespace) (slice_cmp nat_cmp)) (on (λ (p : Place). p.name) (slice_cmp nat_cmp))
+
+-- the members stand in strictly ascending order of their places
+abbrev pub AreInPlace : Members → Type 0
+AreInPlace ms = IsStrictlySortedBy place_cmp (map (λ m. place_of m.0) ms)
+
+-- whether a name comes after a place; where there is none, each does
+abbrev pub is_after : Option Place → Name → Bool
+is_after None k = true
+is_after (Some p) k = is_lt (place_cmp p (place_of k))
+
+-- the members after a place
+abbrev pub after_place : Option Place → Members → Members
+after_place p ms = filter (λ m. is_after p m.0) ms
+
+-- the place of the last member
+abbrev pub last_place : Members → Option Place
+last_place [] = None
+last_place (m ∷ []) = Some (place_of m.0)
+last_place (m ∷ n ∷ ms) = last_place (n ∷ ms)
+
+-- a part of a list, and the place after which the next part begins, if there is one
+pub record Page : Type 0 where
+  pub items : Members
+  pub next : Option Place
+
+-- the first n, and where they end if there are more
+abbrev pub first_of : ℕ → Members → Page
+first_of n ms = if nat_le (length ms) n then record { items = ms; next = None } else record { items = take n ms; next = last_place (take n ms) }
+
+-- the page of a list after a place; a limit of 0 is no limit
+abbrev pub page_of : Members → ℕ → Option Place → Page
+page_of ms n p = if n == 0 then record { items = after_place p ms; next = None } else first_of n (after_place p ms)
+
+-- how many members follow that page
+abbrev pub remaining : Members → ℕ → Option Place → ℕ
+remaining ms n p = if n == 0 then 0 else length (after_place p ms) - n
+
+-- the pages of a list, from a place on, whatever the limits: each but the first is asked for by the place where the one
+-- before it ended, and the last one has no next
+abbrev pub ArePages : Members → Option Place → List Page → Type 0
+ArePages ms p [] = ⊥
+ArePages ms p (g ∷ []) = ((n : ℕ) × (g ≡ page_of ms n p)) × (g.next ≡ None)
+ArePages ms p (g ∷ h ∷ gs) = ((n : ℕ) × (g ≡ page_of ms n p)) × ((q : Place) × (g.next ≡ Some q) × ArePages ms (Some q) (h ∷ gs))
+
+-- the items of one page after those of another
+abbrev pub joined : List Page → Members
+joined gs = flat_map (λ g. g.items) gs

@@ -1,0 +1,12 @@
+-- Kinds, names and the small texts that objects carry (labels, moments, revisions, uids), and what selects objects by them.
+pub mod Kinds
+pub mod Names
+pub mod Labels
+pub mod Moments
+pub mod Revisions
+pub mod Uids
+pub mod GeneratedNames
+pub mod Selectors
+pub mod SelectorTexts
+pub mod SelectorFields
+pub mod SelectorForms

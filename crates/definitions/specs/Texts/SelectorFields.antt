@@ -1,0 +1,49 @@
+-- What a selector of fields asks for, and what its text says (Kubernetes, Field Selectors).
+use Rattle.std.specs.Prelude.{ℕ, ◌&&◌, List, [], ◌∷◌, Bool, true, false, not, codes, if◌then◌else◌, Option, None, Some, option_map}
+use Rattle.std.specs.List.{list_all, list_any, slice_split}
+use Rattle.std.specs.Str.{bytes_eq}
+use Rattle.definitions.specs.declared.selectors.Operator.{Operator}
+use Rattle.definitions.specs.declared.selectors.Operator.TheVariants.{In, NotIn, Exists, DoesNotExist}
+use Rattle.definitions.specs.declared.selectors.SelectableField.{SelectableField}
+use Rattle.definitions.specs.declared.selectors.SelectableField.TheVariants.{Name, Namespace}
+use Rattle.definitions.specs.Texts.SelectorTexts.{Comparison, comparison, is_blank, is_comma, is_equals}
+use Rattle.definitions.specs.Texts.Selectors.{each_read, only_if}
+
+pub record FieldRequirement : Type 0 where
+  pub field : SelectableField
+  pub wanted : Bool
+  pub value : List ℕ
+
+abbrev pub field_named : List ℕ → Option SelectableField
+field_named t = if bytes_eq t (codes "metadata.name") then Some Name else only_if (bytes_eq t (codes "metadata.namespace")) Namespace
+
+abbrev pub is_wanted : Operator → Bool
+is_wanted In = true
+is_wanted NotIn = false
+is_wanted Exists = false
+is_wanted DoesNotExist = false
+
+abbrev pub has_blank : List ℕ → Bool
+has_blank t = list_any is_blank t
+
+abbrev pub field_compared : Comparison → Option FieldRequirement
+field_compared c = option_map (λ (f : SelectableField). record { field = f; wanted = is_wanted c.operator; value = c.right }) (field_named c.left)
+
+-- a field, `=`, `==` or `!=`, and a value, with no blank in it
+abbrev pub field_requirement : List ℕ → Option FieldRequirement
+field_requirement t = if list_any is_equals t && not (has_blank t) then field_compared (comparison t) else None
+
+-- what a field selector's text says; the empty text says nothing
+abbrev pub said_of_fields : List ℕ → Option (List FieldRequirement)
+said_of_fields [] = Some []
+said_of_fields (b ∷ t) = each_read field_requirement (slice_split is_comma (b ∷ t))
+
+abbrev pub field_of : SelectableField → List ℕ → List ℕ → List ℕ
+field_of Name name namespace = name
+field_of Namespace name namespace = namespace
+
+abbrev pub field_meets : FieldRequirement → List ℕ → List ℕ → Bool
+field_meets r name namespace = let same = bytes_eq r.value (field_of r.field name namespace) in if r.wanted then same else not same
+
+abbrev pub fields_meet : List FieldRequirement → List ℕ → List ℕ → Bool
+fields_meet rs name namespace = list_all (λ r. field_meets r name namespace) rs

@@ -1,0 +1,68 @@
+-- The streams of a watch: changes in order with bookmarks between, and before them, if asked for, the list.
+use Rattle.std.specs.Prelude.{◌≡◌, ◌≤◌, ◌<◌, ℕ, List, [], ◌∷◌, ◌++◌, map, flat_map, Some, true, false}
+use Rattle.serde_json.specs.Data.{Data}
+use Rattle.definitions.specs.declared.kinds.Kind.{Kind}
+use Rattle.definitions.specs.declared.frames.FrameKind.TheVariants.{Added}
+use Rattle.definitions.specs.Texts.Names.{Name}
+use Rattle.definitions.specs.State.History.{History, View, Members, list, put_or_remove}
+use Rattle.definitions.specs.Watching.Frames.{Event, frame_kind, frame_text, bookmark_event}
+use Rattle.definitions.specs.State.Changes.{Change, changes, play_one}
+
+-- a line of a stream: a change, a bookmark, an object that was there at the beginning, or the bookmark after the last of these
+pub data Line : Type 0 where
+  change : Change → Line
+  bookmark : ℕ → Line
+  initial : Name → Data → Line
+  initial_end : ℕ → Line
+
+-- the event that shows a change
+abbrev pub change_event : Change → Event
+change_event c = record { kind = frame_kind c.kind; object = c.object }
+
+-- the event that a line of a watch of a kind shows
+abbrev pub event_of : Kind → Line → Event
+event_of k (change c) = change_event c
+event_of k (bookmark r) = bookmark_event k false r
+event_of k (initial n d) = record { kind = Added; object = d }
+event_of k (initial_end r) = bookmark_event k true r
+
+-- the bytes of lines
+abbrev pub text_of : Kind → List Line → List ℕ
+text_of k ls = flat_map (λ l. frame_text (event_of k l)) ls
+
+-- from where the stream stands, these changes in order, with bookmarks between: the revision of a bookmark is at least that
+-- of each line before it, below that of each change after it, and at most b (Kubernetes API Concepts, Watch bookmarks)
+abbrev pub Goes : ℕ → ℕ → List Change → List Line → Type 0
+Goes at b [] [] = Unit {0}
+Goes at b (c ∷ cs) [] = ⊥
+Goes at b [] (change d ∷ ls) = ⊥
+Goes at b (c ∷ cs) (change d ∷ ls) = (d ≡ c) × Goes c.revision b cs ls
+Goes at b [] (bookmark r ∷ ls) = (at ≤ r) × (r ≤ b) × Goes r b [] ls
+Goes at b (c ∷ cs) (bookmark r ∷ ls) = (at ≤ r) × (r ≤ b) × (r < c.revision) × Goes r b (c ∷ cs) ls
+Goes at b cs (initial n d ∷ ls) = ⊥
+Goes at b cs (initial_end r ∷ ls) = ⊥
+
+-- a stream of h, v from a to b
+abbrev pub IsStream : History → View → ℕ → ℕ → List Line → Type 0
+IsStream h v a b ls = Goes a b (changes h v a b) ls
+
+-- the lines that show the list at a
+abbrev pub initial_lines : History → View → ℕ → List Line
+initial_lines h v a = map (λ m. initial m.0 m.1) (list h v a)
+
+-- the list at a, the bookmark that closes it, then a stream from a (Kubernetes API Concepts, Streaming lists)
+abbrev pub IsInitialStream : History → View → ℕ → ℕ → List Line → Type 0
+IsInitialStream h v a b ls = (more : List Line) × (ls ≡ initial_lines h v a ++ initial_end a ∷ more) × IsStream h v a b more
+
+-- ---- playing the lines
+
+abbrev pub play_line : Members → Line → Members
+play_line ms (change c) = play_one ms c
+play_line ms (bookmark r) = ms
+play_line ms (initial n d) = put_or_remove ms n (Some d)
+play_line ms (initial_end r) = ms
+
+-- lines taken in one after another
+abbrev pub play_lines : Members → List Line → Members
+play_lines ms [] = ms
+play_lines ms (l ∷ ls) = play_lines (play_line ms l) ls
