@@ -1,17 +1,12 @@
 //! Worked facts of pages, compactions, bookmarks and windows, which the checker computes from the definitions.
 ghost use Rattle.examples.specs.ServingExamples.{BookmarksAreShown, PagesGoOn, WindowsForget};
 
-/// Pages of a list, an object of which is deleted between them, until what happened is compacted.
-pub fn pages_go_on()
-    ensures { PagesGoOn }
-{}
-
-/// Watches with bookmarks, from a revision, from the present one, and from what is there.
-pub fn bookmarks_are_shown()
-    ensures { BookmarksAreShown }
-{}
-
-/// Revisions from below the floor to above the present one.
-pub fn windows_forget()
-    ensures { WindowsForget }
+/// Whole replays of pages, watches and compactions.
+pub fn lines_are_served()
+    // Pages of a list, an object of which is deleted between them, until what happened is compacted.
+    ensures pages_go_on { PagesGoOn }
+    // Watches with bookmarks, from a revision, from the present one, and from what is there.
+    ensures bookmarks_are_shown { BookmarksAreShown }
+    // Revisions from below the floor to above the present one.
+    ensures windows_forget { WindowsForget }
 {}

@@ -1,32 +1,22 @@
 //! Worked facts of creates, updates and patches.
 ghost use Rattle.examples.specs.VerbExamples.{GeneratedNamesAreTried, TakenNamesArePassedOver, NothingNewIsNotWritten, PatchesTakeOutNulls, DeploymentsAreFilledIn, GenerationsCountSpecs};
 
-/// A name is made of the revision of the write.
-pub fn generated_names_are_tried()
-    ensures { GeneratedNamesAreTried }
+/// The names that the server makes.
+pub fn names_are_generated()
+    // A name is made of the revision of the write.
+    ensures generated_names_are_tried { GeneratedNamesAreTried }
+    // A made name that is taken is passed over.
+    ensures taken_names_are_passed_over { TakenNamesArePassedOver }
 {}
 
-/// A made name that is taken is passed over.
-pub fn taken_names_are_passed_over()
-    ensures { TakenNamesArePassedOver }
-{}
-
-/// An update that says nothing new is no write, and takes no revision.
-pub fn nothing_new_is_not_written()
-    ensures { NothingNewIsNotWritten }
-{}
-
-/// A patch takes out what is null in it, and leaves what it does not name.
-pub fn patches_take_out_nulls()
-    ensures { PatchesTakeOutNulls }
-{}
-
-/// A Deployment is stored with its defaults, its first generation and its first status.
-pub fn deployments_are_filled_in()
-    ensures { DeploymentsAreFilledIn }
-{}
-
-/// A new spec is a new generation, a new status is none.
-pub fn generations_count_specs()
-    ensures { GenerationsCountSpecs }
+/// What creates, updates and patches store.
+pub fn writes_are_stored()
+    // A Deployment is stored with its defaults, its first generation and its first status.
+    ensures deployments_are_filled_in { DeploymentsAreFilledIn }
+    // An update that says nothing new is no write, and takes no revision.
+    ensures nothing_new_is_not_written { NothingNewIsNotWritten }
+    // A patch takes out what is null in it, and leaves what it does not name.
+    ensures patches_take_out_nulls { PatchesTakeOutNulls }
+    // A new spec is a new generation, a new status is none.
+    ensures generations_count_specs { GenerationsCountSpecs }
 {}

@@ -1,0 +1,7 @@
+use Rattle.std.proofs.Common.{refl}
+use Rattle.definitions.proofs.OnLiterals.{on_literals}
+use Rattle.examples.proofs.check_examples.checks_come_in_order.Goals as goal
+
+pub returns : goal.returns
+unfolding on_literals
+returns c = record { defaults_are_filled_in = (refl, refl, refl, refl, refl, refl, refl); first_faults_are_said = (refl, refl, refl, refl, refl, refl); updates_are_checked = (refl, refl, refl, refl) }

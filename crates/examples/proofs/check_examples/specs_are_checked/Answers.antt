@@ -1,0 +1,7 @@
+use Rattle.std.proofs.Common.{refl}
+use Rattle.definitions.proofs.OnLiterals.{on_literals}
+use Rattle.examples.proofs.check_examples.specs_are_checked.Goals as goal
+
+pub returns : goal.returns
+unfolding on_literals
+returns c = record { numbers_are_checked = (refl, refl, refl, refl, refl, refl, refl, refl); selectors_are_checked = (refl, refl, refl, refl, refl, refl, refl, refl); templates_are_checked = (refl, refl, refl, refl, refl); strategies_are_checked = (refl, refl, refl, refl, refl, refl, refl, refl, refl, refl); percentages_are_digits = (refl, refl) }

@@ -1,0 +1,7 @@
+use Rattle.std.proofs.Common.{refl}
+use Rattle.definitions.proofs.OnLiterals.{on_literals}
+use Rattle.examples.proofs.deletion_examples.deletes_are_answered.Goals as goal
+
+pub returns : goal.returns
+unfolding on_literals
+returns c = record { finalizers_keep_their_object = refl; deletes_are_conditional = refl; policies_are_finalizers = refl; removed_pods_are_answered = refl }

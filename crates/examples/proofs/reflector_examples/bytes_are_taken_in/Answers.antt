@@ -1,0 +1,7 @@
+use Rattle.std.proofs.Common.{refl}
+use Rattle.definitions.proofs.OnLiterals.{on_literals}
+use Rattle.examples.proofs.reflector_examples.bytes_are_taken_in.Goals as goal
+
+pub returns : goal.returns
+unfolding on_literals
+returns c = record { lists_are_taken_in = (refl, refl, refl); changes_are_taken_in = (refl, refl); parts_are_held = (refl, refl); ends_are_seen = (refl, refl, refl, refl) }

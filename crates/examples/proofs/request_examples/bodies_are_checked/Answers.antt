@@ -1,0 +1,7 @@
+use Rattle.std.proofs.Common.{refl}
+use Rattle.definitions.proofs.OnLiterals.{on_literals}
+use Rattle.examples.proofs.request_examples.bodies_are_checked.Goals as goal
+
+pub returns : goal.returns
+unfolding on_literals
+returns c = record { names_are_checked = refl; bodies_are_read = refl; members_are_typed = refl; members_are_kept = refl }

@@ -1,0 +1,7 @@
+use Rattle.std.proofs.Common.{refl}
+use Rattle.definitions.proofs.OnLiterals.{on_literals}
+use Rattle.examples.proofs.request_examples.lists_are_answered.Goals as goal
+
+pub returns : goal.returns
+unfolding on_literals
+returns c = record { empty_list = refl; lists_are_ordered = refl }

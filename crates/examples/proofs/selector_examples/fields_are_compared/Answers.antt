@@ -1,0 +1,7 @@
+use Rattle.std.proofs.Common.{refl}
+use Rattle.definitions.proofs.OnLiterals.{on_literals}
+use Rattle.examples.proofs.selector_examples.fields_are_compared.Goals as goal
+
+pub returns : goal.returns
+unfolding on_literals
+returns c = record { fields_are_read = (refl, refl, refl, refl, refl); fields_are_refused = (refl, refl, refl, refl, refl) }

@@ -1,0 +1,7 @@
+use Rattle.std.proofs.Common.{refl}
+use Rattle.definitions.proofs.OnLiterals.{on_literals}
+use Rattle.examples.proofs.verb_examples.names_are_generated.Goals as goal
+
+pub returns : goal.returns
+unfolding on_literals
+returns c = record { generated_names_are_tried = refl; taken_names_are_passed_over = refl }

@@ -1,7 +1,0 @@
-use Rattle.std.proofs.Common.{refl}
-use Rattle.definitions.proofs.OnLiterals.{on_literals}
-use Rattle.examples.proofs.watch_examples.bookmarks_are_said.Goals as goal
-
-pub returns : goal.returns
-unfolding on_literals
-returns c = (refl, refl, refl)

@@ -1,0 +1,7 @@
+use Rattle.std.proofs.Common.{refl}
+use Rattle.definitions.proofs.OnLiterals.{on_literals}
+use Rattle.examples.proofs.watch_examples.changes_are_seen.Goals as goal
+
+pub returns : goal.returns
+unfolding on_literals
+returns c = record { writes_are_seen = refl; views_are_kept = (refl, refl); watches_begin = (refl, refl); selections_are_left = refl; watches_are_replayed = refl }
