@@ -6,9 +6,9 @@
 pub mod deltas;
 pub mod faults;
 pub(crate) mod frames;
-pub mod laws;
 pub(crate) mod lists;
 pub(crate) mod pieces;
+pub mod reflector_laws;
 pub mod reflectors;
 pub(crate) mod shown;
 #[cfg(test)]

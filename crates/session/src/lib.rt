@@ -4,8 +4,8 @@
 pub mod asked;
 pub mod asking;
 mod bookmarks;
-pub mod laws;
 mod lines;
+pub mod session_laws;
 pub mod sessions;
 
 pub use asked::Asked;
