@@ -120,11 +120,11 @@ def check():
     changed = [name for name in with_pieces if name in tried and name not in standing]
     never = [name for name in with_pieces if name not in tried]
     count = sum(len(pieces(name)) for name in standing)
-    print(f"wrong code: {count} pieces of {len(standing)} crates were refused as they stand")
+    print(f"negative tests outside the gate: {count} of {len(standing)} crates were refused, and what they rest on stands")
     if changed:
-        print(f"wrong code not tried again since it changed: {', '.join(changed)}")
+        print(f"not tried again since it changed: {', '.join(changed)}")
     if never:
-        print(f"wrong code never tried: {', '.join(never)}")
+        print(f"never tried: {', '.join(never)}")
     for line in stale:
         print(line)
     return not stale
@@ -152,8 +152,8 @@ def try_crate(name, known):
         copy_to(top, name, known)
         hashed = hash_of(name, known, top)
         names = sorted(piece.name for piece in (top / "crates" / name / "wrong-code").glob("*.edit"))
-        how = {"stdin": subprocess.DEVNULL, "stdout": subprocess.PIPE, "stderr": subprocess.STDOUT, "text": True, "errors": "replace"}
-        ran = subprocess.run(["rt", "must-fail", name], cwd=top, **how)
+        how = {"stdin": subprocess.DEVNULL, "stdout": subprocess.PIPE, "stderr": subprocess.STDOUT, "encoding": "utf-8"}
+        ran = subprocess.run(["rt", "must-fail", name], cwd=top, errors="replace", **how)
     said = dict(re.findall(rf"(?m)^rt: must-fail {re.escape(name)}/(\S+\.edit): (.*)", ran.stdout))
     refused = [piece for piece in names if said.get(piece, "").startswith("refused")]
     lines = [f"{name}: {len(refused)} of {len(names)} pieces refused, in {time.monotonic() - began:.0f} s"]
