@@ -65,9 +65,9 @@ def commit():
     return ran.stdout.strip()
 
 
-def figures_of(proved, conforms, seen, used):
+def figures_of(proved, conforms, looking, used):
     """Returns the figures of a run, as figures.py shows them."""
-    crates = {}
+    seen, crates = looking.end(), {}
     for name, libraries in wrong_code.libraries().items():
         of_crate = {"lines": lines_of(name), "uses": libraries, "pieces": len(wrong_code.pieces(name, "must-fail"))}
         of_crate["others"] = len(wrong_code.pieces(name))
@@ -114,9 +114,10 @@ def main():
         looking, before = sampler.Sampler(), used_by_children()
         looking.start()
         proved = Run(["rt", "ci"], log)
-        used, seen = used_by_children() - before, looking.end()
+        looking.is_ended.set()
+        used = used_by_children() - before
         conforms = Run([sys.executable, "-B", "conformance/run.py"], log)
-    show(room, proved, conforms, seen, used)
+    show(room, proved, conforms, looking, used)
     print(f"kept: {room}/output.txt, {room}/figures.json\n")
     print("\n".join(line for _, line in applies.lines))
     counts = [applies.counts(), proved.counts(), conforms.counts()]
