@@ -1,0 +1,106 @@
+"""Shows what a run of the gate took, as tables, and writes them into docs/GATE.md.
+
+    figures.py FILE            prints the tables of a figures.json that .ci/gate.py has kept
+    figures.py --write FILE    puts them into docs/GATE.md, between its two marker lines
+"""
+import argparse
+import functools
+import json
+import pathlib
+
+GUIDE = pathlib.Path(__file__).resolve().parent.parent / "docs" / "GATE.md"
+BEGIN, END = "<!-- figures begin -->\n", "<!-- figures end -->\n"
+KINDS = ("proofs", "tests", "negative tests", "programs")
+
+
+def table(head, rows):
+    """Returns the lines of a table, its columns as wide as their widest text, the first to the left and the others to the right."""
+    cells = [[f"{it:,.0f}" if isinstance(it, (int, float)) else str(it) for it in row] for row in [head, *rows]]
+    widths = [max(3, *(len(row[at]) for row in cells)) for at in range(len(head))]
+    lines = []
+    for row in cells:
+        padded = [text.ljust(width) if at == 0 else text.rjust(width) for at, (text, width) in enumerate(zip(row, widths))]
+        lines.append(f"| {' | '.join(padded)} |")
+    rule = ["-" * widths[0], *("-" * (width - 1) + ":" for width in widths[1:])]
+    return [lines[0], f"| {' | '.join(rule)} |", *lines[1:]]
+
+
+def longest_chain(crates):
+    """Returns the crates, each standing on the one before it, whose proofs take the most processor time together."""
+
+    def seconds(chain):
+        return sum(crates[name]["proofs"] for name in chain)
+
+    @functools.cache
+    def chain_to(name):
+        return (*max((chain_to(it) for it in crates[name]["uses"] if it in crates), key=seconds, default=()), name)
+
+    return max((chain_to(name) for name in crates), key=seconds, default=())
+
+
+def whole_table(of):
+    """Returns the lines of the table of kinds of work."""
+    rows = []
+    for kind in KINDS:
+        span, seconds = of["spans"][kind], sum(it[kind] for it in of["crates"].values())
+        rows.append([kind, *(span or ("", "")), seconds])
+    proved = max((span[1] for span in of["spans"].values() if span), default=0)
+    rows.append(["programs and tests run", proved, of["seconds"]["rt ci"], ""])
+    rows.append(["all of `rt ci`", 0, of["seconds"]["rt ci"], of["used"]])
+    rows.append(["conformance, after that", 0, of["seconds"]["conformance"], ""])
+    return table(["Work", "From second", "To second", "Processor seconds"], rows)
+
+
+def crates_table(of):
+    """Returns the lines of the table of crates, the dearest first."""
+
+    def row(name, crate):
+        work = [crate[kind] for kind in KINDS[:3]]
+        proved = "" if crate["proved"] is None else crate["proved"]
+        return [name, crate["lines"], *work, crate["pieces"], crate["others"], proved]
+
+    crates = sorted(of["crates"].items(), key=lambda it: -sum(it[1][kind] for kind in KINDS))
+    rows = [row(f"`{name}`", crate) for name, crate in crates]
+    sums = [sum(crate[part] for _, crate in crates) for part in ("lines", *KINDS[:3], "pieces", "others")]
+    rows.append(["all", *sums, ""])
+    return table(["Crate", "Lines", "Proof", "Tests", "Negative tests", "Tried", "Not tried", "Proved at second"], rows)
+
+
+def text_of(of):
+    """Returns the figures of a run as text."""
+    chain = longest_chain(of["crates"])
+    steps = ", ".join(f"`{name}` {of['crates'][name]['proofs']:,.0f}" for name in chain)
+    counts = ", ".join(f"{what} {passed} passed, {failed} failed" for what, (passed, failed) in of["passed"].items())
+    whole = sum(of["seconds"].values())
+    lines = [
+        f"Commit {of['commit']}: {counts}. {whole:,.0f} seconds ({whole / 60:,.0f} minutes) on {of['processors']} processors.",
+        "",
+        *whole_table(of),
+        "",
+        "Processor seconds, crate by crate:",
+        "",
+        *crates_table(of),
+        "",
+        f"The longest chain of proofs takes {sum(of['crates'][name]['proofs'] for name in chain):,.0f} processor seconds: {steps}.",
+    ]
+    return "\n".join(lines)
+
+
+def main():
+    parser = argparse.ArgumentParser(description=__doc__.splitlines()[0])
+    parser.add_argument("--write", action="store_true", help="put the tables into docs/GATE.md")
+    parser.add_argument("file", metavar="FILE", help="a figures.json that .ci/gate.py has kept")
+    asked = parser.parse_args()
+    text = text_of(json.loads(pathlib.Path(asked.file).read_text()))
+    if not asked.write:
+        print(text)
+        return
+    before, _, rest = GUIDE.read_text(encoding="utf-8").partition(BEGIN)
+    _, marker, after = rest.partition(END)
+    if not marker:
+        raise SystemExit(f"{GUIDE} lacks the lines {BEGIN.strip()} and {END.strip()}")
+    GUIDE.write_text(f"{before}{BEGIN}\n{text}\n\n{END}{after}", encoding="utf-8")
+
+
+if __name__ == "__main__":
+    main()

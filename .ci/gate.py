@@ -1,0 +1,131 @@
+"""Runs the gate: whether the negative tests still apply, `rt ci`, and the conformance cases, one after another, whatever the others say.
+
+It shows what they print, and ends with tables of what took how long, what the first of them named, and a line 'N passed, M failed'.
+What was printed, with the second of each line, and the figures are kept in a temporary folder, whose name it says; it writes
+nothing into the repository. The status is 0 only where all three passed.
+"""
+import json
+import os
+import pathlib
+import re
+import resource
+import subprocess
+import sys
+import tempfile
+import time
+
+sys.dont_write_bytecode = True
+ROOT = pathlib.Path(__file__).resolve().parent.parent
+sys.path[:0] = [str(ROOT / ".ci"), str(ROOT / "conformance")]
+import figures
+import sampler
+import wrong_code
+
+
+class Run:
+    """A command, what it printed, and the second at which each line came."""
+
+    def __init__(self, words, log):
+        began, self.lines, self.status = time.monotonic(), [], 127
+        print(f"$ {' '.join(words)}", flush=True)
+        how = {"stdin": subprocess.DEVNULL, "stdout": subprocess.PIPE, "stderr": subprocess.STDOUT, "encoding": "utf-8"}
+        try:
+            started = subprocess.Popen(words, cwd=ROOT, errors="replace", **how)
+            for line in started.stdout:
+                second = time.monotonic() - began
+                print(line, end="", flush=True)
+                print(f"{second:7.0f}  {line}", end="", file=log, flush=True)
+                self.lines.append((second, line.rstrip("\n")))
+            self.status = started.wait()
+        except OSError as error:
+            print(f"{words[0]}: {error}", flush=True)
+        self.seconds = time.monotonic() - began
+
+    def counts(self):
+        """Returns how many passed and failed by the last line that says so; where the command failed, at least one."""
+        found = [it for it in (re.fullmatch(r"(\d+) passed, (\d+) failed", line) for _, line in self.lines) if it]
+        passed, failed = (int(found[-1][1]), int(found[-1][2])) if found else (0, 0)
+        return passed, max(failed, 1) if self.status else failed
+
+    def second_of(self, text):
+        """Returns the second at which a line came, or None."""
+        return next((second for second, line in self.lines if line == text), None)
+
+
+def lines_of(name):
+    """Returns how many lines a crate has, of code, contracts and proofs."""
+    folder = ROOT / "crates" / name
+    files = [file for part in ("src", "specs", "proofs") for file in (folder / part).rglob("*") if file.suffix in (".rt", ".antt")]
+    return sum(file.read_bytes().count(b"\n") for file in files)
+
+
+def commit():
+    """Returns the name of the commit that is checked out, if git knows it."""
+    ran = subprocess.run(["git", "rev-parse", "--short", "HEAD"], cwd=ROOT, capture_output=True, text=True, stdin=subprocess.DEVNULL)
+    return ran.stdout.strip()
+
+
+def figures_of(proved, conforms, looking, used):
+    """Returns the figures of a run, as figures.py shows them."""
+    seen, crates = looking.end(), {}
+    for name, libraries in wrong_code.libraries().items():
+        of_crate = {"lines": lines_of(name), "uses": libraries, "pieces": len(wrong_code.pieces(name, "must-fail"))}
+        of_crate["others"] = len(wrong_code.pieces(name))
+        of_crate["proved"] = proved.second_of(f"rt: {name} proved")
+        for kind in figures.KINDS:
+            of_crate[kind] = sum(it["seconds"] for it in seen if it["crate"] == name and it["kind"] == kind)
+        crates[name] = of_crate
+    spans = {}
+    for kind in figures.KINDS:
+        runs = [it for it in seen if it["kind"] == kind]
+        spans[kind] = [min(it["first"] for it in runs), max(it["last"] for it in runs)] if runs else None
+    return {
+        "commit": commit(),
+        "processors": len(os.sched_getaffinity(0)),
+        "seconds": {"rt ci": proved.seconds, "conformance": conforms.seconds},
+        "passed": {"rt ci": proved.counts(), "conformance": conforms.counts()},
+        "used": used,
+        "spans": spans,
+        "crates": crates,
+    }
+
+
+def used_by_children():
+    """Returns the processor seconds of all processes that have ended below this one."""
+    used = resource.getrusage(resource.RUSAGE_CHILDREN)
+    return used.ru_utime + used.ru_stime
+
+
+def show(room, *what):
+    """Keeps the figures, and prints them. Where that fails, it says so, and the gate goes on."""
+    try:
+        found = figures_of(*what)
+        (room / "figures.json").write_text(json.dumps(found, indent=1))
+        print(f"\n{figures.text_of(found)}")
+    except Exception as error:
+        print(f"no figures: {error!r}")
+
+
+def main():
+    sys.stdout.reconfigure(encoding="utf-8", errors="replace")
+    room = pathlib.Path(tempfile.mkdtemp(prefix="kcp-gate-"))
+    with open(room / "output.txt", "w", encoding="utf-8") as log:
+        applies = Run([sys.executable, "-B", "conformance/wrong_code.py", "--check"], log)
+        looking, before = sampler.Sampler(), used_by_children()
+        looking.start()
+        proved = Run(["rt", "ci"], log)
+        looking.is_ended.set()
+        used = used_by_children() - before
+        conforms = Run([sys.executable, "-B", "conformance/run.py"], log)
+    show(room, proved, conforms, looking, used)
+    print(f"kept: {room}/output.txt, {room}/figures.json\n")
+    print("\n".join(line for _, line in applies.lines))
+    counts = [applies.counts(), proved.counts(), conforms.counts()]
+    for run, (passed, failed) in zip(("negative tests apply", "rt ci", "conformance"), counts):
+        print(f"{run}: {'ok' if not failed else 'FAILED'}")
+    print(f"{sum(it[0] for it in counts)} passed, {sum(it[1] for it in counts)} failed", flush=True)
+    sys.exit(1 if any(run.status for run in (applies, proved, conforms)) else 0)
+
+
+if __name__ == "__main__":
+    main()
