@@ -19,8 +19,8 @@ HEAD = """# Definitions
 What a reader has to believe: the words by which contracts speak, and the laws that follow. `docs/definitions.py` makes this page
 of the comments of the files.
 
-The words are in `crates/definitions/specs`, in folders in reading order, and with each file those that other definitions or laws
-use. Texts are lists of bytes, and numbers are natural, unless a definition says otherwise.
+The words are in `crates/definitions/specs`, in reading order; a row has those that other definitions or laws use. Texts are lists
+of bytes, and numbers are natural, unless a definition says otherwise.
 """
 
 LAWS_HEAD = """
@@ -36,11 +36,11 @@ def text_of(path):
 
 
 def comment_of(path):
-    """The first comment line of a file, without the standard that it names."""
+    """The first comment line of a file, without the standards that it names in parentheses."""
     first = text_of(path).split("\n", 1)[0]
     if not first.startswith("-- "):
         sys.exit(f"{path}: no comment stands at its head")
-    return re.sub(r" \([^()]*\)\.$", ".", first.removeprefix("-- "))
+    return re.sub(r" \([^()]*[A-Z][^()]*\)", "", first.removeprefix("-- "))
 
 
 def modules_of(path):

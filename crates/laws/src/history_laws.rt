@@ -46,12 +46,12 @@ pub fn named_versions_are_replaced()
     ensures { NamedVersionsAreReplaced }
 {}
 
-/// Whatever is written in the place of an object leaves its identity as it is.
+/// Whatever is written in the place of an object leaves its uid and its time of creation as they are.
 pub fn writes_keep_identity()
     ensures { WritesKeepIdentity }
 {}
 
-/// No object that is stored is longer than an object may be.
+/// No object that is stored is longer than an object may be, but for what a delete adds to it.
 pub fn writes_fit()
     ensures { WritesFit }
 {}

@@ -21,7 +21,7 @@ pub fn each_must_hold()
     ensures { EachMustHold }
 {}
 
-/// A text and a value that say the same requirements, in whatever order, match the same labels.
+/// A text and a value that say the same requirements, in whatever order and however often, match the same labels.
 pub fn order_is_no_matter()
     ensures { OrderIsNoMatter }
 {}

@@ -247,6 +247,7 @@ delete k o ms r moment = or_absent k (λ held. by_decision k (kept_code o.policy
 
 -- ---- the verbs
 
+-- what a request is answered and writes, over what is there
 abbrev pub accept_at : Request → history.Members → ℕ → List ℕ → Outcome
 accept_at (get_object k) ms r moment = or_absent k shown (found k ms)
 accept_at (list_objects v) ms r moment = listed v ms r

@@ -27,5 +27,6 @@ if_written text t = if bytes_eq text (token_text t) && is_utf8 t.name && is_utf8
 abbrev pub decoded : List ℕ → Option (List ℕ)
 decoded text = result_ok (decode_of url_safe_no_pad text)
 
+-- the token that a text is
 abbrev pub token_of : List ℕ → Option Token
 token_of text = option_and_then (if_written text) (option_and_then token_said (option_and_then data_of (decoded text)))

@@ -21,6 +21,7 @@ pub data Entry : Type 0 where
   write : Write → Entry
   compaction : ℕ → Entry
 
+-- all that has happened, in order
 abbrev pub History : Type 0
 History = List Entry
 

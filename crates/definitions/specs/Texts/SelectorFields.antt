@@ -9,6 +9,7 @@ use Rattle.definitions.specs.declared.selectors.SelectableField.TheVariants.{Nam
 use Rattle.definitions.specs.Texts.SelectorTexts.{Comparison, comparison, is_blank, is_comma, is_equals}
 use Rattle.definitions.specs.Texts.Selectors.{each_read, only_if}
 
+-- one requirement of a field
 pub record FieldRequirement : Type 0 where
   pub field : SelectableField
   pub wanted : Bool

@@ -7,6 +7,7 @@ use Rattle.definitions.specs.declared.selectors.Operator.{Operator}
 use Rattle.definitions.specs.declared.selectors.Operator.TheVariants.{In, NotIn, Exists, DoesNotExist}
 use Rattle.definitions.specs.Texts.Labels.{is_label_key, is_label_value, label_at}
 
+-- one requirement: a key, and by which operator which values are asked of it
 pub record Requirement : Type 0 where
   pub key : List ℕ
   pub operator : Operator

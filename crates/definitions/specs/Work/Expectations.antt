@@ -24,6 +24,7 @@ pub record Expectation : Type 0 where
   pub deletions : Uids
   pub since : ℕ
 
+-- what is expected, by ReplicaSet
 abbrev pub Table : Type 0
 Table = map.FinMap owner_cmp Expectation
 
