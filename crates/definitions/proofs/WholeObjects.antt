@@ -8,13 +8,14 @@ use Rattle.definitions.specs.declared.refusals.Part.{Part}
 use Rattle.definitions.specs.declared.schemas.Schema.TheVariants.{Root, Metadata}
 use Rattle.definitions.specs.Defaults.{defaulted, deployment_defaults, replica_set_defaults, strategy_defaults, whole, with_found}
 use Rattle.definitions.specs.Metadata.{metadata_of, at_revision}
-use Rattle.definitions.specs.NewObjects.{first_status, with_status}
+use Rattle.definitions.specs.NewObjects.{first_status, with_first_status, with_status}
 use Rattle.definitions.specs.Reading.{empty, reading}
 use Rattle.definitions.specs.Replacements.{as_held, in_place, keeping, kept, kept_of, said_status, with_said_status}
 use Rattle.definitions.specs.Values.{members_of, inner_of, without, with_default, with_member, is_null, found_or_null, merged, merged_members}
 use Rattle.definitions.specs.Verbs.{said, with_defaults}
 use Rattle.definitions.proofs.DefaultsRead.{defaults_read}
-use Rattle.definitions.proofs.JsonMembers.{get_member-without_other}
+use Rattle.serde_json.proofs.Views.{get_member-put_other}
+use Rattle.definitions.proofs.JsonMembers.{apart, get_member-without_other}
 use Rattle.definitions.proofs.JsonOrder.{IsOrdered, IsOrdered-put, IsOrdered-without, IsOrdered-tidied, IsOrdered-filled}
 use Rattle.definitions.proofs.NeatMembers.{One, Neat, Neat-good, Neat-get, Neat-keeping, Neat-metadata, Neat-put, Neat-without, Neat-whole, Filled-put, IsFilled, Opened, one_metadata, one_text, opens}
 use Rattle.definitions.proofs.NestedOrder.{AreOrdered, AreOrdered-put, AreOrdered-without, AreOrdered-get, AreOrdered-tidied, AreOrdered-filled, HasOrders, ordered_found_or_null}
@@ -88,6 +89,18 @@ get-members_of q (number n) = refl
 get-members_of q (string s) = refl
 get-members_of q (array ds) = refl
 get-members_of q (object ms) = refl
+
+-- ---- an object with its first status
+
+pub get-status : (q : List ℕ) (s : Option Data) (ms : Members) → bytes_eq q (codes "status") ≡ false → get_member q (with_status s ms) ≡ get_member q ms
+get-status q None ms other = refl
+get-status q (Some s) ms other = get_member-put_other q (codes "status") s ms (apart q (codes "status") other)
+
+pub get-first : (q : List ℕ) (k : Kind) (d : Data) → bytes_eq q (codes "status") ≡ false → get q (with_first_status k d) ≡ get q d
+get-first q k d other = get-status q (first_status k) (members_of d) other ∙ sym (get-members_of q d)
+
+pub metadata_of-first : (k : Kind) (d : Data) → metadata_of (with_first_status k d) ≡ metadata_of d
+metadata_of-first k d = ap inner_of (get-first (codes "metadata") k d refl)
 
 ordered_status : (d : Data) (ms : Members) → get_member (codes "status") ms ≡ Some d → AreOrdered ms → IsOrdered (members_of d)
 ordered_status d ms is a = subst (λ o. IsOrdered (inner_of o)) is (AreOrdered-get (codes "status") ms a)

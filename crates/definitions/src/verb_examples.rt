@@ -1,5 +1,5 @@
 //! Worked facts of creates, updates and patches.
-ghost use Rattle.definitions.specs.VerbExamples.{GeneratedNamesAreTried, TakenNamesArePassedOver, NothingNewIsNotWritten, PatchesTakeOutNulls, DeploymentsAreFilledIn, GenerationsCountSpecs};
+ghost use Rattle.definitions.specs.VerbExamples.{GeneratedNamesAreTried, TakenNamesArePassedOver, NothingNewIsNotWritten, PatchesTakeOutNulls, DeploymentsAreFilledIn, GenerationsCountSpecs, ConfigMapsHaveNoStatus};
 
 /// A name is made of the revision of the write.
 pub fn generated_names_are_tried()
@@ -29,4 +29,9 @@ pub fn deployments_are_filled_in()
 /// A new spec is a new generation, a new status is none.
 pub fn generations_count_specs()
     ensures { GenerationsCountSpecs }
+{}
+
+/// A ConfigMap has no status to be replaced: it is not found, and nothing is written.
+pub fn config_maps_have_no_status()
+    ensures { ConfigMapsHaveNoStatus }
 {}
