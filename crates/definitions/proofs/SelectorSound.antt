@@ -12,7 +12,7 @@ use Rattle.definitions.specs.declared.selectors.Operator.TheVariants.{In, NotIn,
 use Rattle.definitions.specs.Labels.{is_label_key, is_label_value}
 use Rattle.definitions.specs.SelectorForms.{is_sound}
 use Rattle.definitions.specs.SelectorTexts.{is_blank, is_comma, is_equals, is_opening, trimmed, without_equals, parts, before_last, compared, comparison, compared_requirement, set_operator, value_in, listed_values, set_requirement, in_requirement, plain_requirement, unblanked_requirement, requirement, said_by_text}
-use Rattle.definitions.specs.SelectorValues.{Flaw, mistyped, selector_shape, said_by_members, text_in, items_in, label_requirements, operator_named, item_values, fitting, operated, expression_requirement, expression_requirements, both, or_unfit, said_by_value}
+use Rattle.definitions.specs.SelectorValues.{Flaw, mistyped, selector_shape, requirements_in, text_in, items_in, label_requirements, operator_named, item_values, fitting, operated, expression_requirement, expression_requirements, both, or_unfit, said_by_value}
 use Rattle.definitions.specs.Values.{inner_of}
 use Rattle.definitions.specs.Selectors.{Requirement, label_key, label_value, each_read, only_if, put_first, requiring}
 use Rattle.definitions.proofs.SelectorPlain.{and-true}
@@ -202,7 +202,7 @@ unfit-or : (rs : Option (List Requirement)) → AreSoundOr rs → AreSoundOk (or
 unfit-or None h = tt
 unfit-or (Some rs) h = h
 
-members-ok : (d : Data) → AreSoundOk (said_by_members d)
+members-ok : (d : Data) → AreSoundOk (or_unfit (requirements_in d))
 members-ok d =
     let pairs = label_requirements (inner_of (get (codes "matchLabels") d)) in
     let others = expression_requirements (items_in (get (codes "matchExpressions") d)) in
@@ -211,7 +211,7 @@ members-ok d =
 value-ok : (d : Data) → AreSoundOk (said_by_value d)
 value-ok d = by (has_float d || not (fits selector_shape d))
   where
-    by : (b : Bool) → AreSoundOk (if b then Err mistyped else said_by_members (tidied selector_shape d))
+    by : (b : Bool) → AreSoundOk (if b then Err mistyped else or_unfit (requirements_in (tidied selector_shape d)))
     by true = tt
     by false = members-ok (tidied selector_shape d)
 

@@ -96,10 +96,10 @@ or_unfit (Some rs) = Ok rs
 abbrev pub selector_shape : Shape
 selector_shape = Object Selector
 
--- what a value without null members says; an empty object says nothing
-abbrev pub said_by_members : Data → Result (List Requirement) Flaw
-said_by_members d = or_unfit (both (label_requirements (inner_of (get (codes "matchLabels") d))) (expression_requirements (items_in (get (codes "matchExpressions") d))))
+-- the requirements of a value without null members; an empty object has none
+abbrev pub requirements_in : Data → Option (List Requirement)
+requirements_in d = both (label_requirements (inner_of (get (codes "matchLabels") d))) (expression_requirements (items_in (get (codes "matchExpressions") d)))
 
 -- a value is read as an object is: each number is whole, the known members have their types, and what is null counts as absent
 abbrev pub said_by_value : Data → Result (List Requirement) Flaw
-said_by_value d = if has_float d || not (fits selector_shape d) then Err mistyped else said_by_members (tidied selector_shape d)
+said_by_value d = if has_float d || not (fits selector_shape d) then Err mistyped else or_unfit (requirements_in (tidied selector_shape d))
