@@ -151,8 +151,8 @@ fn created(
     requires { before ≤ greatest_revision }
     ensures { IfOk result (λ o. o.value
         ≡ metadata.at_revision (before + 1)
-            (new_metadata key.now.kind (before + 1) (string_bytes key.now.namespace) (string_bytes key.now.name) moment (metadata.metadata_of object.value))
-            object.value) }
+        (new_metadata key.now.kind (before + 1) (string_bytes key.now.namespace) (string_bytes key.now.name) moment (metadata.metadata_of object.value))
+        object.value) }
 {
     let digits = (before + 1).to_string(alloc)?;
     let mut draft = object.open(alloc)?;
