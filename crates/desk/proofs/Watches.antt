@@ -53,11 +53,11 @@ few-changes v (k ∷ ks) =
 
 few-above : (a : ℕ) (ks : List Kept) → length (above a ks) ≤ length ks
 few-above a [] = omega arith
-few-above a (k ∷ ks) = by (nat_lt a k.revision)
+few-above a (k ∷ ks) = by (nat_lt a k.revision) (few-above a ks)
   where
-    by : (b : Bool) → length (cond b (k ∷ above a ks) (above a ks)) ≤ suc (length ks)
-    by true = omega (arith, few-above a ks)
-    by false = omega (arith, few-above a ks)
+    by : (b : Bool) → length (above a ks) ≤ length ks → length (cond b (k ∷ above a ks) (above a ks)) ≤ suc (length ks)
+    by true h = omega (arith, h)
+    by false h = omega (arith, h)
 
 -- where two numbers are the same or no fewer than are kept, they ask for the same changes
 pub since-all : (w : Window) (now : ℕ) (v : View) (a m n : ℕ) → (m ≡ n) ⊎ ((length w.kept ≤ m) × (length w.kept ≤ n)) → since_kept w now v a m ≡ since_kept w now v a n
