@@ -11,7 +11,7 @@ use Rattle.definitions.specs.Metadata.{is_other}
 use Rattle.definitions.specs.Names.{Name}
 use Rattle.definitions.specs.Refusals.{invalid}
 use Rattle.definitions.specs.Verbs.{Outcome, refused, refuse_field, create_read, create_checked, create_as, new_name}
-use Rattle.definitions.specs.NewObjects.{created}
+use Rattle.definitions.specs.NewObjects.{created, with_first_status}
 use Rattle.meta.specs.declared.faults.Fault.{Fault}
 use Rattle.meta.specs.declared.faults.Fault.TheVariants as fault
 use Rattle.meta.specs.declared.writes.Write.{Write}
@@ -29,7 +29,7 @@ at_key kind ns o ms r moment k result placed key serves = rw placed (subst (λ n
 
 -- where no field is at fault it is created
 pub create-placed : (kind : Kind) (ns : List ℕ) (o : Data) (ms : history.Members) (r : ℕ) (moment : List ℕ) (k : Name) (d : Data) (result : Served)
-    → (is_other (metadata.namespace o) ns || is_some (metadata.version o)) ≡ false → k ≡ new_name kind ns o ms r → create_fault k.kind k.name r o ≡ None
+    → (is_other (metadata.namespace o) ns || is_some (metadata.version o)) ≡ false → k ≡ new_name kind ns o ms r → create_fault k.kind k.name r (with_first_status k.kind o) ≡ None
     → d ≡ created k.kind (r + 1) k.namespace k.name moment o → Serves (create_as k d ms r) result → Serves (create_read kind ns (Ok o) ms r moment) result
 create-placed kind ns o ms r moment k d result placed key valid made serves =
     at_key kind ns o ms r moment k result placed key (rw valid (subst (λ e. Serves (create_as k e ms r) result) made serves))
@@ -42,6 +42,6 @@ refused-field k found next e h = absurd h
 -- the fault that is found refuses it
 pub create-refused : (kind : Kind) (ns : List ℕ) (o : Data) (ms : history.Members) (r : ℕ) (moment : List ℕ) (k : Name) (e : Fault)
     → (is_other (metadata.namespace o) ns || is_some (metadata.version o)) ≡ false → k ≡ new_name kind ns o ms r
-    → RefusesField k (create_fault k.kind k.name r o) e → Serves (create_read kind ns (Ok o) ms r moment) (Err e)
+    → RefusesField k (create_fault k.kind k.name r (with_first_status k.kind o)) e → Serves (create_read kind ns (Ok o) ms r moment) (Err e)
 create-refused kind ns o ms r moment k e placed key why =
-    at_key kind ns o ms r moment k (Err e) placed key (refused-field k (create_fault k.kind k.name r o) (create_as k (created k.kind (r + 1) k.namespace k.name moment o) ms r) e why)
+    at_key kind ns o ms r moment k (Err e) placed key (refused-field k (create_fault k.kind k.name r (with_first_status k.kind o)) (create_as k (created k.kind (r + 1) k.namespace k.name moment o) ms r) e why)

@@ -3,7 +3,7 @@ ghost use Rattle.std.specs.Prelude.{◌≡◌, ◌<◌, ◌≤◌, ◌||◌, ◌
 ghost use Rattle.definitions.specs.Metadata as metadata;
 ghost use Rattle.definitions.specs.Metadata.{is_other};
 ghost use Rattle.definitions.specs.Verbs.{accept_at, create_object, create_as, create_read, new_name, is_too_large};
-ghost use Rattle.definitions.specs.NewObjects.{created, first_status, new_metadata, with_generation, with_status};
+ghost use Rattle.definitions.specs.NewObjects.{new_metadata, with_first_status, with_generation};
 ghost use Rattle.definitions.specs.Revisions.{greatest_revision};
 ghost use Rattle.definitions.specs.Values.{members_of};
 ghost use Rattle.meta.specs.Keys.{name_of};
@@ -47,6 +47,7 @@ pub fn create(
         return Err(Fault::BadRequest(Part::Object));
     }
     let key = new_key(alloc, store, kind, namespace, &object)?;
+    let object = with_first_status(alloc, object, kind)?;
     check_create(alloc, &object, &key, store.revision())?;
     let object = created(alloc, object, &key, moment, store.revision())?;
     create_as(alloc, store, key, &object)
@@ -94,10 +95,10 @@ fn new_key(
     }
 }
 
-/// The object with the first status of a kind.
+/// The object with the first status of a kind, whatever status the body said.
 fn with_first_status(alloc: Global, object: Object, kind: Kind) -> Result<Object, AllocError>
-    ensures members { IfOk result (λ o. members_of o.value ≡ with_status (first_status kind) (members_of object.value)) }
-    ensures metadata { IfOk result (λ o. metadata.metadata_of o.value ≡ metadata.metadata_of object.value) }
+    ensures value { IfOk result (λ o. o.value ≡ with_first_status kind object.value) }
+    ensures kind { IfOk result (λ o. o.kind ≡ object.kind) }
 {
     match first_status(alloc, kind)? {
         Some(status) => object.set_member(alloc, "status", status),
@@ -138,7 +139,8 @@ fn set_metadata(
     draft.set_text(alloc, "uid", uid.as_str())
 }
 
-/// The object with what the server sets in a new one under a key, after a revision.
+/// The object, which has its first status, with what the server sets in the metadata of a new one under a key, after a
+/// revision.
 fn created(
     alloc: Global,
     object: Object,
@@ -148,10 +150,11 @@ fn created(
 ) -> Result<Object, AllocError>
     requires { before ≤ greatest_revision }
     ensures { IfOk result (λ o. o.value
-        ≡ created key.now.kind (before + 1) (string_bytes key.now.namespace) (string_bytes key.now.name) moment object.value) }
+        ≡ metadata.at_revision (before + 1)
+        (new_metadata key.now.kind (before + 1) (string_bytes key.now.namespace) (string_bytes key.now.name) moment (metadata.metadata_of object.value))
+        object.value) }
 {
     let digits = (before + 1).to_string(alloc)?;
-    let object = with_first_status(alloc, object, key.kind)?;
     let mut draft = object.open(alloc)?;
     set_metadata(alloc, &mut draft, key, moment, before + 1)?;
     draft.set_text(alloc, "resourceVersion", digits.as_str())?;

@@ -2,6 +2,7 @@ pub mod Alarms
 pub mod Due
 pub mod EscapedTexts
 pub mod Expected
+pub mod FirstStatus
 pub mod JsonMembers
 pub mod OnLiterals
 pub mod PageLists

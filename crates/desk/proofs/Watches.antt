@@ -1,11 +1,16 @@
 -- What a watch is given, by the events of a cache.
-use Rattle.std.proofs.Common.{◌≡◌, ◌<◌, ◌-◌, ℕ, suc, List, [], ◌∷◌, length, map, take, nat_le, false, cond, Some, Result, Ok, Err, sym, ap, ◌∙◌, arith}
+use Rattle.std.proofs.Common.{◌≡◌, ◌<◌, ◌≤◌, ◌-◌, ◌⊎◌, inl, inr, ℕ, suc, List, [], ◌∷◌, length, map, take, nat_le, nat_lt, Bool, true, false, cond, Option, None, Some, Result, Ok, Err, sym, ap, ◌∙◌, arith}
 use Rattle.std.specs.Prelude.{slice_get, if◌then◌else◌}
 use Rattle.std.specs.Result.{result_map_both}
 use Rattle.std.proofs.lemmas.Bool.Decides.{nat_tests}
-use Rattle.definitions.specs.Changes.{Change}
+use Rattle.std.proofs.lemmas.List.{take_all, length-append}
+use Rattle.serde_json.specs.Data.{Data}
+use Rattle.definitions.specs.Changes.{Change, change_of}
+use Rattle.definitions.specs.History.{View, seen}
+use Rattle.definitions.specs.Names.{Name}
 use Rattle.definitions.specs.Refusals.{Refusal}
 use Rattle.definitions.specs.Versions.{watched, last_change}
+use Rattle.definitions.specs.Windows.{Kept, Window, above, change_kept, changes_kept, since_kept, within}
 use Rattle.revisions.specs.Events.{change_seen}
 use Rattle.revisions.specs.declared.events.Event.{Event}
 use Rattle.watch_cache.specs.Served.{Serves}
@@ -31,3 +36,34 @@ given_part seen (Ok cs) y now a n w is more changes stands =
     let over : nat_le (length (seen y)) n ≡ false = grind (arith, nat_tests) in
     let at : (if nat_le (length (seen y)) n then now else last_change a (take n (seen y))) ≡ w.stands = ap (λ b. cond b now (last_change a (take n (seen y)))) over ∙ sym stands in
     ap (watched now a n) is ∙ (λ i. record { changes = sym changes i; stands = at i })
+
+-- ---- no window has more changes than it keeps
+
+one-change : (r : ℕ) (k : Name) (old new : Option Data) → length (change_of r k old new) ≤ 1
+one-change r k None None = omega arith
+one-change r k None (Some new) = omega arith
+one-change r k (Some old) None = omega arith
+one-change r k (Some old) (Some new) = omega arith
+
+few-changes : (v : View) (ks : List Kept) → length (changes_kept v ks) ≤ length ks
+few-changes v [] = omega arith
+few-changes v (k ∷ ks) =
+    let one = one-change k.revision k.key (seen v k.key k.old) (seen v k.key k.new) in
+    omega (arith, length-append (change_kept v k) (changes_kept v ks), one, few-changes v ks)
+
+few-above : (a : ℕ) (ks : List Kept) → length (above a ks) ≤ length ks
+few-above a [] = omega arith
+few-above a (k ∷ ks) = by (nat_lt a k.revision) (few-above a ks)
+  where
+    by : (b : Bool) → length (above a ks) ≤ length ks → length (cond b (k ∷ above a ks) (above a ks)) ≤ suc (length ks)
+    by true h = omega (arith, h)
+    by false h = omega (arith, h)
+
+-- where two numbers are the same or no fewer than are kept, they ask for the same changes
+pub since-all : (w : Window) (now : ℕ) (v : View) (a m n : ℕ) → (m ≡ n) ⊎ ((length w.kept ≤ m) × (length w.kept ≤ n)) → since_kept w now v a m ≡ since_kept w now v a n
+since-all w now v a m n (inl same) = ap (since_kept w now v a) same
+since-all w now v a m n (inr most) =
+    let cs = changes_kept v (above a w.kept) in
+    let few : length cs ≤ length w.kept = omega (arith, few-changes v (above a w.kept), few-above a w.kept) in
+    let all : take m cs ≡ take n cs = take_all m cs (omega (arith, few, most.0)) ∙ sym (take_all n cs (omega (arith, few, most.1))) in
+    ap (within w.floor now a) all

@@ -17,3 +17,10 @@ abbrev pub Replies : Outcome → Result Reply Fault → Type 0
 Replies (answered a) (Ok r) = Says a r
 Replies (refused f) (Ok r) = ⊥
 Replies o (Err e) = (e ≡ fault.NoMemory) ⊎ (o ≡ refused (refusal_of e))
+
+-- the result is the outcome, or want of memory for an answer; a refusal takes none
+abbrev pub Lists : Outcome → Result Reply Fault → Type 0
+Lists (answered a) (Ok r) = Says a r
+Lists (answered a) (Err e) = e ≡ fault.NoMemory
+Lists (refused f) (Ok r) = ⊥
+Lists (refused f) (Err e) = f ≡ refusal_of e

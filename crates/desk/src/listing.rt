@@ -27,11 +27,11 @@ impl Server {
     ghost use Rattle.pages.specs.Seen.{asked_place};
     ghost use Rattle.selector.specs.Views.{view_of};
     ghost use Rattle.desk.specs.Pages.{IsPageAt};
-    ghost use Rattle.desk.specs.Replies.{Replies};
+    ghost use Rattle.desk.specs.Replies.{Lists};
 
     /// A page of the list of a view: at most `limit` objects, or all if it is 0, after the place that a token names, or the
     /// first. The token is that of a page before it, so the list is to be one at its revision. The errors are a revision
-    /// below what is kept, one above the present, and want of memory.
+    /// below what is kept, one above the present, and want of memory. A revision that is refused takes no memory.
     pub fn list(
         &self,
         alloc: Global,
@@ -40,7 +40,7 @@ impl Server {
         limit: usize,
         after: Option<&Token>,
     ) -> Result<Reply, Fault>
-        ensures { Replies (list_served self.now (view_of view.now)
+        ensures { Lists (list_served self.now (view_of view.now)
             (record { at = at; limit = limit; after = asked_place after.entry })) result }
     {
         let present = self.revision();
@@ -86,7 +86,7 @@ impl Server {
         limit: usize,
         after: Option<&Token>,
     ) -> Result<Reply, Fault>
-        ensures { Replies (list_served self.now (view_of view.now)
+        ensures { Lists (list_served self.now (view_of view.now)
             (record { at = at.Exact revision; limit = limit; after = asked_place after.entry })) result }
     {
         let present = self.revision();

@@ -19,14 +19,16 @@ pub struct Watched {
 }
 
 impl Server {
-    ghost use Rattle.std.specs.Prelude.{◌<◌};
-    ghost use Rattle.definitions.specs.Servers.{watch_by};
+    ghost use Rattle.std.specs.Prelude.{◌+◌, map};
+    ghost use Rattle.definitions.specs.Servers.{watch_by, window_of};
+    ghost use Rattle.definitions.specs.Windows.{since_kept};
+    ghost use Rattle.revisions.specs.Events.{change_seen};
     ghost use Rattle.selector.specs.Views.{view_of};
     ghost use Rattle.watch_cache.specs.Served.{Serves};
     ghost use Rattle.desk.specs.Seen.{watched_of};
 
-    /// The first changes of a view after a revision, at most `max`. The errors are a revision below what is kept, one
-    /// above the present, and want of memory.
+    /// The first changes of a view after a revision, at most `max`, which may be any number. The errors are a revision below
+    /// what is kept, one above the present, and want of memory. A revision that is refused takes no memory.
     pub fn watch_from(
         &self,
         alloc: Global,
@@ -34,13 +36,10 @@ impl Server {
         after: u64,
         max: usize,
     ) -> Result<Watched, Fault>
-        requires { max < usize.MAX }
         ensures { Serves watched_of (watch_by self.now (view_of view.now) after max) result }
     {
         let present = self.revision();
-        let cache = self.cache(view.kind);
-        // one more tells whether there is more
-        let mut events = cache.since(alloc, present, view, after, max + 1)?;
+        let mut events = self.one_more(alloc, view, after, max)?;
         if events.len() <= max {
             return Ok(Watched {
                 events,
@@ -50,6 +49,24 @@ impl Server {
         events.truncate(max);
         let stands = last_revision(&events, after);
         Ok(Watched { events, stands })
+    }
+
+    /// The first changes of a view after a revision, at most `max` and one more, which tells whether there is more. Where
+    /// no number is greater than `max`, no cache has more changes.
+    fn one_more(
+        &self,
+        alloc: Global,
+        view: &View,
+        after: u64,
+        max: usize,
+    ) -> Result<Vec<Event>, Fault>
+        ensures { Serves (λ es. map change_seen es.items)
+            (since_kept (window_of view.now.kind self.now) self.now.snapshot.revision (view_of view.now) after (max + 1)) result }
+    {
+        let cache = self.cache(view.kind);
+        // says that no more changes are kept than there is room for
+        let _ = cache.window();
+        cache.since(alloc, self.revision(), view, after, max.saturating_add(1))
     }
 }
 

@@ -9,6 +9,7 @@ use Rattle.definitions.specs.declared.refusals.Field.{Field}
 use Rattle.definitions.specs.declared.refusals.Field.TheVariants.{Name, GenerateName, Labels, Finalizers, OwnerReferences, Replicas, Selector, Template, Strategy, RevisionHistoryLimit, Status}
 use Rattle.definitions.specs.Checks.{create_fault, update_fault, generates, is_percentage, is_of_the_future}
 use Rattle.definitions.specs.Defaults.{defaulted}
+use Rattle.definitions.specs.NewObjects.{with_first_status}
 use Rattle.definitions.specs.Uids.{uid_text}
 
 -- ---- texts of objects
@@ -41,9 +42,9 @@ recreated spec status = set [] (codes ",\"strategy\":{\"type\":\"Recreate\"}" ++
 
 -- ---- the first faults of texts
 
--- of an object created as `a` at the present revision 5
+-- of an object created as `a` at the present revision 5, with its first status
 abbrev pub created : Kind → List ℕ → Option (Option Field)
-created k t = option_map (create_fault k (codes "a") 5) (read t)
+created k t = option_map (λ d. create_fault k (codes "a") 5 (with_first_status k d)) (read t)
 
 abbrev pub passes : Option (Option Field)
 passes = Some None
@@ -103,11 +104,14 @@ UidsOfTheFutureAreKnown =
 abbrev pub NumbersAreChecked : Type 0
 NumbersAreChecked =
     (created ReplicaSet (set [] (codes ",\"replicas\":0") (codes "\"replicas\":0")) ≡ passes) × (created ReplicaSet (set [] (codes ",\"replicas\":-1") []) ≡ fails Replicas)
-    × (created ReplicaSet (set [] [] (codes "\"availableReplicas\":-1")) ≡ fails Status) × (created ReplicaSet (set [] [] (codes "\"collisionCount\":-1")) ≡ passes)
+    × (created ReplicaSet (set [] [] (codes "\"replicas\":-1,\"availableReplicas\":-1")) ≡ passes) × (created ReplicaSet (set [] [] (codes "\"collisionCount\":-1")) ≡ passes)
     × (created Pod (set [] (codes ",\"replicas\":-1") (codes "\"replicas\":-1")) ≡ passes)
     × (created Deployment (recreated (codes ",\"revisionHistoryLimit\":0") (codes "\"collisionCount\":0")) ≡ passes)
     × (created Deployment (recreated (codes ",\"revisionHistoryLimit\":-1") []) ≡ fails RevisionHistoryLimit)
-    × (created Deployment (recreated [] (codes "\"collisionCount\":-1")) ≡ fails Status)
+    × (created Deployment (recreated [] (codes "\"collisionCount\":-1")) ≡ passes)
+    × (updated ReplicaSet (set [] [] []) (set [] [] (codes "\"availableReplicas\":-1")) ≡ fails Status)
+    × (updated ReplicaSet (set [] [] []) (set [] [] (codes "\"collisionCount\":-1")) ≡ passes)
+    × (updated Deployment (recreated [] []) (recreated [] (codes "\"collisionCount\":-1")) ≡ fails Status)
 
 abbrev pub labelled : List ℕ
 labelled = codes "{\"metadata\":{\"labels\":{\"x\":\"y\"}}}"
@@ -155,7 +159,7 @@ FirstFaultsAreSaid =
     × (created ReplicaSet (set (codes ",\"ownerReferences\":[{}]") (codes ",\"replicas\":-1") (codes "\"replicas\":-1")) ≡ fails OwnerReferences)
     × (created Deployment (set [] (codes ",\"replicas\":-1,\"revisionHistoryLimit\":-1") (codes "\"replicas\":-1")) ≡ fails Replicas)
     × (created Deployment (set [] (codes ",\"revisionHistoryLimit\":-1") (codes "\"replicas\":-1")) ≡ fails Strategy)
-    × (created Deployment (recreated (codes ",\"revisionHistoryLimit\":-1") (codes "\"replicas\":-1")) ≡ fails RevisionHistoryLimit)
+    × (updated Deployment (recreated [] []) (recreated (codes ",\"revisionHistoryLimit\":-1") (codes "\"replicas\":-1")) ≡ fails RevisionHistoryLimit)
 
 -- an update keeps the selector, and adds no finalizer to an object that is being deleted
 abbrev pub UpdatesAreChecked : Type 0

@@ -87,10 +87,16 @@ ValuesAreSelectors =
     (value_says (codes "{}") ≡ Some (Ok []))
     × (value_says (codes "{\"matchLabels\":{\"a\":\"b\"},\"matchExpressions\":[{\"key\":\"c\",\"operator\":\"NotIn\",\"values\":[\"d\"]},{\"key\":\"e\",\"operator\":\"Exists\",\"values\":[]}]}")
     ≡ option_map (λ (r : List Requirement). Ok r) (says (codes "a=b,c notin (d),e")))
+    × (value_says (codes "{\"matchLabels\":null,\"matchExpressions\":null}") ≡ Some (Ok []))
+    × (value_says (codes "{\"matchLabels\":{\"a\":\"b\",\"c\":null},\"matchExpressions\":[{\"key\":\"e\",\"operator\":\"Exists\",\"values\":null}]}")
+    ≡ option_map (λ (r : List Requirement). Ok r) (says (codes "a=b,e")))
 
 abbrev pub ValuesAreRefused : Type 0
 ValuesAreRefused =
     (value_says (codes "{\"matchLabels\":{\"a\":1}}") ≡ Some (Err mistyped)) × (value_says (codes "{\"matchExpressions\":{}}") ≡ Some (Err mistyped))
+    × (value_says (codes "{\"a\":[{\"b\":1.5}]}") ≡ Some (Err mistyped)) × (value_says (codes "{\"a\":[{\"b\":1}]}") ≡ Some (Ok []))
+    × (value_says (codes "{\"matchExpressions\":[{\"key\":\"a\",\"operator\":\"Exists\",\"values\":[null]}]}") ≡ Some (Err mistyped))
+    × (value_says (codes "{\"matchExpressions\":[{\"key\":null,\"operator\":\"Exists\"}]}") ≡ Some (Err unfit))
     × (value_says (codes "{\"matchExpressions\":[{\"key\":\"a\",\"operator\":\"In\"}]}") ≡ Some (Err unfit))
     × (value_says (codes "{\"matchExpressions\":[{\"key\":\"a\",\"operator\":\"Exists\",\"values\":[\"b\"]}]}") ≡ Some (Err unfit))
     × (value_says (codes "{\"matchExpressions\":[{\"key\":\"a\",\"operator\":\"in\",\"values\":[\"b\"]}]}") ≡ Some (Err unfit))

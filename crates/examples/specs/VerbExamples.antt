@@ -1,6 +1,11 @@
 -- Worked facts of creates, updates and patches, computed from the definitions: what is written for these lines.
-use Rattle.std.specs.Prelude.{◌≡◌, codes, ◌++◌}
+use Rattle.std.specs.Prelude.{◌≡◌, ℕ, List, codes, ◌++◌}
+use Rattle.serde_json.specs.Data.{Data}
+use Rattle.definitions.specs.declared.kinds.Kind.TheVariants.{ConfigMap}
+use Rattle.definitions.specs.History.{History}
 use Rattle.definitions.specs.Lines.{replay}
+use Rattle.definitions.specs.Refusals.{not_found}
+use Rattle.definitions.specs.Verbs.{update_status, refused, accept}
 
 -- a name is made of the revision of the write
 abbrev pub GeneratedNamesAreTried : Type 0
@@ -59,3 +64,9 @@ GenerationsCountSpecs =
     ++ codes "200 {\"apiVersion\":\"apps/v1\",\"kind\":\"Deployment\",\"metadata\":{\"creationTimestamp\":\"2026-01-01T00:00:00Z\",\"generation\":2,\"name\":\"d\",\"namespace\":\"default\",\"resourceVersion\":\"4\",\"uid\":\"00000000-0000-8000-8000-000000000002\"},\"spec\":{\"replicas\":2,\"revisionHistoryLimit\":10,\"selector\":{\"matchLabels\":{\"app\":\"d\"}},\"strategy\":{\"rollingUpdate\":{\"maxSurge\":\"25%\",\"maxUnavailable\":\"25%\"},\"type\":\"RollingUpdate\"},\"template\":{\"metadata\":{\"labels\":{\"app\":\"d\"}},\"spec\":{}}},\"status\":{\"collisionCount\":1}}\n"
     ++ codes "422 {\"apiVersion\":\"v1\",\"code\":422,\"kind\":\"Status\",\"message\":\"deployments.apps \\\"d\\\" is invalid: spec.selector\",\"metadata\":{},\"reason\":\"Invalid\",\"status\":\"Failure\"}\n"
     ++ codes "422 {\"apiVersion\":\"v1\",\"code\":422,\"kind\":\"Status\",\"message\":\"deployments.apps \\\"d\\\" is invalid: spec.strategy\",\"metadata\":{},\"reason\":\"Invalid\",\"status\":\"Failure\"}\n"
+
+-- a status is not found where the kind has none, whatever the body says and whatever is there
+abbrev pub ConfigMapsHaveNoStatus : Type 0
+ConfigMapsHaveNoStatus =
+    (namespace name : List ℕ) (d : Data) (h : History) (moment : List ℕ)
+    → accept (update_status (record { kind = ConfigMap; namespace = namespace; name = name }) d) h moment ≡ refused (not_found (record { kind = ConfigMap; namespace = namespace; name = name }))

@@ -1,5 +1,5 @@
 //! Worked facts of creates, updates and patches.
-ghost use Rattle.examples.specs.VerbExamples.{GeneratedNamesAreTried, TakenNamesArePassedOver, NothingNewIsNotWritten, PatchesTakeOutNulls, DeploymentsAreFilledIn, GenerationsCountSpecs};
+ghost use Rattle.examples.specs.VerbExamples.{GeneratedNamesAreTried, TakenNamesArePassedOver, NothingNewIsNotWritten, PatchesTakeOutNulls, DeploymentsAreFilledIn, GenerationsCountSpecs, ConfigMapsHaveNoStatus};
 
 /// The names that the server makes.
 pub fn names_are_generated()
@@ -19,4 +19,10 @@ pub fn writes_are_stored()
     ensures patches_take_out_nulls { PatchesTakeOutNulls }
     // A new spec is a new generation, a new status is none.
     ensures generations_count_specs { GenerationsCountSpecs }
+{}
+
+/// What is refused before anything is looked up.
+pub fn requests_are_refused()
+    // A ConfigMap has no status to be replaced: it is not found, and nothing is written.
+    ensures config_maps_have_no_status { ConfigMapsHaveNoStatus }
 {}

@@ -10,16 +10,17 @@ use Rattle.definitions.specs.declared.refusals.Field.TheVariants as field
 use Rattle.definitions.specs.Checks.{create_fault, update_fault, is_status_valid, finalizers}
 use Rattle.definitions.specs.DeleteOptions.{Options}
 use Rattle.definitions.specs.Deletion.{Fate, remove, mark, keep, fate, marked, leaves, left_by, removal_of, kept_code, decided}
+use Rattle.definitions.specs.Kinds.{has_status}
 use Rattle.definitions.specs.Names.{Name}
 use Rattle.definitions.specs.History as history
 use Rattle.definitions.specs.History.{History, found, members, present}
 use Rattle.definitions.specs.Metadata.{namespace, uid, version, metadata_of, at_revision, is_being_deleted, is_other, differs}
-use Rattle.definitions.specs.NewObjects.{created}
+use Rattle.definitions.specs.NewObjects.{created, with_first_status}
 use Rattle.definitions.specs.Reading.{is_body, reading}
-use Rattle.definitions.specs.Refusals.{Refusal, bad_request, already_exists, conflict, invalid, too_large, storage_full}
+use Rattle.definitions.specs.Refusals.{Refusal, bad_request, not_found, already_exists, conflict, invalid, too_large, storage_full}
 use Rattle.definitions.specs.Replacements.{in_place, is_let_go, says_the_same, updated, with_said_status}
 use Rattle.definitions.specs.Values.{merged}
-use Rattle.definitions.specs.Verbs.{Request, get_object, list_objects, create_object, update_object, update_status, patch_object, delete_object, Outcome, answered, refused, accept_at, accept, shown, stored, removed, said, create_as, create_checked, create_read, new_name, put_in_place, let_go, replace_changed, replace_with, if_same, replace, update_read, restate, restate_with, status_read, patch_read, patch, by_fate, by_decision, delete, names_path, is_too_large, is_past_greatest, most_objects}
+use Rattle.definitions.specs.Verbs.{Request, get_object, list_objects, create_object, update_object, update_status, patch_object, delete_object, Outcome, answered, refused, accept_at, accept, shown, stored, removed, said, create_as, create_checked, create_read, new_name, put_in_place, let_go, replace_changed, replace_with, if_same, replace, update_read, restate, restate_with, status_read, patch_read, patch, by_fate, by_decision, delete, names_path, is_too_large, is_past_greatest, most_objects, status_put}
 use Rattle.laws.proofs.Guards.{guard, guard_field, there, either}
 
 module _ (P : Outcome → Type 0) (refusal : (f : Refusal) → P (refused f)) where
@@ -40,7 +41,7 @@ module _ (P : Outcome → Type 0) (refusal : (f : Refusal) → P (refused f)) wh
   of_create kind ns (Ok o) ms r moment each =
       let k = new_name kind ns o ms r in
       guard P refusal (is_other (namespace o) ns || is_some (version o)) (bad_request part.Object) (create_checked k o ms r moment)
-      (λ _. guard_field P refusal k (create_fault kind k.name r o) (create_as k (created kind (r + 1) ns k.name moment o) ms r)
+      (λ _. guard_field P refusal k (create_fault kind k.name r (with_first_status kind o)) (create_as k (created kind (r + 1) ns k.name moment o) ms r)
       (λ _. of_create_as k (created kind (r + 1) ns k.name moment o) ms r (each o)))
 
   -- ---- what stands in the place of what is held
@@ -99,13 +100,13 @@ module _ (P : Outcome → Type 0) (refusal : (f : Refusal) → P (refused f)) wh
         (λ _. there P refusal k (λ held. patch_read k r held (said k.kind (merged held d))) (found k ms)
         (λ held is. patched k (said k.kind (merged held d)) r held (λ o read. put o held read is) (λ o read. gone o held read is)))
 
-    pub of_status : (k : Name) (read : Result Data Part) (ms : history.Members) (r : ℕ)
+    of_status_put : (k : Name) (read : Result Data Part) (ms : history.Members) (r : ℕ)
         → ((o held : Data) → read ≡ Ok o → found k ms ≡ Some held → differs (version o) (version held) ≡ false
         → is_too_large (at_revision (r + 1) (metadata_of (with_said_status k.kind held o)) (with_said_status k.kind held o)) ≡ false → is_past_greatest (r + 1) ≡ false
         → P (stored 200 k (at_revision (r + 1) (metadata_of (with_said_status k.kind held o)) (with_said_status k.kind held o))))
-        → P (status_read k read ms r)
-    of_status k (Err p) ms r put = refusal (bad_request p)
-    of_status k (Ok o) ms r put =
+        → P (status_put k read ms r)
+    of_status_put k (Err p) ms r put = refusal (bad_request p)
+    of_status_put k (Ok o) ms r put =
         guard P refusal (not (names_path k o)) (bad_request part.Object) _
         (λ _. there P refusal k (restate_with k o r) (found k ms)
         (λ held is.
@@ -114,6 +115,13 @@ module _ (P : Outcome → Type 0) (refusal : (f : Refusal) → P (refused f)) wh
         same_as_named k o held (restate k held d r)
         (λ same. guard P refusal (not (is_status_valid k.kind d)) (invalid k field.Status) (cond (says_the_same held d) (shown held) (put_in_place k new r))
         (λ _. either P (says_the_same held d) (shown held) (put_in_place k new r) (λ _. show held) (λ _. of_put k new r (put o held refl is same))))))
+
+    pub of_status : (k : Name) (read : Result Data Part) (ms : history.Members) (r : ℕ)
+        → ((o held : Data) → read ≡ Ok o → found k ms ≡ Some held → differs (version o) (version held) ≡ false
+        → is_too_large (at_revision (r + 1) (metadata_of (with_said_status k.kind held o)) (with_said_status k.kind held o)) ≡ false → is_past_greatest (r + 1) ≡ false
+        → P (stored 200 k (at_revision (r + 1) (metadata_of (with_said_status k.kind held o)) (with_said_status k.kind held o))))
+        → P (status_read k read ms r)
+    of_status k read ms r put = guard P refusal (not (has_status k.kind)) (not_found k) (status_put k read ms r) (λ _. of_status_put k read ms r put)
 
 -- ---- delete
 

@@ -18,13 +18,13 @@ use Rattle.definitions.specs.Selectors.{Requirement, meets_all}
 use Rattle.definitions.specs.SelectorValues.{all_items, items_in, passes, said_by_value}
 use Rattle.definitions.specs.Uids.{uid_text, uid_revision, cluster_word}
 use Rattle.definitions.specs.Values.{inner_of, members_of, without}
-use Rattle.definitions.specs.NewObjects.{created, first_status, new_metadata, with_generation, with_status}
+use Rattle.definitions.specs.NewObjects.{created, first_status, new_metadata, with_first_status, with_generation, with_status}
 use Rattle.definitions.specs.Defaults.{whole}
 use Rattle.definitions.specs.Kinds.{has_generation}
 use Rattle.definitions.specs.Names.{is_subdomain}
 use Rattle.laws.proofs.HeldMembers.{text-at_revision, name-new_metadata}
-use Rattle.definitions.proofs.JsonMembers.{apart, get_member-without_other, metadata_of-with}
-use Rattle.laws.proofs.WholeObjects.{get-members_of}
+use Rattle.definitions.proofs.JsonMembers.{apart, get_member-without_other, metadata_of-with, text_in}
+use Rattle.definitions.proofs.FirstStatus.{get-first, metadata_of-first}
 
 abbrev pub AllMet : List Check → Type 0
 AllMet [] = Unit {0}
@@ -138,18 +138,18 @@ get-generation : (q : List ℕ) (b : Bool) (ms : Members) → bytes_eq q (codes 
 get-generation q true ms other = get_member-put_other q (codes "generation") (whole 1) ms (apart q (codes "generation") other)
 get-generation q false ms other = refl
 
-get-status : (q : List ℕ) (s : Option Data) (ms : Members) → bytes_eq q (codes "status") ≡ false → get_member q (with_status s ms) ≡ get_member q ms
-get-status q None ms other = refl
-get-status q (Some s) ms other = get_member-put_other q (codes "status") s ms (apart q (codes "status") other)
-
 module _ (k : Kind) (r : ℕ) (ns under moment : List ℕ) (d : Data) where
+  -- what is checked of what is stored, and what was checked before
   abbrev made_of : Data
-  made_of = created k r ns under moment d
+  made_of = with_first_status k (created k r ns under moment d)
+
+  abbrev first : Data
+  first = with_first_status k d
 
   -- a member of the metadata that the server does not set
   same : (q : List ℕ) → bytes_eq q (codes "resourceVersion") ≡ false → bytes_eq q (codes "uid") ≡ false → bytes_eq q (codes "creationTimestamp") ≡ false
       → bytes_eq q (codes "namespace") ≡ false → bytes_eq q (codes "name") ≡ false → bytes_eq q (codes "generation") ≡ false → bytes_eq q (codes "deletionTimestamp") ≡ false
-      → metadata q made_of ≡ metadata q d
+      → metadata q made_of ≡ metadata q first
   same q a b c e f g h =
       let m1 = without (codes "deletionTimestamp") (metadata_of d) in
       let m2 = with_generation k m1 in
@@ -158,24 +158,25 @@ module _ (k : Kind) (r : ℕ) (ns under moment : List ℕ) (d : Data) where
       let m5 = put (codes "creationTimestamp") (string moment) m4 in
       let m6 = put (codes "uid") (string (uid_text cluster_word r)) m5 in
       let m7 = put (codes "resourceVersion") (string (decimal r)) m6 in
-      ap (get_member q) (metadata_of-with m7 (object (with_status (first_status k) (members_of d))))
+      ap (get_member q) (metadata_of-first k (created k r ns under moment d)) ∙ ap (get_member q) (metadata_of-with m7 (object (with_status (first_status k) (members_of d))))
       ∙ get_member-put_other q (codes "resourceVersion") (string (decimal r)) m6 (apart q (codes "resourceVersion") a)
       ∙ get_member-put_other q (codes "uid") (string (uid_text cluster_word r)) m5 (apart q (codes "uid") b)
       ∙ get_member-put_other q (codes "creationTimestamp") (string moment) m4 (apart q (codes "creationTimestamp") c)
       ∙ get_member-put_other q (codes "namespace") (string ns) m3 (apart q (codes "namespace") e) ∙ get_member-put_other q (codes "name") (string under) m2 (apart q (codes "name") f)
       ∙ get-generation q (has_generation k) m1 g ∙ get_member-without_other q (codes "deletionTimestamp") (metadata_of d) h
+      ∙ ap (get_member q) (sym (metadata_of-first k d))
 
   -- the name that is set
   name_is : name made_of ≡ Some under
   name_is =
-      text-at_revision (codes "name") r (new_metadata k r ns under moment (metadata_of d)) (object (with_status (first_status k) (members_of d))) refl
+      ap (text_in (codes "name")) (metadata_of-first k (created k r ns under moment d))
+      ∙ text-at_revision (codes "name") r (new_metadata k r ns under moment (metadata_of d)) (object (with_status (first_status k) (members_of d))) refl
       ∙ name-new_metadata k r ns under moment (metadata_of d)
 
   -- what is not metadata, nor a status
-  same_part : (q : List ℕ) → bytes_eq q (codes "metadata") ≡ false → bytes_eq q (codes "status") ≡ false → get q made_of ≡ get q d
+  same_part : (q : List ℕ) → bytes_eq q (codes "metadata") ≡ false → bytes_eq q (codes "status") ≡ false → get q made_of ≡ get q first
   same_part q a b =
-      get_member-put_other q (codes "metadata") _ (with_status (first_status k) (members_of d)) (apart q (codes "metadata") a) ∙ get-status q (first_status k) (members_of d) b
-      ∙ sym (get-members_of q d)
+      get-first q k (created k r ns under moment d) b ∙ get_member-put_other q (codes "metadata") _ (with_status (first_status k) (members_of d)) (apart q (codes "metadata") a)
 
   names : is_subdomain under ≡ true → is_name_valid made_of ≡ true
   names valid = ap (λ o. is_name o made_of) name_is ∙ valid
@@ -183,45 +184,43 @@ module _ (k : Kind) (r : ℕ) (ns under moment : List ℕ) (d : Data) where
   generated : is_generate_name_valid under made_of ≡ true
   generated = ap (λ o. is_some o || passes_if_there (generates under) (generate_name made_of)) name_is
 
-  labels : are_labels_valid made_of ≡ are_labels_valid d
+  labels : are_labels_valid made_of ≡ are_labels_valid first
   labels = ap (λ m. are_labels (inner_of m)) (same (codes "labels") refl refl refl refl refl refl refl)
 
-  ends : (are_finalizers_valid made_of && true) ≡ (are_finalizers_valid d && true)
+  ends : (are_finalizers_valid made_of && true) ≡ (are_finalizers_valid first && true)
   ends = ap (λ m. all_items (text_is is_finalizer) (items_in m) && true) (same (codes "finalizers") refl refl refl refl refl refl refl)
 
-  owned : (present : ℕ) → are_owners_valid present made_of ≡ are_owners_valid present d
+  owned : (present : ℕ) → are_owners_valid present made_of ≡ are_owners_valid present first
   owned present =
       ap (λ m. let os = owners_in (unwrap_or (option_and_then as_array m) no_items) in list_all (is_owner present) os && nat_le (controllers os) 1)
       (same (codes "ownerReferences") refl refl refl refl refl refl refl)
 
-  in_spec_same : (q : List ℕ) → in_spec q made_of ≡ in_spec q d
+  in_spec_same : (q : List ℕ) → in_spec q made_of ≡ in_spec q first
   in_spec_same q = ap (option_and_then (get q)) (same_part (codes "spec") refl refl)
 
-  said_same : requirements made_of ≡ requirements d
+  said_same : requirements made_of ≡ requirements first
   said_same = ap (option_and_then (λ s. if_ok (said_by_value s))) (in_spec_same (codes "selector"))
 
-  selector : (is_selector_valid made_of && true) ≡ (is_selector_valid d && true)
+  selector : (is_selector_valid made_of && true) ≡ (is_selector_valid first && true)
   selector = ap (λ (o : Option (List Requirement)). passes (λ (rs : List Requirement). nat_lt 0 (length rs)) o && true) said_same
 
-  template : is_template_valid made_of ≡ is_template_valid d
-  template = ap (λ o. is_template o (in_spec (codes "template") made_of)) said_same ∙ ap (is_template (requirements d)) (in_spec_same (codes "template"))
+  template : is_template_valid made_of ≡ is_template_valid first
+  template = ap (λ o. is_template o (in_spec (codes "template") made_of)) said_same ∙ ap (is_template (requirements first)) (in_spec_same (codes "template"))
 
--- the status of a new object counts nothing below 0
-status_is : (k : Kind) (s : Data) (r : ℕ) (ns under moment : List ℕ) (d : Data) → first_status k ≡ Some s → get (codes "status") (created k r ns under moment d) ≡ Some s
-status_is k s r ns under moment d is =
-    get_member-put_other (codes "status") (codes "metadata") _ (with_status (first_status k) (members_of d)) (apart (codes "status") (codes "metadata") refl)
-    ∙ ap (λ o. get_member (codes "status") (with_status o (members_of d))) is ∙ get_member-put (codes "status") s (members_of d)
+-- the first status counts nothing below 0
+status_is : (k : Kind) (s : Data) (d : Data) → first_status k ≡ Some s → get (codes "status") (with_first_status k d) ≡ Some s
+status_is k s d is = ap (λ o. get_member (codes "status") (with_status o (members_of d))) is ∙ get_member-put (codes "status") s (members_of d)
 
-kind_met : (k : Kind) (r : ℕ) (ns under moment : List ℕ) (d : Data) → AllMet (checks_of k true d) → AllMet (checks_of k true (created k r ns under moment d))
+kind_met : (k : Kind) (r : ℕ) (ns under moment : List ℕ) (d : Data) → AllMet (checks_of k true (with_first_status k d)) → AllMet (checks_of k true (with_first_status k (created k r ns under moment d)))
 kind_met ConfigMap r ns under moment d m = tt
 kind_met Pod r ns under moment d m = tt
 kind_met ReplicaSet r ns under moment d m =
-    let status = ap (λ o. list_all (λ count. is_not_negative (option_and_then (get count) o)) (counts ReplicaSet)) (status_is ReplicaSet _ r ns under moment d refl) in (
+    let status = ap (λ o. list_all (λ count. is_not_negative (option_and_then (get count) o)) (counts ReplicaSet)) (status_is ReplicaSet _ (created ReplicaSet r ns under moment d) refl) in (
       ap is_not_negative (in_spec_same ReplicaSet r ns under moment d (codes "replicas")) ∙ m.0,
       (selector ReplicaSet r ns under moment d ∙ m.1.0, (template ReplicaSet r ns under moment d ∙ m.1.1.0, (status, tt))),
     )
 kind_met Deployment r ns under moment d m =
-    let status = ap (λ o. list_all (λ count. is_not_negative (option_and_then (get count) o)) (counts Deployment)) (status_is Deployment _ r ns under moment d refl) in
+    let status = ap (λ o. list_all (λ count. is_not_negative (option_and_then (get count) o)) (counts Deployment)) (status_is Deployment _ (created Deployment r ns under moment d) refl) in
     let in_made = in_spec_same Deployment r ns under moment d in (
       ap is_not_negative (in_made (codes "replicas")) ∙ m.0,
       (
@@ -238,9 +237,11 @@ kind_met Deployment r ns under moment d m =
 
 pub stored_pass : StoredPassAgain
 stored_pass k under present later r ns moment d le is h =
-    let m = all_met (checks k under present true true d) h in
-    let valid = by_name under (name d) d is m.0 m.1.0 in
-    no_fault (checks k under later true true (created k r ns under moment d)) (
+    let first = with_first_status k d in
+    let m = all_met (checks k under present true true first) h in
+    let named : name d ≡ name first = ap (text_in (codes "name")) (sym (metadata_of-first k d)) in
+    let valid = by_name under (name first) first (subst (λ o. IfSome o (λ n. n ≡ under)) named is) m.0 m.1.0 in
+    no_fault (checks k under later true true (with_first_status k (created k r ns under moment d))) (
       names k r ns under moment d valid,
       (
         generated k r ns under moment d,
@@ -248,7 +249,7 @@ stored_pass k under present later r ns moment d le is h =
           labels k r ns under moment d ∙ m.1.1.0,
           (
             ends k r ns under moment d ∙ m.1.1.1.0,
-            (owned k r ns under moment d later ∙ owned_later present later le d m.1.1.1.1.0, kind_met k r ns under moment d m.1.1.1.1.1),
+            (owned k r ns under moment d later ∙ owned_later present later le first m.1.1.1.1.0, kind_met k r ns under moment d m.1.1.1.1.1),
           ),
         ),
       ),

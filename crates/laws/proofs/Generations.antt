@@ -28,7 +28,7 @@ use Rattle.laws.proofs.HeldMembers.{generation-in_place}
 use Rattle.definitions.proofs.JsonMembers.{apart, metadata_of-with}
 use Rattle.laws.proofs.Removals.{at_held, member-at_revision, member-restated, member-updated}
 use Rattle.laws.proofs.VerbLaws.{found-state, none_from, of_none}
-use Rattle.laws.proofs.WholeObjects.{get-members_of}
+use Rattle.definitions.proofs.FirstStatus.{get-members_of}
 
 -- the whole number that a member says
 abbrev count_of : Option Data → ℕ

@@ -1,5 +1,5 @@
 -- Bodies, objects and revisions stay within their limits.
-use Rattle.std.proofs.Common.{◌≡◌, ℕ, suc, ◌+◌, ◌-◌, ◌≤◌, ◌||◌, ◌&&◌, not, is_some, Option, IfSome, List, [], ◌∷◌, ◌++◌, length, Bool, true, false, cond, Some, None, Ok, Err, nat_le, nat_lt, Ordering, Less, Equal, Greater, arith, subst, refl, sym, ap, ◌∙◌}
+use Rattle.std.proofs.Common.{◌≡◌, ℕ, suc, ◌+◌, ◌-◌, ◌≤◌, ◌||◌, ◌&&◌, not, is_some, Option, IfSome, Result, List, [], ◌∷◌, ◌++◌, length, Bool, true, false, cond, Some, None, Ok, Err, nat_le, nat_lt, Ordering, Less, Equal, Greater, arith, subst, refl, sym, ap, ◌∙◌}
 use Rattle.std.specs.Cmp.{IsTotalOrder}
 use Rattle.std.specs.Ordering.{match_ordering}
 use Rattle.std.specs.Map.{lookup, remove_entry}
@@ -9,9 +9,12 @@ use Rattle.laws.specs.HistoryLaws.{BodiesFit, RunsStayWithinLimits, WritesHaveRo
 use Rattle.definitions.specs.Lines.{start, default_window}
 use Rattle.definitions.specs.Names.{Name, name_cmp}
 use Rattle.definitions.specs.History.{History, Write, write, writes, up_to, Members, after, after_all, put_or_remove, members, found, present}
-use Rattle.definitions.specs.Refusals.{too_large}
-use Rattle.definitions.specs.Targets.{Asked, asks_with, body_or}
-use Rattle.definitions.specs.Values.{data_of}
+use Rattle.definitions.specs.declared.methods.Method.{Method}
+use Rattle.definitions.specs.declared.refusals.Part.{Part}
+use Rattle.definitions.specs.declared.refusals.Part.TheVariants as part
+use Rattle.definitions.specs.Refusals.{Refusal, bad_request, method_not_allowed, too_large}
+use Rattle.definitions.specs.RequestQueries.{Query}
+use Rattle.definitions.specs.Targets.{Asked, Route, asked, asked_at, asked_with, decoded, is_allowed, is_too_long, names_namespace, path_of, query_for, route}
 use Rattle.definitions.specs.Verbs.{Request, accept, new_name, with_write, write_of, overflows, most_objects, is_past_greatest}
 use Rattle.laws.proofs.Cases.{of_accept_at}
 use Rattle.laws.proofs.Past.{writes-append, whole}
@@ -21,12 +24,24 @@ use Rattle.laws.proofs.Runs.{by_lines}
 use Rattle.laws.proofs.HeldMembers.{at_most}
 use Rattle.laws.proofs.VerbLaws.{present-write}
 
-body_at : (b : Bool) (f : Data → Request) (text : List ℕ) (q : Asked) → nat_lt 1048576 (length text) ≡ b → asks_with f (cond b (Err too_large) (body_or (data_of text))) ≡ Ok q → length text ≤ 1048576
-body_at true f text q at is = cc
-body_at false f text q at is = at_most 1048576 (length text) at
+-- what is asked where a test holds, the other outcome being a refusal
+unless : (b : Bool) (f : Refusal) (r : Result Asked Refusal) (q : Asked) → cond b (Err f) r ≡ Ok q → (b ≡ false) × (r ≡ Ok q)
+unless true f r q is = cc
+unless false f r q is = (refl, is)
+
+body_with : (method : Method) (r : Route) (text : List ℕ) (o : Result Query Part) (q : Asked) → asked_with method r text o ≡ Ok q → length text ≤ 1048576
+body_with method r text (Err p) q is = cc
+body_with method r text (Ok query) q is = at_most 1048576 (length text) (unless (is_too_long text) too_large (asked method r query text) q is).0
+
+body_at : (method : Method) (target text : List ℕ) (o : Option Route) (q : Asked) → asked_at method target text o ≡ Ok q → length text ≤ 1048576
+body_at method target text None q is = cc
+body_at method target text (Some r) q is =
+    let named = unless (not (names_namespace r)) (bad_request part.Path) _ q is in
+    let allowed = unless (not (is_allowed method r)) method_not_allowed _ q named.1 in
+    body_with method r text (query_for method r target) q allowed.1
 
 pub bodies : BodiesFit
-bodies f text q is = body_at (nat_lt 1048576 (length text)) f text q refl is
+bodies method target text q is = body_at method (decoded target) text (route (path_of (decoded target))) q is
 
 module _ {K X : Type 0} {R : K → K → Ordering} (o : IsTotalOrder R) (k : K) (v : X) where
   one_more_at : (e : K × X) (es : List (K × X)) (r : Ordering) → length (insert_entry R es k v) ≤ length es + 1

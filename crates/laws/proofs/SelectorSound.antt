@@ -1,16 +1,18 @@
 -- What a text or a value says is sound.
-use Rattle.std.proofs.Common.{◌≡◌, ℕ, List, [], ◌∷◌, Bool, true, false, ◌&&◌, Option, None, Some, is_some, option_and_then, length, ◌==◌, Result, Ok, Err, codes, if◌then◌else◌, refl, ◌∙◌, subst}
+use Rattle.std.proofs.Common.{◌≡◌, ℕ, List, [], ◌∷◌, Bool, true, false, ◌&&◌, Option, None, Some, is_some, option_and_then, length, ◌==◌, Result, Ok, Err, codes, if◌then◌else◌, refl, ◌∙◌, subst, ◌||◌, not}
 use Rattle.std.specs.List.{list_all, list_any, before_first, after_first, slice_split, onto_first}
 use Rattle.std.specs.Str.{bytes_eq}
 use Rattle.std.proofs.lemmas.List.Folds.{list_all-append}
 use Rattle.serde_json.specs.Data.{Data, Items, no_items, item, Members, no_members, member}
 use Rattle.serde_json.specs.Find.{get}
+use Rattle.serde_json.specs.Written.{has_float}
+use Rattle.definitions.specs.Reading.{fits, tidied}
 use Rattle.definitions.specs.declared.selectors.Operator.{Operator}
 use Rattle.definitions.specs.declared.selectors.Operator.TheVariants.{In, NotIn, Exists, DoesNotExist}
 use Rattle.definitions.specs.Labels.{is_label_key, is_label_value}
 use Rattle.definitions.specs.SelectorForms.{is_sound}
 use Rattle.definitions.specs.SelectorTexts.{is_blank, is_comma, is_equals, is_opening, trimmed, without_equals, parts, before_last, compared, comparison, compared_requirement, set_operator, value_in, listed_values, set_requirement, in_requirement, plain_requirement, unblanked_requirement, requirement, said_by_text}
-use Rattle.definitions.specs.SelectorValues.{Flaw, mistyped, is_typed, text_in, items_in, label_requirements, operator_named, item_values, fitting, operated, expression_requirement, expression_requirements, both, or_unfit, said_by_value}
+use Rattle.definitions.specs.SelectorValues.{Flaw, mistyped, selector_shape, requirements_in, text_in, items_in, label_requirements, operator_named, item_values, fitting, operated, expression_requirement, expression_requirements, both, or_unfit, said_by_value}
 use Rattle.definitions.specs.Values.{inner_of}
 use Rattle.definitions.specs.Selectors.{Requirement, label_key, label_value, each_read, only_if, put_first, requiring}
 use Rattle.laws.proofs.SelectorPlain.{and-true}
@@ -200,12 +202,18 @@ unfit-or : (rs : Option (List Requirement)) → AreSoundOr rs → AreSoundOk (or
 unfit-or None h = tt
 unfit-or (Some rs) h = h
 
+members-ok : (d : Data) → AreSoundOk (or_unfit (requirements_in d))
+members-ok d =
+    let pairs = label_requirements (inner_of (get (codes "matchLabels") d)) in
+    let others = expression_requirements (items_in (get (codes "matchExpressions") d)) in
+    unfit-or (both pairs others) (both-sound pairs others (pairs-sound (inner_of (get (codes "matchLabels") d))) (expressions-sound (items_in (get (codes "matchExpressions") d))))
+
 value-ok : (d : Data) → AreSoundOk (said_by_value d)
-value-ok d = by (is_typed d)
+value-ok d = by (has_float d || not (fits selector_shape d))
   where
-    by : (b : Bool) → AreSoundOk (if b then or_unfit (both (label_requirements (inner_of (get (codes "matchLabels") d))) (expression_requirements (items_in (get (codes "matchExpressions") d)))) else Err mistyped)
-    by true = unfit-or (both (label_requirements (inner_of (get (codes "matchLabels") d))) (expression_requirements (items_in (get (codes "matchExpressions") d)))) (both-sound (label_requirements (inner_of (get (codes "matchLabels") d))) (expression_requirements (items_in (get (codes "matchExpressions") d))) (pairs-sound (inner_of (get (codes "matchLabels") d))) (expressions-sound (items_in (get (codes "matchExpressions") d))))
-    by false = tt
+    by : (b : Bool) → AreSoundOk (if b then Err mistyped else or_unfit (requirements_in (tidied selector_shape d)))
+    by true = tt
+    by false = members-ok (tidied selector_shape d)
 
 pub said-sound : (t : List ℕ) (rs : List Requirement) → said_by_text t ≡ Some rs → list_all is_sound rs ≡ true
 said-sound t rs h = subst AreSoundOr h (text-sound t)

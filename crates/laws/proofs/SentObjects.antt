@@ -1,5 +1,5 @@
 -- Objects as they are stored: what holds of each.
-use Rattle.std.proofs.Common.{◌≡◌, ◌≤◌, ◌<◌, ◌+◌, ◌||◌, ℕ, List, [], ◌∷◌, length, Bool, true, false, cond, codes, decimal, is_some, Option, Some, None, refl, sym, ap, ◌∙◌, arith}
+use Rattle.std.proofs.Common.{◌≡◌, ◌≤◌, ◌<◌, ◌+◌, ◌||◌, ℕ, List, [], ◌∷◌, length, Bool, true, false, cond, codes, decimal, is_some, Option, Some, None, refl, sym, ap, ap₂, ◌∙◌, arith}
 use Rattle.std.proofs.lemmas.Bool.{ne_eqb}
 use Rattle.std.proofs.lemmas.Fmt.{decimal_nonempty}
 use Rattle.std.specs.List.{list_all}
@@ -19,7 +19,7 @@ use Rattle.definitions.specs.History as history
 use Rattle.definitions.specs.History.{History, members, found, present}
 use Rattle.laws.specs.HistoryLaws.{OfStored}
 use Rattle.definitions.specs.Metadata.{differs, metadata_of, with_metadata, name, uid, version, at_revision}
-use Rattle.definitions.specs.NewObjects.{new_metadata}
+use Rattle.definitions.specs.NewObjects.{new_metadata, with_first_status}
 use Rattle.definitions.specs.Refusals.{Refusal, conflict, too_large, storage_full}
 use Rattle.laws.specs.SentLaws.{IsKept}
 use Rattle.definitions.specs.Uids.{uid_text, cluster_word}
@@ -34,6 +34,7 @@ use Rattle.laws.proofs.NeatMembers.{Neat, Neat-put, Neat-without, IsFilled, One,
 use Rattle.laws.proofs.NestedOrder.{AreOrdered, HasOrders}
 use Rattle.laws.proofs.NoFloatsRead.{both_true}
 use Rattle.laws.proofs.TextLengths.{put_twice}
+use Rattle.definitions.proofs.FirstStatus.{metadata_of-first}
 use Rattle.laws.proofs.WholeObjects.{AreWhole, reads_whole, whole_at, whole_read}
 
 -- an object as it is stored, and what the next write of it goes by
@@ -129,12 +130,17 @@ met : (b : Bool) (f : Field) (rest : Option Field) → cond b rest (Some f) ≡ 
 met true f rest h = (refl, h)
 met false f rest h = cc
 
-pub filled_new : (kind : Kind) (ns : List ℕ) (o : Data) (ms : history.Members) (r now : ℕ) → create_fault kind (new_name kind ns o ms r).name now o ≡ None → IsFilled (new_name kind ns o ms r).name
+pub filled_new : (kind : Kind) (ns : List ℕ) (o : Data) (ms : history.Members) (r now : ℕ) → create_fault kind (new_name kind ns o ms r).name now (with_first_status kind o) ≡ None → IsFilled (new_name kind ns o ms r).name
 filled_new kind ns o ms r now none =
     let made = (new_name kind ns o ms r).name in
-    let first = met (is_name_valid o) field.Name _ none in
-    let second = met (is_generate_name_valid made o) field.GenerateName _ first.1 in
-    filled_name made (valid_name (is_free kind ns ms) (name o) (generate_name o) (r + 1) o refl first.0 second.0)
+    let d = with_first_status kind o in
+    let first = met (is_name_valid d) field.Name _ none in
+    let second = met (is_generate_name_valid made d) field.GenerateName _ first.1 in
+    let named : name o ≡ name d = ap (text_in (codes "name")) (sym (metadata_of-first kind o)) in
+    let given : generate_name o ≡ generate_name d = ap (text_in (codes "generateName")) (sym (metadata_of-first kind o)) in
+    filled_name made
+    (valid_name (is_free kind ns ms) (name o) (generate_name o) (r + 1) d (sym given) (ap (λ n. is_name n d) named ∙ first.0)
+    (ap₂ (λ n g. is_some n || passes_if_there (generates made) g) named given ∙ second.0))
 
 one_name : (t : List ℕ) → IsFilled t → One 98 Metadata (codes "name") (string t)
 one_name t h = (refl, h, tt, omega arith, refl)

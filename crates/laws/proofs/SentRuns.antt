@@ -19,7 +19,7 @@ use Rattle.definitions.specs.RequestQueries.{Query}
 use Rattle.definitions.specs.Revisions.{revision_of}
 use Rattle.definitions.specs.Values.{data_of}
 use Rattle.definitions.specs.Refusals.{Refusal, bad_request, method_not_allowed, too_large}
-use Rattle.definitions.specs.Targets.{Asked, request, list, watch, Route, collection, object_at, status_of, route, path_of, decoded, query_for, names_namespace, is_allowed, body_or, body_of, asks_with, with_body, delete_options, deletes_with, read_as, selected, asked, asked_with, asked_at, read_request}
+use Rattle.definitions.specs.Targets.{Asked, request, list, watch, Route, collection, object_at, status_of, route, path_of, decoded, query_for, names_namespace, is_allowed, is_too_long, body_or, body_of, asks_with, with_body, delete_options, deletes_with, read_as, selected, asked, asked_with, asked_at, read_request}
 use Rattle.definitions.specs.Verbs.{Request, create_object, update_object, update_status, patch_object, accept, with_write, write_of}
 use Rattle.definitions.specs.DeleteOptions.{Options}
 use Rattle.definitions.specs.History as history
@@ -58,12 +58,8 @@ ordered_or : (o : Option Data) → IfSome o HasOrders → IsOrderedBody (body_or
 ordered_or None h = tt
 ordered_or (Some d) h = h
 
-ordered_unless : (b : Bool) (r : Result Data Refusal) → IsOrderedBody r → IsOrderedBody (cond b (Err too_large) r)
-ordered_unless true r h = tt
-ordered_unless false r h = h
-
 ordered_body : (text : List ℕ) → IsOrderedBody (body_of text)
-ordered_body text = ordered_unless (nat_lt 1048576 (length text)) (body_or (data_of text)) (ordered_or (data_of text) (ordered_data (is_utf8 text) text))
+ordered_body text = ordered_or (data_of text) (ordered_data (is_utf8 text) text)
 
 well_with : (f : Data → Request) (r : Result Data Refusal) → ((d : Data) → HasOrders d → IsAsked (f d)) → IsOrderedBody r → AsksWell (asks_with f r)
 well_with f (Err e) each h = tt
@@ -104,7 +100,7 @@ well_asked Delete (status_of n) q text h = tt
 
 well_query : (method : Method) (r : Route) (text : List ℕ) (o : Result Query Part) → names_namespace r ≡ true → AsksWell (asked_with method r text o)
 well_query method r text (Err p) h = tt
-well_query method r text (Ok q) h = well_asked method r q text h
+well_query method r text (Ok q) h = well_or (is_too_long text) too_large (asked method r q text) (λ _. well_asked method r q text h)
 
 not_false : (b : Bool) → not b ≡ false → b ≡ true
 not_false true h = refl

@@ -15,17 +15,17 @@ use Rattle.definitions.specs.declared.schemas.Schema.TheVariants.{Metadata}
 use Rattle.definitions.specs.Checks.{create_fault, update_fault, is_status_valid, finalizers}
 use Rattle.definitions.specs.DeleteOptions.{Options}
 use Rattle.definitions.specs.Deletion.{Fate, remove, mark, keep, decided, fate, kept_code, leaves, left_by, marked, removal_of, with_deletion}
-use Rattle.definitions.specs.Kinds.{has_generation}
+use Rattle.definitions.specs.Kinds.{has_generation, has_status}
 use Rattle.definitions.specs.Names.{Name}
 use Rattle.definitions.specs.History as history
 use Rattle.definitions.specs.History.{History, members, found, present}
 use Rattle.definitions.specs.Metadata.{is_other, differs, metadata_of, name, namespace, uid, version, at_revision, is_being_deleted}
-use Rattle.definitions.specs.NewObjects.{created, first_status, new_metadata, with_status}
+use Rattle.definitions.specs.NewObjects.{created, first_status, new_metadata, with_first_status, with_status}
 use Rattle.definitions.specs.Reading.{reading, is_body}
-use Rattle.definitions.specs.Refusals.{bad_request, already_exists, invalid, too_large, storage_full}
+use Rattle.definitions.specs.Refusals.{bad_request, not_found, already_exists, invalid, too_large, storage_full}
 use Rattle.definitions.specs.Replacements.{generation, in_place, is_let_go, is_new_generation, next_generation, said_status, says_the_same, updated, with_next_generation, with_said_status}
 use Rattle.definitions.specs.Values.{inner_of, members_of, merged}
-use Rattle.definitions.specs.Verbs.{Request, get_object, list_objects, create_object, update_object, update_status, patch_object, delete_object, accept, by_decision, by_fate, delete, removed, stored, shown, said, create_read, create_checked, create_as, new_name, update_read, replace, replace_with, replace_changed, let_go, put_in_place, status_read, restate, restate_with, patch, patch_read, names_path, is_too_large, is_past_greatest, most_objects}
+use Rattle.definitions.specs.Verbs.{Request, get_object, list_objects, create_object, update_object, update_status, patch_object, delete_object, accept, by_decision, by_fate, delete, removed, stored, shown, said, create_read, create_checked, create_as, new_name, update_read, replace, replace_with, replace_changed, let_go, put_in_place, status_read, restate, restate_with, patch, patch_read, names_path, is_too_large, is_past_greatest, most_objects, status_put}
 use Rattle.laws.proofs.Guards.{there, either}
 use Rattle.laws.proofs.HeldMembers.{name-new_metadata, namespace-new_metadata, uid-new_metadata, name-in_place, namespace-in_place, uid-in_place, text-with_next_generation}
 use Rattle.definitions.proofs.JsonMembers.{apart, text_in, text_in-put_other, metadata_of-with}
@@ -36,7 +36,8 @@ use Rattle.laws.proofs.NeatMembers.{Neat, Neat-put, IsFilled, One}
 use Rattle.laws.proofs.NestedOrder.{HasOrders}
 use Rattle.laws.proofs.TextLengths.{put_twice}
 use Rattle.laws.proofs.VerbLaws.{text-with_deletion}
-use Rattle.laws.proofs.WholeObjects.{AreWhole, get-members_of, may_first, neat_metadata, ordered_metadata, orders_merged, whole_in_place, whole_read, whole_said, whole_status, whole_with_said}
+use Rattle.definitions.proofs.FirstStatus.{get-members_of}
+use Rattle.laws.proofs.WholeObjects.{AreWhole, may_first, neat_metadata, ordered_metadata, orders_merged, whole_in_place, whole_read, whole_said, whole_status, whole_with_said}
 use Rattle.laws.proofs.SentObjects.{IsStored, IsHeld, IsAsked, Says, stored_in, stored_at, whole_stored, filled_new, neat_generation, neat_new, ordered_generation, ordered_new, Stores, low_after, either_false, behind, behind_field, by_if_same, by_put}
 
 -- ---- create
@@ -63,7 +64,7 @@ by_create kind ns d (Ok o) ms r moment is space now a =
       uid = ap is_some (uid-new_metadata kind (r + 1) ns k.name moment (metadata_of o));
     } in
     behind (r + 1) (is_other (namespace o) ns || is_some (version o)) (bad_request part.Object) (create_checked k o ms r moment)
-    (λ _. behind_field (r + 1) k (create_fault kind k.name r o) (create_as k (created kind (r + 1) ns k.name moment o) ms r)
+    (λ _. behind_field (r + 1) k (create_fault kind k.name r (with_first_status kind o)) (create_as k (created kind (r + 1) ns k.name moment o) ms r)
     (λ none. by_create_as k (created kind (r + 1) ns k.name moment o) ms r
     (λ fits low. stored_at k (r + 1) meta new (whole_status kind (first_status kind) (members_of o) (may_first kind) w)
     (neat_new kind (r + 1) ns k.name moment (metadata_of o) space (filled_new kind ns o ms r r none) now (neat_metadata kind o w))
@@ -148,15 +149,19 @@ by_restate k o r s held w was =
     (λ _. either (Stores (r + 1)) (says_the_same held d) (shown held) _ (λ _. tt)
     (λ _. by_put k (at_revision (r + 1) (metadata_of d) d) r (λ fits low. stored_at k (r + 1) (metadata_of d) d made (neat_metadata k.kind d made) (ordered_metadata k.kind d made) says low fits)))
 
-by_status : (k : Name) (d : Data) (read : Result Data Part) (ms : history.Members) (r : ℕ) → reading k.kind d ≡ read → HasOrders d → IfSome (found k ms) (IsHeld k)
-    → Stores (r + 1) (status_read k read ms r)
-by_status k d (Err p) ms r is a held = tt
-by_status k d (Ok o) ms r is a held =
+by_status_put : (k : Name) (d : Data) (read : Result Data Part) (ms : history.Members) (r : ℕ) → reading k.kind d ≡ read → HasOrders d → IfSome (found k ms) (IsHeld k)
+    → Stores (r + 1) (status_put k read ms r)
+by_status_put k d (Err p) ms r is a held = tt
+by_status_put k d (Ok o) ms r is a held =
     behind (r + 1) (not (names_path k o)) (bad_request part.Object) _
     (λ path. there (Stores (r + 1)) (λ f. tt) k (restate_with k o r) (found k ms)
     (λ was at.
     let there_is = subst (λ x. IfSome x (IsHeld k)) at held in
     by_if_same (r + 1) k o was (restate k was (with_said_status k.kind was o) r) (by_restate k o r there_is.0 was (whole_read k.kind d o is a) there_is.1)))
+
+by_status : (k : Name) (d : Data) (read : Result Data Part) (ms : history.Members) (r : ℕ) → reading k.kind d ≡ read → HasOrders d → IfSome (found k ms) (IsHeld k)
+    → Stores (r + 1) (status_read k read ms r)
+by_status k d read ms r is a held = behind (r + 1) (not (has_status k.kind)) (not_found k) (status_put k read ms r) (λ _. by_status_put k d read ms r is a held)
 
 -- ---- patch
 

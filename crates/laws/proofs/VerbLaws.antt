@@ -29,7 +29,7 @@ use Rattle.laws.proofs.Guards.{there}
 use Rattle.definitions.proofs.JsonMembers.{apart, text_in, text_in-put_other, metadata_of-with}
 use Rattle.laws.proofs.HeldMembers.{at_most, version-at_revision, text-at_revision, uid-created, moved, uid-in_place, creation-in_place, text-updated, text-with_next_generation}
 use Rattle.laws.proofs.Past.{set, writes-append}
-use Rattle.laws.proofs.WholeObjects.{get-members_of}
+use Rattle.definitions.proofs.FirstStatus.{get-members_of}
 use Rattle.definitions.proofs.PutLaws.{found-after_all, name_cmp_total}
 
 pub versions : WritesCarryTheirRevision

@@ -10,7 +10,7 @@ use Rattle.definitions.specs.Metadata.{name}
 use Rattle.definitions.specs.Reading.{reading}
 use Rattle.definitions.specs.Selectors.{Requirement, meets_all}
 use Rattle.definitions.specs.SelectorValues.{said_by_value}
-use Rattle.definitions.specs.NewObjects.{created}
+use Rattle.definitions.specs.NewObjects.{created, with_first_status}
 
 abbrev pub HasTemplate : Kind → Type 0
 HasTemplate k = (k ≡ ReplicaSet) ⊎ (k ≡ Deployment)
@@ -35,7 +35,7 @@ UpdatedSelectTheirTemplates =
 abbrev pub StoredPassAgain : Type 0
 StoredPassAgain =
     (k : Kind) (under : List ℕ) (present later : ℕ) (r : ℕ) (namespace moment : List ℕ) (d : Data) → present ≤ later → IfSome (name d) (λ n. n ≡ under)
-    → create_fault k under present d ≡ None → create_fault k under later (created k r namespace under moment d) ≡ None
+    → create_fault k under present (with_first_status k d) ≡ None → create_fault k under later (with_first_status k (created k r namespace under moment d)) ≡ None
 
 -- a read object with its defaults reads as itself
 abbrev pub DefaultsReadAgain : Type 0

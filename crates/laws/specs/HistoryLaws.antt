@@ -5,13 +5,14 @@ use Rattle.std.specs.List.Sorted.{IsStrictlySortedBy}
 use Rattle.serde_json.specs.Data.{Data}
 use Rattle.serde_json.specs.Written.{compact_text}
 use Rattle.definitions.specs.declared.kinds.Kind.{Kind}
+use Rattle.definitions.specs.declared.methods.Method.{Method}
 use Rattle.definitions.specs.Lines.{Session, start, after_lines, history_of}
 use Rattle.definitions.specs.Names.{Name, name_cmp, is_named}
 use Rattle.definitions.specs.History.{History, Members, Write, write, writes, CanHappen, present, found, members, state, View, list, seen}
 use Rattle.definitions.specs.Refusals.{Refusal}
 use Rattle.definitions.specs.Metadata.{metadata_text, uid, version}
 use Rattle.definitions.specs.Reading.{reading}
-use Rattle.definitions.specs.Targets.{Asked, Route, route, path_text, with_body}
+use Rattle.definitions.specs.Targets.{Asked, Route, route, path_text, read_request}
 use Rattle.definitions.specs.Uids.{uid_text, uid_revision, cluster_word}
 use Rattle.definitions.specs.Verbs.{Request, get_object, list_objects, create_object, update_object, update_status, patch_object, delete_object, Outcome, refused, accept_at, accept, write_of, outcome_body, history_after, overflows}
 
@@ -115,9 +116,9 @@ UidsHoldRevisions = (cluster r : ℕ) → r < 2 ^ 62 → uid_revision (uid_text 
 abbrev pub PathsAreRoutes : Type 0
 PathsAreRoutes = (t : List ℕ) (r : Route) → route t ≡ Some r → path_text r ≡ t
 
--- a body that is read is no longer than a body may be
+-- whatever is asked, by whatever method, the body is no longer than a body may be
 abbrev pub BodiesFit : Type 0
-BodiesFit = (f : Data → Request) (text : List ℕ) (q : Asked) → with_body f text ≡ Ok q → length text ≤ 1048576
+BodiesFit = (method : Method) (target text : List ℕ) (q : Asked) → read_request method target text ≡ Ok q → length text ≤ 1048576
 
 -- ---- runs
 

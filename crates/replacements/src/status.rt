@@ -23,7 +23,8 @@ use std::alloc::{AllocError, Global};
 use store::Store;
 use validate::is_status_valid;
 
-/// The status that a body says, in the place of that of the object under a key. Nothing else of the body is taken.
+/// The status that a body says, in the place of that of the object under a key. Nothing else of the body is taken. Of a
+/// kind that has no status none is found.
 pub fn update_status(
     alloc: Global,
     store: &Store,
@@ -32,6 +33,9 @@ pub fn update_status(
 ) -> Result<(Reply, Option<Write>), Fault>
     ensures { (moment : List ℕ) → Serves (accept_at (update_status (name_of key) (view body)) store.now.members store.now.revision moment) result }
 {
+    if !key.kind.has_status() {
+        return Err(Fault::NotFound(key));
+    }
     let object = Object::from_value(alloc, key.kind, body)?;
     if !names_path(&key, &object) {
         return Err(Fault::BadRequest(Part::Object));

@@ -1,16 +1,16 @@
 -- What the code's results say, as routes, data and refusals.
-use Rattle.std.specs.Prelude.{◌≡◌, ℕ, List, Result, Ok, Err, false, length, nat_lt}
+use Rattle.std.specs.Prelude.{◌≡◌, ℕ, List, Result, Ok, Err}
 use Rattle.serde_json.specs.View.{view}
 use Rattle.serde_json.specs.declared.value.Value.{Value}
 use Rattle.definitions.specs.declared.refusals.Part.TheVariants as part
-use Rattle.definitions.specs.Refusals.{Refusal, bad_request, no_such_path, method_not_allowed, too_large}
-use Rattle.definitions.specs.Targets.{Route, body_of, longest_body}
+use Rattle.definitions.specs.Refusals.{Refusal, bad_request, no_such_path, method_not_allowed}
+use Rattle.definitions.specs.Targets.{Route, body_of}
 use Rattle.routes.specs.Seen.{route_seen}
 use Rattle.routes.specs.declared.targets.Target.{Target}
 use Rattle.requests.specs.declared.check.CheckFault.{CheckFault}
 use Rattle.requests.specs.declared.check.CheckFault.TheVariants.{NoSuchPath, BadNamespace, MethodNotAllowed}
 use Rattle.requests.specs.declared.body.BodyFault.{BodyFault}
-use Rattle.requests.specs.declared.body.BodyFault.TheVariants.{TooLarge, NotJson, NoMemory}
+use Rattle.requests.specs.declared.body.BodyFault.TheVariants.{NotJson, NoMemory}
 
 -- the refusal that a fault of the checks is
 abbrev pub check_refusal : CheckFault → Refusal
@@ -22,9 +22,8 @@ abbrev pub checked_seen : Result Target CheckFault → Result Route Refusal
 checked_seen (Ok t) = Ok (route_seen t)
 checked_seen (Err e) = Err (check_refusal e)
 
--- the result of reading a body is the body's, but that memory may run out where it is not too long
+-- the result of reading a body is the body's, but that memory may run out
 abbrev pub ReadsBody : List ℕ → Result Value BodyFault → Type 0
 ReadsBody text (Ok v) = body_of text ≡ Ok (view v)
-ReadsBody text (Err TooLarge) = body_of text ≡ Err too_large
 ReadsBody text (Err NotJson) = body_of text ≡ Err (bad_request part.Body)
-ReadsBody text (Err NoMemory) = nat_lt longest_body (length text) ≡ false
+ReadsBody text (Err NoMemory) = Unit {0}

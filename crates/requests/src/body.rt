@@ -1,8 +1,9 @@
 //! Bodies of requests.
-ghost use Rattle.std.specs.Prelude.{◌≤◌, IfOk};
+ghost use Rattle.std.specs.Prelude.{◌≡◌, ◌≤◌, IfOk};
 ghost use Rattle.serde_json.specs.Data.{depth};
 ghost use Rattle.serde_json.specs.Read.{max_depth};
 ghost use Rattle.serde_json.specs.View.{view};
+ghost use Rattle.definitions.specs.Targets.{is_too_long};
 ghost use Rattle.requests.specs.Seen.{ReadsBody};
 
 use serde_json::Value;
@@ -11,25 +12,27 @@ use std::alloc::Global;
 /// The greatest length of a body, in bytes.
 pub const LONGEST_BODY: usize = 1_048_576;
 
+/// Whether a body is longer than `LONGEST_BODY`.
+pub fn is_too_long(text: &[u8]) -> bool
+    ensures { result ≡ is_too_long text.now }
+{
+    text.len() > LONGEST_BODY
+}
+
 /// Why a body is not read.
 #[derive(Clone, Copy, Debug, PartialEq, Eq)]
 pub enum BodyFault {
-    /// It is longer than `LONGEST_BODY`.
-    TooLarge,
     /// It is no JSON in UTF-8.
     NotJson,
     /// Memory was wanted and refused.
     NoMemory,
 }
 
-/// The JSON of a body in UTF-8, of at most `LONGEST_BODY` bytes.
+/// The JSON of a body in UTF-8.
 pub fn read_body(alloc: Global, text: &[u8]) -> Result<Value, BodyFault>
     ensures body { ReadsBody text.now result }
     ensures nests { IfOk result (λ value. depth (view value) ≤ max_depth) }
 {
-    if text.len() > LONGEST_BODY {
-        return Err(BodyFault::TooLarge);
-    }
     match Value::from_slice(alloc, text) {
         Ok(value) => Ok(value),
         Err(error) if error.is_memory() => Err(BodyFault::NoMemory),

@@ -2,6 +2,7 @@
 use crate::changes::changes_between;
 use crate::events::Event;
 use crate::past::{put_in, state_at};
+use meta::lent_members::Member;
 use meta::stored::StoredObject;
 use meta::writes::Write;
 use selector::View;
@@ -29,6 +30,7 @@ impl Model for Journal {
 
 impl Journal {
     ghost use Rattle.std.specs.Prelude.{◌≡◌, ◌++◌, ◌∷◌, [], ◌+◌, IfOk, OnOk, OnErr, length, map, option_map, take, ◌-◌};
+    ghost use Rattle.meta.specs.Members.{member_of};
     ghost use Rattle.meta.specs.Writes.{write_of};
     ghost use Rattle.selector.specs.Views.{view_of};
     ghost use Rattle.definitions.specs.History as history;
@@ -75,21 +77,25 @@ impl Journal {
         put_in(self.writes.as_slice(), place)
     }
 
-    /// The objects of a view as they were at a revision, in the order of their keys. The error is want of memory.
+    /// The objects of a view as they were at a revision, each with its key, in the order of the keys. The error is want of
+    /// memory.
     pub fn list_at<'a>(
         &'a self,
         alloc: Global,
         view: &View,
         revision: u64,
-    ) -> Result<Vec<&'a StoredObject>, AllocError>
-        ensures { IfOk result (λ found. map (λ o. o.now.value) found.items
-            ≡ map (λ m. m.1) (list self.entry.now (view_of view.entry.now) revision)) }
+    ) -> Result<Vec<Member<'a>>, AllocError>
+        ensures { IfOk result (λ found. map member_of found.items
+            ≡ list self.entry.now (view_of view.entry.now) revision) }
     {
         let state = state_at(alloc, self.writes.as_slice(), revision)?;
         let mut found = Vec::new(alloc);
         for (key, object) in state.iter() {
             if view.contains(*key, *object) {
-                found.push(*object)?;
+                found.push(Member {
+                    key: *key,
+                    object: *object,
+                })?;
             }
         }
         Ok(found)

@@ -29,7 +29,7 @@ fn label(object: Option<&StoredObject>) -> Option<&str> {
     object?.label("is")
 }
 
-/// The labels of what is listed, in its order, each with a space behind it.
+/// The names and labels of what is listed, in its order, each with a space behind it.
 fn listed(
     alloc: Global,
     journal: &Journal,
@@ -43,8 +43,10 @@ fn listed(
     };
     let found = journal.list_at(alloc, &View::whole(alloc, kind, namespace), revision)?;
     let mut labels = String::new(alloc);
-    for object in found.iter() {
-        labels.push_str(label(Some(*object)).unwrap_or("none"))?;
+    for member in found.iter() {
+        labels.push_str(member.key.name.as_str())?;
+        labels.push('=')?;
+        labels.push_str(label(Some(member.object)).unwrap_or("none"))?;
         labels.push(' ')?;
     }
     Ok(labels)
@@ -72,18 +74,18 @@ fn lists_what_was_there_at_each_revision(rt: HostRuntime) -> Result<(), Fail> {
     let cases = [
         (Kind::ConfigMap, None, 0, ""),
         (Kind::ConfigMap, None, 1, ""),
-        (Kind::ConfigMap, None, 2, "b1 "),
-        (Kind::ConfigMap, None, 3, "a1 b1 "),
-        (Kind::ConfigMap, None, 4, "a1 b2 "),
-        (Kind::ConfigMap, None, 5, "b2 "),
-        (Kind::ConfigMap, None, 6, "c1 b2 "),
-        (Kind::ConfigMap, None, 7, "c1 b2 "),
-        (Kind::ConfigMap, None, u64::MAX, "c1 b2 "),
-        (Kind::ConfigMap, Some("default"), 6, "b2 "),
-        (Kind::ConfigMap, Some("apps"), 6, "c1 "),
+        (Kind::ConfigMap, None, 2, "b=b1 "),
+        (Kind::ConfigMap, None, 3, "a=a1 b=b1 "),
+        (Kind::ConfigMap, None, 4, "a=a1 b=b2 "),
+        (Kind::ConfigMap, None, 5, "b=b2 "),
+        (Kind::ConfigMap, None, 6, "c=c1 b=b2 "),
+        (Kind::ConfigMap, None, 7, "c=c1 b=b2 "),
+        (Kind::ConfigMap, None, u64::MAX, "c=c1 b=b2 "),
+        (Kind::ConfigMap, Some("default"), 6, "b=b2 "),
+        (Kind::ConfigMap, Some("apps"), 6, "c=c1 "),
         (Kind::ConfigMap, Some("apps"), 5, ""),
         (Kind::Pod, None, 6, ""),
-        (Kind::Pod, None, 7, "p1 "),
+        (Kind::Pod, None, 7, "b=p1 "),
     ];
     for (kind, namespace, revision, labels) in cases {
         assert_eq!(rt;

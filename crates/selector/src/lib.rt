@@ -9,7 +9,6 @@ mod owned;
 pub mod requirements;
 pub mod selectors;
 mod texts;
-mod value_types;
 mod values;
 pub mod views;
 

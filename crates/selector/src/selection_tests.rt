@@ -176,6 +176,23 @@ fn values_match_labels(rt: HostRuntime) -> Result<(), Fail> {
             r#"{"matchExpressions":[{"key":"tier","operator":"Gt","values":["1"]}]}"#,
             Err(Fault::Invalid),
         ),
+        (r#"{"matchLabels":null,"matchExpressions":null}"#, Ok(true)),
+        (r#"{"matchLabels":{"app":"web","tier":null}}"#, Ok(true)),
+        (
+            r#"{"matchExpressions":[{"key":"app","operator":"Exists","values":null}]}"#,
+            Ok(true),
+        ),
+        (
+            r#"{"matchExpressions":[{"key":null,"operator":"Exists"}]}"#,
+            Err(Fault::Invalid),
+        ),
+        (
+            r#"{"matchExpressions":[{"key":"app","operator":"Exists","values":[null]}]}"#,
+            Err(Fault::Malformed),
+        ),
+        (r#"{"more":[{"a":1}]}"#, Ok(true)),
+        (r#"{"more":[{"a":1.5}]}"#, Err(Fault::Malformed)),
+        (r#"{"more":18446744073709551616}"#, Err(Fault::Malformed)),
         (r#"{"matchLabels":{"a b":"c"}}"#, Err(Fault::Invalid)),
         (r#"{"matchLabels":{"a":1}}"#, Err(Fault::Malformed)),
         (r#"{"matchExpressions":{}}"#, Err(Fault::Malformed)),

@@ -10,7 +10,6 @@ ghost use Rattle.selector.specs.Seen.{RefusesText, RefusesValue, labels_in, requ
 use crate::faults::{Fault, Stop};
 use crate::requirements::Requirement;
 use crate::texts::requirements;
-use crate::value_types::is_typed;
 use crate::values;
 use meta::stored::StoredObject;
 use serde_json::Value;
@@ -86,13 +85,14 @@ impl Selector {
         }
     }
 
-    /// Reads a value, as a `spec.selector` is. An empty object matches all. The errors are a member of a wrong type, a
-    /// key, an operator or values that do not go, and want of memory.
+    /// Reads a value, as a `spec.selector` is: a member that is null counts as absent. An empty object matches all. The
+    /// errors are a number that is no whole number of 64 bits or a member of a wrong type; a key, an operator or values
+    /// that do not go; and want of memory.
     pub fn of_value(alloc: Global, value: &Value) -> Result<Selector, Fault>
         ensures read { IfOk result (λ s. said_by_value (view value.now) ≡ Ok s) }
         ensures refused { IfErr result (RefusesValue (said_by_value (view value.now))) }
     {
-        if !is_typed(value) {
+        if !values::is_whole(value) {
             return Err(Fault::Malformed);
         }
         match values::requirements(alloc, value) {

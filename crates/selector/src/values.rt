@@ -1,8 +1,9 @@
-//! What a selector's value says, whose members have their types.
-ghost use Rattle.std.specs.Prelude.{◌≡◌, codes, Some, None, [], ◌∷◌, if◌then◌else◌};
+//! What a selector's value says.
+ghost use Rattle.std.specs.Prelude.{◌≡◌, ◌&&◌, not, Some, None, [], ◌∷◌, if◌then◌else◌};
 ghost use Rattle.serde_json.specs.View.{view, items_view, members_view};
-ghost use Rattle.serde_json.specs.Find.{get};
-ghost use Rattle.definitions.specs.SelectorValues.{both, expression_requirement, expression_requirements, fitting, item_values, items_in, label_requirements, operator_named, text_in};
+ghost use Rattle.serde_json.specs.Written.{has_float};
+ghost use Rattle.definitions.specs.Reading.{fits, tidied};
+ghost use Rattle.definitions.specs.SelectorValues.{expression_requirement, expression_requirements, fitting, item_values, items_in, label_requirements, operator_named, requirements_in, selector_shape, text_in};
 ghost use Rattle.definitions.specs.Selectors.{each_read, label_key, label_value, requiring};
 ghost use Rattle.definitions.specs.Values.{inner_of};
 ghost use Rattle.selector.specs.Seen.{Reads, found_value, requirement_of, requirements_of, texts_of};
@@ -11,9 +12,15 @@ use crate::faults::Stop;
 use crate::owned::{own_key, own_value};
 use crate::requirements::Requirement;
 use crate::texts::single;
+use definitions::schemas::{Schema, Shape};
 use definitions::selectors::Operator;
+use meta::reading::{fits, tidy};
+use meta::values::has_float;
 use serde_json::{Map, Value};
 use std::alloc::Global;
+
+/// What a selector has to be.
+const SHAPE: Shape = Shape::Object(Schema::Selector);
 
 /// A text, or the empty one where none is.
 fn text_in<'v>(found: Option<&'v Value>) -> &'v str
@@ -91,7 +98,7 @@ fn listed(alloc: Global, found: Option<&Value>) -> Result<Vec<String>, Stop>
 }
 
 /// Whether values go with an operator: some, or none.
-fn fits(operator: Operator, values: &Vec<String>) -> bool
+fn goes_with(operator: Operator, values: &Vec<String>) -> bool
     ensures { fitting operator (texts_of values.now.items) ≡ (if result then Some (texts_of values.now.items) else None) }
 {
     match operator {
@@ -105,7 +112,7 @@ fn fits(operator: Operator, values: &Vec<String>) -> bool
 fn fitting(operator: Operator, values: Vec<String>) -> Result<Vec<String>, Stop>
     ensures { Reads (λ v. texts_of v.items) result (fitting operator (texts_of values.items)) }
 {
-    if !fits(operator, &values) {
+    if !goes_with(operator, &values) {
         return Err(Stop::Refused);
     }
     Ok(values)
@@ -165,13 +172,27 @@ fn expressions_in(alloc: Global, found: Option<&Value>) -> Result<Vec<Requiremen
     }
 }
 
-/// The requirements of a value whose known members have their types.
-pub(crate) fn requirements(alloc: Global, value: &Value) -> Result<Vec<Requirement>, Stop>
-    ensures { Reads (λ v. requirements_of v.items) result (both (label_requirements (inner_of (get (codes "matchLabels") (view value.now))))
-        (expression_requirements (items_in (get (codes "matchExpressions") (view value.now))))) }
+/// The requirements of a value without null members, whose known members have their types.
+fn requirements_in(alloc: Global, value: &Value) -> Result<Vec<Requirement>, Stop>
+    ensures { Reads (λ v. requirements_of v.items) result (requirements_in (view value.now)) }
 {
     let mut found = labels_in(alloc, value.get("matchLabels"))?;
     let mut others = expressions_in(alloc, value.get("matchExpressions"))?;
     found.append(&mut others)?;
     Ok(found)
+}
+
+/// Whether each number in a selector's value is whole, and its known members have their types.
+pub(crate) fn is_whole(value: &Value) -> bool
+    ensures { result ≡ (not (has_float (view value.now)) && fits selector_shape (view value.now)) }
+{
+    !has_float(value) && fits(value, SHAPE)
+}
+
+/// The requirements of such a value, of which the members that are null count as absent.
+pub(crate) fn requirements(alloc: Global, value: &Value) -> Result<Vec<Requirement>, Stop>
+    ensures { Reads (λ v. requirements_of v.items) result (requirements_in (tidied selector_shape (view value.now))) }
+{
+    let said = tidy(value.clone()?, SHAPE)?;
+    requirements_in(alloc, &said)
 }

@@ -15,7 +15,7 @@ use definitions::methods::Method;
 use definitions::refusals::Part;
 use lifecycle::DeleteOptions;
 use meta::{Fault, Key};
-use requests::body::{BodyFault, read_body};
+use requests::body::{BodyFault, is_too_long, read_body};
 use requests::check::{CheckFault, check_request, decode};
 use requests::collections::{Collection, Read};
 use requests::faults::QueryFault;
@@ -28,7 +28,7 @@ use std::alloc::{AllocError, Global};
 use verbs::Request;
 
 /// What a method, a target and a body ask. The error is the first refusal: of the path, the method, the query, the
-/// body; or want of memory.
+/// length of the body, which each method looks at, what the body says; or want of memory.
 pub fn read_request(
     alloc: Global,
     routes: &Routes,
@@ -46,7 +46,7 @@ pub fn read_request(
     }
 }
 
-/// What a method asks of a target that passed the checks, with its query.
+/// What a method asks of a target that passed the checks, with its query, if the body is not too long.
 fn ask_with(
     alloc: Global,
     method: Method,
@@ -58,6 +58,7 @@ fn ask_with(
         (query_for method (route_seen named.entry) target.now)) result }
 {
     match read_query(alloc, method, named, target) {
+        Ok(_) if is_too_long(body) => Err(Fault::TooLarge),
         Ok(query) => ask(alloc, method, named, query, body),
         Err(QueryFault::BadQuery) => Err(Fault::BadRequest(Part::Query)),
         Err(QueryFault::BadToken) => Err(Fault::BadRequest(Part::Token)),
@@ -65,7 +66,7 @@ fn ask_with(
     }
 }
 
-/// What a method asks of a target, with a query.
+/// What a method asks of a target, with a query and a body that is not too long.
 fn ask(
     alloc: Global,
     method: Method,
@@ -153,7 +154,6 @@ fn read(alloc: Global, body: &[u8]) -> Result<Value, Fault>
 {
     match read_body(alloc, body) {
         Ok(value) => Ok(value),
-        Err(BodyFault::TooLarge) => Err(Fault::TooLarge),
         Err(BodyFault::NotJson) => Err(Fault::BadRequest(Part::Body)),
         Err(BodyFault::NoMemory) => Err(Fault::NoMemory),
     }

@@ -40,7 +40,7 @@ impl Model for Session {
 impl Session {
     ghost use Rattle.std.specs.Prelude.{◌≡◌, IfOk, OnOk, OnErr, IfSome, option_map, false};
     ghost use Rattle.answers.specs.Serves as answers;
-    ghost use Rattle.desk.specs.Replies.{Replies};
+    ghost use Rattle.desk.specs.Replies.{Lists};
     ghost use Rattle.desk.specs.Seen.{watched_of};
     ghost use Rattle.watch_cache.specs.Served.{Serves};
     ghost use Rattle.definitions.specs.Lines.{outcome, reply_text, watch_reply};
@@ -113,7 +113,7 @@ impl Session {
 
     /// The reply to a list, or why it is refused.
     fn listed(&self, alloc: Global, view: &View, options: &ListOptions) -> Result<Reply, Fault>
-        ensures { Replies (list_served self.now.server (view_of view.now) (list_seen options.now)) result }
+        ensures { Lists (list_served self.now.server (view_of view.now) (list_seen options.now)) result }
     {
         let after = options.after.as_ref();
         self.server

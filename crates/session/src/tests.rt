@@ -103,6 +103,12 @@ fn a_body_of_more_than_a_mebibyte_is_too_large(rt: HostRuntime) -> Result<(), Fa
     line.resize(43 + 1_048_577, b' ')?;
     assert!(rt; answers(alloc, &mut session, line.as_slice(), TOO_LARGE)?);
     assert!(rt; answers(alloc, &mut session, LIST, EMPTY)?);
+    line.clear();
+    line.extend_from_slice(b"GET /api/v1/namespaces/default/configmaps ")?;
+    line.resize(42 + 1_048_576, b' ')?;
+    assert!(rt; answers(alloc, &mut session, line.as_slice(), EMPTY)?);
+    line.push(b' ')?;
+    assert!(rt; answers(alloc, &mut session, line.as_slice(), TOO_LARGE)?);
     Ok(())
 }
 

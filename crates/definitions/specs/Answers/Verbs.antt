@@ -13,7 +13,7 @@ use Rattle.definitions.specs.declared.refusals.Field.TheVariants as field
 use Rattle.definitions.specs.Objects.Checks.{generate_name, create_fault, update_fault, is_status_valid}
 use Rattle.definitions.specs.Objects.Defaults.{defaulted}
 use Rattle.definitions.specs.Texts.GeneratedNames.{name_from}
-use Rattle.definitions.specs.Texts.Kinds.{api_version, kind_text}
+use Rattle.definitions.specs.Texts.Kinds.{api_version, kind_text, has_status}
 use Rattle.definitions.specs.Texts.Names.{Name}
 use Rattle.definitions.specs.State.History as history
 use Rattle.definitions.specs.State.History.{History, Write, write, View, viewed, members, found, present}
@@ -22,7 +22,7 @@ use Rattle.definitions.specs.Answers.Deletion.{Fate, remove, mark, keep, decided
 use Rattle.definitions.specs.Objects.Metadata.{metadata_of, at_revision, name, namespace, uid, version, is_other, differs}
 use Rattle.definitions.specs.Objects.Reading.{is_body, reading}
 use Rattle.definitions.specs.Answers.Refusals.{Refusal, bad_request, not_found, already_exists, conflict, invalid, too_large, storage_full, code, status_body}
-use Rattle.definitions.specs.Objects.NewObjects.{created}
+use Rattle.definitions.specs.Objects.NewObjects.{created, with_first_status}
 use Rattle.definitions.specs.Objects.Replacements.{in_place, is_let_go, says_the_same, updated, with_said_status}
 use Rattle.definitions.specs.Texts.Revisions.{greatest_revision}
 use Rattle.definitions.specs.Objects.Values.{members_of, merged, without}
@@ -154,9 +154,9 @@ is_free kind ns ms name = not (is_some (found (record { kind = kind; namespace =
 abbrev pub new_name : Kind → List ℕ → Data → history.Members → ℕ → Name
 new_name kind ns o ms r = record { kind = kind; namespace = ns; name = name_from (is_free kind ns ms) (name o) (generate_name o) (r + 1) }
 
--- each field of a new object is as it has to be
+-- each field of a new object, which has its first status by then, is as it has to be
 abbrev pub create_checked : Name → Data → history.Members → ℕ → List ℕ → Outcome
-create_checked k o ms r moment = refuse_field k (create_fault k.kind k.name r o) (create_as k (created k.kind (r + 1) k.namespace k.name moment o) ms r)
+create_checked k o ms r moment = refuse_field k (create_fault k.kind k.name r (with_first_status k.kind o)) (create_as k (created k.kind (r + 1) k.namespace k.name moment o) ms r)
 
 -- a new object names no other namespace than its path, and no version
 abbrev pub create_read : Kind → List ℕ → Result Data Part → history.Members → ℕ → List ℕ → Outcome
@@ -212,9 +212,13 @@ abbrev pub restate_with : Name → Data → ℕ → Data → Outcome
 restate_with k o r held = if_same k o held (restate k held (with_said_status k.kind held o) r)
 
 -- of the object that is there the status is replaced, and nothing else (Kubernetes API Conventions, Spec and Status)
+abbrev pub status_put : Name → Result Data Part → history.Members → ℕ → Outcome
+status_put k (Err p) ms r = refused (bad_request p)
+status_put k (Ok o) ms r = refuse_if (not (names_path k o)) (bad_request part.Object) (or_absent k (restate_with k o r) (found k ms))
+
+-- a kind without a status has none to be replaced, whatever the body says
 abbrev pub status_read : Name → Result Data Part → history.Members → ℕ → Outcome
-status_read k (Err p) ms r = refused (bad_request p)
-status_read k (Ok o) ms r = refuse_if (not (names_path k o)) (bad_request part.Object) (or_absent k (restate_with k o r) (found k ms))
+status_read k read ms r = refuse_if (not (has_status k.kind)) (not_found k) (status_put k read ms r)
 
 -- ---- patch
 

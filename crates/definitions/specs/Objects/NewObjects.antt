@@ -22,6 +22,10 @@ abbrev pub with_status : Option Data → Members → Members
 with_status None ms = ms
 with_status (Some s) ms = put (codes "status") s ms
 
+-- an object of a kind with its first status, whatever status a body says
+abbrev pub with_first_status : Kind → Data → Data
+with_first_status k o = object (with_status (first_status k) (members_of o))
+
 -- the first generation is 1 (Kubernetes API Conventions, Metadata)
 abbrev pub with_generation : Kind → Members → Members
 with_generation k meta = if has_generation k then put (codes "generation") (whole 1) meta else meta
@@ -35,4 +39,4 @@ new_metadata k r ns name moment meta =
 
 -- a new object of a kind, at a revision, in a namespace, under a name, of what a body says
 abbrev pub created : Kind → ℕ → List ℕ → List ℕ → List ℕ → Data → Data
-created k r ns name moment o = at_revision r (new_metadata k r ns name moment (metadata_of o)) (object (with_status (first_status k) (members_of o)))
+created k r ns name moment o = at_revision r (new_metadata k r ns name moment (metadata_of o)) (with_first_status k o)

@@ -1,12 +1,17 @@
 -- What a value says that selects by labels, as `spec.selector` does (Kubernetes API reference, LabelSelector).
-use Rattle.std.specs.Prelude.{ℕ, ◌&&◌, List, [], ◌∷◌, ◌++◌, Bool, true, false, codes, is_some, if◌then◌else◌, Option, None, Some, option_and_then, unwrap_or, Result, Ok, Err}
+use Rattle.std.specs.Prelude.{ℕ, ◌&&◌, ◌||◌, not, List, [], ◌∷◌, ◌++◌, Bool, true, false, codes, if◌then◌else◌, Option, None, Some, option_and_then, unwrap_or, Result, Ok, Err}
 use Rattle.std.specs.Str.{bytes_eq}
 use Rattle.serde_json.specs.Data.{Data, Items, no_items, item, Members, no_members, member}
-use Rattle.serde_json.specs.Find.{get, as_str, as_array, as_object}
+use Rattle.serde_json.specs.Find.{get, as_str, as_array}
+use Rattle.serde_json.specs.Written.{has_float}
+use Rattle.definitions.specs.declared.schemas.Shape.{Shape}
+use Rattle.definitions.specs.declared.schemas.Shape.TheVariants.{Object}
+use Rattle.definitions.specs.declared.schemas.Schema.TheVariants.{Selector}
 use Rattle.definitions.specs.declared.selectors.Operator.{Operator}
 use Rattle.definitions.specs.declared.selectors.Operator.TheVariants.{In, NotIn, Exists, DoesNotExist}
 use Rattle.definitions.specs.Texts.Selectors.{Requirement, each_read, label_key, label_value, only_if, put_first, requiring}
 use Rattle.definitions.specs.Objects.Values.{inner_of}
+use Rattle.definitions.specs.Objects.Reading.{fits, tidied}
 
 -- why a value selects nothing
 pub data Flaw : Type 0 where
@@ -15,44 +20,16 @@ pub data Flaw : Type 0 where
   -- a key, an operator or values that do not go
   unfit : Flaw
 
--- ---- types
+-- ---- what is there
 
 abbrev pub all_items : (Data → Bool) → Items → Bool
 all_items test no_items = true
 all_items test (item d ds) = test d && all_items test ds
 
-abbrev pub all_members : (Data → Bool) → Members → Bool
-all_members test no_members = true
-all_members test (member k d ms) = test d && all_members test ms
-
 -- the test of what is there
 abbrev pub passes : {A : Type 0} → (A → Bool) → Option A → Bool
 passes test None = false
 passes test (Some a) = test a
-
-abbrev pub is_absent_or : (Data → Bool) → Option Data → Bool
-is_absent_or test None = true
-is_absent_or test (Some d) = test d
-
-abbrev pub is_text : Data → Bool
-is_text d = is_some (as_str d)
-
-abbrev pub is_list_of : (Data → Bool) → Data → Bool
-is_list_of test d = passes (all_items test) (as_array d)
-
-abbrev pub is_object_of : (Data → Bool) → Data → Bool
-is_object_of test d = passes (all_members test) (as_object d)
-
-abbrev pub is_expression : Data → Bool
-is_expression d =
-    is_some (as_object d) && is_absent_or is_text (get (codes "key") d) && is_absent_or is_text (get (codes "operator") d)
-    && is_absent_or (is_list_of is_text) (get (codes "values") d)
-
--- the known members have their types
-abbrev pub is_typed : Data → Bool
-is_typed d =
-    is_some (as_object d) && is_absent_or (is_object_of is_text) (get (codes "matchLabels") d)
-    && is_absent_or (is_list_of is_expression) (get (codes "matchExpressions") d)
 
 -- ---- requirements
 
@@ -115,9 +92,14 @@ abbrev pub or_unfit : Option (List Requirement) → Result (List Requirement) Fl
 or_unfit None = Err unfit
 or_unfit (Some rs) = Ok rs
 
--- what a value says; an empty object says nothing
+-- what a selector has to be
+abbrev pub selector_shape : Shape
+selector_shape = Object Selector
+
+-- the requirements of a value without null members; an empty object has none
+abbrev pub requirements_in : Data → Option (List Requirement)
+requirements_in d = both (label_requirements (inner_of (get (codes "matchLabels") d))) (expression_requirements (items_in (get (codes "matchExpressions") d)))
+
+-- a value is read as an object is: each number is whole, the known members have their types, and what is null counts as absent
 abbrev pub said_by_value : Data → Result (List Requirement) Flaw
-said_by_value d =
-    if is_typed d
-    then or_unfit (both (label_requirements (inner_of (get (codes "matchLabels") d))) (expression_requirements (items_in (get (codes "matchExpressions") d))))
-    else Err mistyped
+said_by_value d = if has_float d || not (fits selector_shape d) then Err mistyped else or_unfit (requirements_in (tidied selector_shape d))

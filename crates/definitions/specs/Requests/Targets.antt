@@ -140,8 +140,12 @@ is_allowed Delete (status_of n) = false
 abbrev pub path_of : List ℕ → List ℕ
 path_of target = before_first (λ b. b == 63) target
 
+-- a body may be so long, whatever the method does with it
 abbrev pub longest_body : ℕ
 longest_body = 1048576
+
+abbrev pub is_too_long : List ℕ → Bool
+is_too_long text = nat_lt longest_body (length text)
 
 -- what is asked: a request of an object, the list of a view, or a watch of it (Kubernetes API Concepts, API verbs)
 pub data Asked : Type 0 where
@@ -153,9 +157,9 @@ abbrev pub body_or : Option Data → Result Data Refusal
 body_or None = Err (bad_request part.Body)
 body_or (Some d) = Ok d
 
--- the data of a body, or the first refusal: it is too long, it is no JSON in UTF-8
+-- the data of a body, or the refusal of what is no JSON in UTF-8
 abbrev pub body_of : List ℕ → Result Data Refusal
-body_of text = if nat_lt longest_body (length text) then Err too_large else body_or (data_of text)
+body_of text = body_or (data_of text)
 
 abbrev pub asks_with : (Data → Request) → Result Data Refusal → Result Asked Refusal
 asks_with f (Err e) = Err e
@@ -214,9 +218,10 @@ asked Delete (collection k ns) q text = Err method_not_allowed
 asked Delete (object_at n) q text = deletes_with n (delete_options q text)
 asked Delete (status_of n) q text = Err method_not_allowed
 
+-- what is asked, or the first refusal: of the query, of the length of the body, of what the body says
 abbrev pub asked_with : Method → Route → List ℕ → Result Query Part → Result Asked Refusal
 asked_with method r text (Err p) = Err (bad_request p)
-asked_with method r text (Ok q) = asked method r q text
+asked_with method r text (Ok q) = if is_too_long text then Err too_large else asked method r q text
 
 abbrev pub asked_at : Method → List ℕ → List ℕ → Option Route → Result Asked Refusal
 asked_at method target text None = Err no_such_path

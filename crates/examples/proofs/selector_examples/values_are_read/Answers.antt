@@ -4,4 +4,4 @@ use Rattle.examples.proofs.selector_examples.values_are_read.Goals as goal
 
 pub returns : goal.returns
 unfolding on_literals
-returns c = record { values_are_selectors = (refl, refl); values_are_refused = (refl, refl, refl, refl, refl, refl, refl) }
+returns c = record { values_are_selectors = (refl, refl, refl, refl); values_are_refused = (refl, refl, refl, refl, refl, refl, refl, refl, refl, refl, refl) }

@@ -1,14 +1,10 @@
-use Rattle.std.proofs.Common.{length, true≢false, sym}
+use Rattle.std.proofs.Common.{true≢false, sym}
 use Rattle.serde_json.specs.View.{view}
-use Rattle.requests.proofs.Texts.{is_short, body_of-read, body_of-unread}
+use Rattle.requests.proofs.Texts.{body_of-read, body_of-unread}
 use Rattle.requests.proofs.body.read_body.Goals as goal
 
 pub returns-in-Ok-clause-body : goal.returns-in-Ok-clause-body
-returns-in-Ok-clause-body c =
-    let t = c.args.text.now in
-    body_of-read t (view c.in-Ok.value) (is_short (length t) c.if-text-gt-LONGEST_BODY.false) c.in-Ok.ensures.ok.0 c.in-Ok.ensures.ok.1
+returns-in-Ok-clause-body c = body_of-read c.args.text.now (view c.in-Ok.value) c.in-Ok.ensures.ok.0 c.in-Ok.ensures.ok.1
 
 pub returns-in-Err-2-clause-body : goal.returns-in-Err-2-clause-body
-returns-in-Err-2-clause-body c =
-    let t = c.args.text.now in
-    body_of-unread t (is_short (length t) c.if-text-gt-LONGEST_BODY.false) (c.in-Err.ensures.err (λ m. true≢false (sym (c.if-is_memory.ensures.1 m))))
+returns-in-Err-2-clause-body c = body_of-unread c.args.text.now (c.in-Err.ensures.err (λ m. true≢false (sym (c.if-is_memory.ensures.1 m))))

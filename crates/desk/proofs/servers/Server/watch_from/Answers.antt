@@ -1,4 +1,4 @@
-use Rattle.std.proofs.Common.{◌≡◌, ◌<◌, ◌+◌, length, map, take, subst, ap, sym, ◌∙◌, Ok, arith}
+use Rattle.std.proofs.Common.{◌≡◌, ◌<◌, ◌+◌, length, map, take, ap, sym, ◌∙◌, Ok, arith}
 use Rattle.std.proofs.lemmas.List.{length-map, take-map}
 use Rattle.definitions.specs.Versions.{last_change}
 use Rattle.definitions.specs.Servers.{window_of}
@@ -16,8 +16,7 @@ returns c =
     let n = c.args.max in
     let events = c.in_ok-events.events in
     let all = since_kept (window_of v.kind s) s.snapshot.revision v c.args.after (n + 1) in
-    let path : since_kept c.cache-cache.result.now c.revision-present.result v c.args.after (n + 1) ≡ all = λ i. since_kept (c.cache-cache.ensures i) (c.revision-present.ensures.value i) v c.args.after (n + 1) in
-    let given = subst (λ z. Serves (λ es. map change_seen es.items) z (Ok events)) path c.in_ok-events.ensures in
+    let given : Serves (λ es. map change_seen es.items) all (Ok events) = c.in_ok-events.ensures in
     let more : n < length (map change_seen events.items) = omega (arith, c.if-len-max.false, c.len.ensures, length-map events.items change_seen) in
     let changes : map change_seen c.truncate.new.self.items ≡ take n (map change_seen events.items) = ap (map change_seen) c.truncate.ensures.items ∙ sym (take-map change_seen n events.items) in
     let stands : c.last_revision-stands.result ≡ last_change c.args.after (take n (map change_seen events.items)) =
