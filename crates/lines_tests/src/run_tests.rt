@@ -1,6 +1,6 @@
 ghost use Rattle.std.specs.Prelude.{◌==◌, [], ◌∷◌, ◌++◌, length, if◌then◌else◌};
 
-use crate::{LineService, RunFault, run};
+use line_service::{LineService, RunFault, run};
 use std::alloc::{AllocError, Global};
 use std::cell::Cell;
 use std::io;
@@ -85,23 +85,23 @@ impl<'a> Read for Lines<'a> {
     }
 }
 
-/// Takes a byte at each write, and fails when it holds `full` bytes.
+/// Takes a byte at each write, and fails when it has taken `full` bytes.
 #[derive(Drop)]
 struct Narrow<'a> {
-    held: Vec<u8>,
+    taken: Vec<u8>,
     full: usize,
     wire: &'a Wire,
 }
 
 impl<'a> Write for Narrow<'a> {
     fn write(&mut self, buf: &[u8]) -> io::Result<usize> {
-        if self.held.len() == self.full {
+        if self.taken.len() == self.full {
             return Err(io::Error::from(io::ErrorKind::BrokenPipe));
         }
         match buf.first() {
             None => Ok(0),
             Some(byte) => {
-                self.held.push(*byte)?;
+                self.taken.push(*byte)?;
                 self.wire.unflushed.set(true);
                 Ok(1)
             }
@@ -139,30 +139,22 @@ fn outcome_of(
     };
     let mut reader = BufReader::new(alloc, source)?;
     let mut writer = Narrow {
-        held: Vec::new(alloc),
+        taken: Vec::new(alloc),
         full,
         wire,
     };
     let outcome = run(alloc, &mut Echo, &mut reader, &mut writer);
-    Ok((outcome, writer.held))
+    Ok((outcome, writer.taken))
 }
 
 const THREE_LINES: [&[u8]; 4] = [b"ab\n", b"\n", b"c\n", b"de"];
 
 #[test]
-fn each_line_is_answered_and_the_last_needs_no_newline(rt: HostRuntime) -> Result<(), Fail> {
-    let wire = Wire::new();
-    let (outcome, held) = outcome_of(rt.alloc(), &THREE_LINES, NEVER, BROKEN, ROOM, &wire)?;
-    assert_eq!(rt; outcome, Ok(()));
-    assert_eq!(rt; held.as_slice(), b"ab\nc\nde\n".as_slice());
-    Ok(())
-}
-
-#[test]
 fn each_reply_is_flushed_before_the_next_read(rt: HostRuntime) -> Result<(), Fail> {
     let wire = Wire::new();
-    let (outcome, _held) = outcome_of(rt.alloc(), &THREE_LINES, NEVER, BROKEN, ROOM, &wire)?;
+    let (outcome, written) = outcome_of(rt.alloc(), &THREE_LINES, NEVER, BROKEN, ROOM, &wire)?;
     assert_eq!(rt; outcome, Ok(()));
+    assert_eq!(rt; written.as_slice(), b"ab\nc\nde\n".as_slice());
     assert_eq!(rt; wire.flushes.get(), 3);
     assert_eq!(rt; wire.reads.get(), 6);
     Ok(())
@@ -171,18 +163,18 @@ fn each_reply_is_flushed_before_the_next_read(rt: HostRuntime) -> Result<(), Fai
 #[test]
 fn a_beginning_is_written_where_the_writer_fails(rt: HostRuntime) -> Result<(), Fail> {
     let wire = Wire::new();
-    let (outcome, held) = outcome_of(rt.alloc(), &THREE_LINES, NEVER, BROKEN, 4, &wire)?;
+    let (outcome, written) = outcome_of(rt.alloc(), &THREE_LINES, NEVER, BROKEN, 4, &wire)?;
     assert_eq!(rt; outcome, Err(RunFault::Write));
-    assert_eq!(rt; held.as_slice(), b"ab\nc".as_slice());
+    assert_eq!(rt; written.as_slice(), b"ab\nc".as_slice());
     Ok(())
 }
 
 #[test]
 fn the_lines_before_a_failing_read_are_answered(rt: HostRuntime) -> Result<(), Fail> {
     let wire = Wire::new();
-    let (outcome, held) = outcome_of(rt.alloc(), &THREE_LINES, 2, BROKEN, ROOM, &wire)?;
+    let (outcome, written) = outcome_of(rt.alloc(), &THREE_LINES, 2, BROKEN, ROOM, &wire)?;
     assert_eq!(rt; outcome, Err(RunFault::Read));
-    assert_eq!(rt; held.as_slice(), b"ab\n".as_slice());
+    assert_eq!(rt; written.as_slice(), b"ab\n".as_slice());
     Ok(())
 }
 
@@ -190,14 +182,14 @@ fn the_lines_before_a_failing_read_are_answered(rt: HostRuntime) -> Result<(), F
 fn want_of_memory_at_a_read_is_told_from_a_failing_reader(rt: HostRuntime) -> Result<(), Fail> {
     let wants = Wire::new();
     let kind = io::ErrorKind::OutOfMemory;
-    let (outcome, held) = outcome_of(rt.alloc(), &THREE_LINES, 2, kind, ROOM, &wants)?;
+    let (outcome, written) = outcome_of(rt.alloc(), &THREE_LINES, 2, kind, ROOM, &wants)?;
     assert_eq!(rt; outcome, Err(RunFault::Want));
-    assert_eq!(rt; held.as_slice(), b"ab\n".as_slice());
+    assert_eq!(rt; written.as_slice(), b"ab\n".as_slice());
     let fails = Wire::new();
     let kind = io::ErrorKind::UnexpectedEof;
-    let (outcome, held) = outcome_of(rt.alloc(), &THREE_LINES, 2, kind, ROOM, &fails)?;
+    let (outcome, written) = outcome_of(rt.alloc(), &THREE_LINES, 2, kind, ROOM, &fails)?;
     assert_eq!(rt; outcome, Err(RunFault::Read));
-    assert_eq!(rt; held.as_slice(), b"ab\n".as_slice());
+    assert_eq!(rt; written.as_slice(), b"ab\n".as_slice());
     Ok(())
 }
 
@@ -212,12 +204,12 @@ fn want_of_memory_for_a_reply_is_told_from_a_failing_reader(rt: HostRuntime) -> 
     };
     let mut reader = BufReader::new(rt.alloc(), source)?;
     let mut writer = Narrow {
-        held: Vec::new(rt.alloc()),
+        taken: Vec::new(rt.alloc()),
         full: ROOM,
         wire: &wire,
     };
     let outcome = run(rt.alloc(), &mut Poor, &mut reader, &mut writer);
     assert_eq!(rt; outcome, Err(RunFault::Want));
-    assert_eq!(rt; writer.held.len(), 0);
+    assert_eq!(rt; writer.taken.len(), 0);
     Ok(())
 }
