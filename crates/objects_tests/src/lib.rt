@@ -2,6 +2,8 @@
 #![tactic(auto)]
 
 #[cfg(test)]
+mod fixtures;
+#[cfg(test)]
 mod lifecycle_tests;
 #[cfg(test)]
 mod meta_tests;

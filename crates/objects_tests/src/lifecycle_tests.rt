@@ -1,17 +1,13 @@
 //! Deletes and updates of what is being deleted, as the documentation of Kubernetes has them.
+use crate::fixtures::{key, object};
 use definitions::kinds::Kind;
 use definitions::policies::{Policy, PolicySaid};
 use lifecycle::{DeleteFault, DeleteOptions, Fate, after_update, decide_delete};
-use meta::{Key, Object};
+use meta::Object;
 use serde_json::Value;
 use stamps::moments::Moment;
-use std::alloc::{AllocError, Global};
+use std::alloc::Global;
 use std::test::Fail;
-
-fn replica_set(alloc: Global, text: &str) -> Result<Object, Fail> {
-    let value = Value::from_str(alloc, text)?;
-    Ok(Object::from_value(alloc, Kind::ReplicaSet, value)?)
-}
 
 fn options(alloc: Global, text: &str) -> Result<DeleteOptions, Fail> {
     let value = Value::from_str(alloc, text)?;
@@ -52,8 +48,9 @@ fn after_delete(
 #[test]
 fn foreground_waits_for_dependents(rt: HostRuntime) -> Result<(), Fail> {
     let alloc = rt.alloc();
-    let existing = replica_set(
+    let existing = object(
         alloc,
+        Kind::ReplicaSet,
         r#"{"metadata":{"name":"a","generation":1},"spec":{}}"#,
     )?;
     let options = options(alloc, r#"{"propagationPolicy":"Foreground"}"#)?;
@@ -64,24 +61,17 @@ fn foreground_waits_for_dependents(rt: HostRuntime) -> Result<(), Fail> {
     Ok(())
 }
 
-fn key(alloc: Global) -> Result<Key, AllocError> {
-    Ok(Key {
-        kind: Kind::ReplicaSet,
-        namespace: String::from_str(alloc, "default")?,
-        name: String::from_str(alloc, "a")?,
-    })
-}
-
 // Finalizers, How finalizers work.
 #[test]
 fn the_last_finalizer_is_removed(rt: HostRuntime) -> Result<(), Fail> {
     let alloc = rt.alloc();
-    let existing = replica_set(
+    let existing = object(
         alloc,
+        Kind::ReplicaSet,
         r#"{"metadata":{"deletionTimestamp":"2026-01-01T00:00:00Z","finalizers":["a"],"name":"a"}}"#,
     )?;
-    let free = replica_set(alloc, r#"{"metadata":{"name":"a"}}"#)?;
-    let write = after_update(alloc, &existing, key(alloc)?, &free)?;
+    let free = object(alloc, Kind::ReplicaSet, r#"{"metadata":{"name":"a"}}"#)?;
+    let write = after_update(alloc, &existing, key(alloc, Kind::ReplicaSet, "a")?, &free)?;
     assert!(rt; write.put.is_none());
     Ok(())
 }

@@ -1,4 +1,5 @@
 //! Objects that are read, stored and written again.
+use crate::fixtures::{object, stored};
 use definitions::kinds::Kind;
 use meta::values::has_float;
 use meta::{Draft, Fault, Object, StoredObject, merge};
@@ -6,12 +7,6 @@ use serde_json::{Map, Value};
 use std::alloc::{AllocError, Global};
 use std::mem::size_of;
 use std::test::Fail;
-
-/// The Pod that a text says.
-fn pod(alloc: Global, text: &str) -> Result<Object, Fail> {
-    let value = Value::from_str(alloc, text)?;
-    Ok(Object::from_value(alloc, Kind::Pod, value)?)
-}
 
 /// A value's outcome as an object of a kind: its text, or the part that it is refused for.
 fn outcome(alloc: Global, kind: Kind, value: Value) -> Result<String, Fault> {
@@ -64,8 +59,9 @@ fn item_text(alloc: Global, object: &Object) -> Result<String, AllocError> {
 #[test]
 fn an_item_has_no_kind(rt: HostRuntime) -> Result<(), Fail> {
     let alloc = rt.alloc();
-    let object = pod(
+    let object = object(
         alloc,
+        Kind::Pod,
         r#"{"metadata":{"name":"a","ownerReferences":[{"name":"o","controller":true}]},"spec":{}}"#,
     )?;
     assert_eq!(rt; count_owners(alloc, &object)?, 1);
@@ -89,9 +85,10 @@ fn rewritten(alloc: Global, object: Object, existing: &Object) -> Result<Object,
 #[test]
 fn metadata_is_written(rt: HostRuntime) -> Result<(), Fail> {
     let alloc = rt.alloc();
-    let existing = pod(alloc, r#"{"metadata":{"name":"a","uid":"c"}}"#)?;
-    let object = pod(
+    let existing = object(alloc, Kind::Pod, r#"{"metadata":{"name":"a","uid":"c"}}"#)?;
+    let object = object(
         alloc,
+        Kind::Pod,
         r#"{"metadata":{"name":"a","uid":"d","labels":{"x":"y"},"generation":1}}"#,
     )?;
     let written = rewritten(alloc, object, &existing)?;
@@ -134,7 +131,7 @@ fn stored_item_text(alloc: Global, stored: &StoredObject) -> Result<String, Allo
 #[test]
 fn objects_are_stored(rt: HostRuntime) -> Result<(), Fail> {
     let alloc = rt.alloc();
-    let stored = StoredObject::new(alloc, &pod(alloc, LABELLED)?)?;
+    let stored = stored(alloc, Kind::Pod, LABELLED)?;
     assert_eq!(rt; stored.text(), LABELLED);
     assert_eq!(rt; stored.label("app"), Some("x"));
     assert_eq!(rt;
@@ -184,7 +181,7 @@ fn goes_between_threads<T: Send + Sync>(_value: &T) {}
 // The store keeps one beside each key, and threads send them.
 #[test]
 fn a_stored_object_is_one_word(rt: HostRuntime) -> Result<(), Fail> {
-    let stored = StoredObject::new(rt.alloc(), &pod(rt.alloc(), "{}")?)?;
+    let stored = stored(rt.alloc(), Kind::Pod, "{}")?;
     goes_between_threads(&stored);
     assert!(rt; size_of::<StoredObject>() == 8);
     Ok(())

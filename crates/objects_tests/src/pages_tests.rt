@@ -1,31 +1,16 @@
 //! Tokens of pages, as Python's `base64` and `json` write them.
+use crate::fixtures::{key, stored};
 use definitions::kinds::Kind;
-use meta::{Key, Member, Object, StoredObject};
+use meta::Member;
 use pages::Token;
-use serde_json::Value;
-use std::alloc::{AllocError, Global};
 use std::test::Fail;
 
 const TEXT: &str = "eyJuYW1lIjoiYiIsIm5hbWVzcGFjZSI6ImRlZmF1bHQiLCJydiI6IjYifQ";
 
-fn key(alloc: Global, name: &str) -> Result<Key, AllocError> {
-    Ok(Key {
-        kind: Kind::ConfigMap,
-        namespace: String::from_str(alloc, "default")?,
-        name: String::from_str(alloc, name)?,
-    })
-}
-
-fn stored(alloc: Global) -> Result<StoredObject, Fail> {
-    let value = Value::from_str(alloc, "{}")?;
-    let object = Object::from_value(alloc, Kind::ConfigMap, value)?;
-    Ok(StoredObject::new(alloc, &object)?)
-}
-
 #[test]
 fn tokens_are_written(rt: HostRuntime) -> Result<(), Fail> {
-    let object = stored(rt.alloc())?;
-    let key = key(rt.alloc(), "b")?;
+    let object = stored(rt.alloc(), Kind::ConfigMap, "{}")?;
+    let key = key(rt.alloc(), Kind::ConfigMap, "b")?;
     let member = Member {
         key: &key,
         object: &object,

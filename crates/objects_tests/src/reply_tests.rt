@@ -1,16 +1,9 @@
 //! Statuses, byte for byte, as the API server writes them.
-use meta::{Fault, Key, Kind};
+use crate::fixtures::key;
+use definitions::kinds::Kind;
+use meta::Fault;
 use reply::{Reply, message, success_text};
-use std::alloc::{AllocError, Global};
 use std::test::Fail;
-
-fn key(alloc: Global, kind: Kind, name: &str) -> Result<Key, AllocError> {
-    Ok(Key {
-        kind,
-        namespace: String::from_str(alloc, "default")?,
-        name: String::from_str(alloc, name)?,
-    })
-}
 
 #[test]
 fn a_deployment_that_is_not_found_has_its_group(rt: HostRuntime) -> Result<(), Fail> {

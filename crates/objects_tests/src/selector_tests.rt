@@ -1,6 +1,6 @@
 //! Selectors that the documentation of Kubernetes shows, and what they match.
+use crate::fixtures::stored;
 use definitions::kinds::Kind;
-use meta::{Object, StoredObject};
 use selector::{Fault, Fields, Selector};
 use serde_json::Value;
 use std::alloc::Global;
@@ -61,17 +61,11 @@ fn values_match_labels(rt: HostRuntime) -> Result<(), Fail> {
     Ok(())
 }
 
-/// A stored Pod.
-fn stored(alloc: Global, text: &str) -> Result<StoredObject, Fail> {
-    let value = Value::from_str(alloc, text)?;
-    let object = Object::from_value(alloc, Kind::Pod, value)?;
-    Ok(StoredObject::new(alloc, &object)?)
-}
-
 #[test]
 fn an_object_is_selected_by_its_labels(rt: HostRuntime) -> Result<(), Fail> {
     let pod = stored(
         rt.alloc(),
+        Kind::Pod,
         r#"{"metadata":{"name":"a","labels":{"app":"web"}}}"#,
     )?;
     let selector = Selector::parse(rt.alloc(), "app=web")?;

@@ -1,24 +1,11 @@
 //! What the documentation of Kubernetes shows, and what it forbids, filled in and checked.
+use crate::fixtures::{key, object};
 use definitions::kinds::Kind;
 use definitions::refusals::Field;
-use meta::{Fault, Key, Object};
-use serde_json::Value;
-use std::alloc::{AllocError, Global};
+use meta::{Fault, Object};
+use std::alloc::Global;
 use std::test::Fail;
 use validate::{check_create, check_update, defaults};
-
-fn object(alloc: Global, kind: Kind, text: &str) -> Result<Object, Fail> {
-    let value = Value::from_str(alloc, text)?;
-    Ok(Object::from_value(alloc, kind, value)?)
-}
-
-fn key(alloc: Global, kind: Kind, name: &str) -> Result<Key, AllocError> {
-    Ok(Key {
-        kind,
-        namespace: String::from_str(alloc, "default")?,
-        name: String::from_str(alloc, name)?,
-    })
-}
 
 // The first example of "Deployments".
 #[test]

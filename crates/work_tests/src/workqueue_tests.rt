@@ -1,10 +1,10 @@
 //! What no clause says: rows from outside, and that calls succeed where there is memory.
-use crate::Queue;
 use definitions::controllers::Controller;
 use definitions::kinds::Kind;
 use meta::keys::Key;
 use std::alloc::{AllocError, Global};
 use work_keys::WorkKey;
+use workqueue::Queue;
 
 fn web(alloc: Global) -> Result<WorkKey, AllocError> {
     Ok(WorkKey {

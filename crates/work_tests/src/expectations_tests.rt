@@ -1,6 +1,6 @@
 //! What no clause says: a row from outside, with ample memory.
-use crate::Table;
 use definitions::kinds::Kind;
+use expectations::Table;
 use meta::keys::Key;
 use std::alloc::{AllocError, Global};
 
