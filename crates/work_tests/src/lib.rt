@@ -6,4 +6,6 @@ mod backoff_tests;
 #[cfg(test)]
 mod expectations_tests;
 #[cfg(test)]
+mod fixtures;
+#[cfg(test)]
 mod workqueue_tests;

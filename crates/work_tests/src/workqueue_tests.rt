@@ -1,57 +1,32 @@
-//! What no clause says: rows from outside, and that calls succeed where there is memory.
-use definitions::controllers::Controller;
-use definitions::kinds::Kind;
-use meta::keys::Key;
+//! A key that is added while a worker has it.
+use crate::fixtures::work_key;
 use std::alloc::{AllocError, Global};
-use work_keys::WorkKey;
 use workqueue::Queue;
 
-fn web(alloc: Global) -> Result<WorkKey, AllocError> {
-    Ok(WorkKey {
-        controller: Controller::ReplicaSet,
-        key: Key {
-            kind: Kind::ReplicaSet,
-            namespace: String::from_str(alloc, "default")?,
-            name: String::from_str(alloc, "web")?,
-        },
-    })
-}
-
-/// Hands a key out, which must be the one that was added.
+/// Whether the key `web` is handed out.
 fn is_web_handed_out(alloc: Global, queue: &mut Queue) -> Result<bool, AllocError> {
-    let wanted = web(alloc)?;
+    let wanted = work_key(alloc, "web")?;
     Ok(match queue.get()? {
         Some(key) => key == wanted,
         None => false,
     })
 }
 
-#[test]
-fn a_key_waits_for_its_done(rt: HostRuntime) -> Result<(), AllocError> {
-    let mut queue = Queue::new(rt.alloc());
-    queue.add(web(rt.alloc())?)?;
-    assert_eq!(rt; queue.len(), 1);
-    assert!(rt; is_web_handed_out(rt.alloc(), &mut queue)?);
-    assert_eq!(rt; queue.len(), 0);
-    queue.add(web(rt.alloc())?)?;
-    queue.add(web(rt.alloc())?)?;
-    assert_eq!(rt; queue.len(), 0);
-    queue.done(&web(rt.alloc())?);
-    assert_eq!(rt; queue.len(), 1);
-    assert!(rt; is_web_handed_out(rt.alloc(), &mut queue)?);
-    assert_eq!(rt; queue.len(), 0);
-    Ok(())
+/// Adds the key `web`.
+fn add_web(alloc: Global, queue: &mut Queue) -> Result<(), AllocError> {
+    queue.add(work_key(alloc, "web")?)
 }
 
 #[test]
-fn what_waits_at_the_end_is_handed_out(rt: HostRuntime) -> Result<(), AllocError> {
+fn a_key_waits_for_its_done(rt: HostRuntime) -> Result<(), AllocError> {
     let mut queue = Queue::new(rt.alloc());
-    queue.add(web(rt.alloc())?)?;
-    queue.shut_down();
+    let key = work_key(rt.alloc(), "web")?;
+    add_web(rt.alloc(), &mut queue)?;
     assert!(rt; is_web_handed_out(rt.alloc(), &mut queue)?);
-    queue.done(&web(rt.alloc())?);
-    queue.add(web(rt.alloc())?)?;
+    add_web(rt.alloc(), &mut queue)?;
     assert_eq!(rt; queue.len(), 0);
-    assert!(rt; queue.get()?.is_none());
+    queue.done(&key);
+    assert_eq!(rt; queue.len(), 1);
+    assert!(rt; is_web_handed_out(rt.alloc(), &mut queue)?);
     Ok(())
 }
