@@ -10,6 +10,3 @@ pub mod watching;
 
 pub use servers::Server;
 pub use watching::Watched;
-
-#[cfg(test)]
-mod tests;

@@ -4,7 +4,5 @@
 mod expectation;
 mod owners;
 mod table;
-#[cfg(test)]
-mod tests;
 
 pub use crate::table::Table;

@@ -6,8 +6,6 @@ pub mod frames;
 pub mod laws;
 pub mod lines;
 pub mod scan;
-#[cfg(test)]
-mod tests;
 pub mod texts;
 pub mod wants;
 

@@ -14,9 +14,6 @@ use std::io::{BufRead, BufReader, BufWriter, Write};
 use std::process::ExitCode;
 use std::{env, io};
 
-#[cfg(test)]
-mod tests;
-
 /// How many changes of each kind are kept where nothing else is said.
 const DEFAULT_WINDOW: usize = 1024;
 

@@ -9,6 +9,3 @@ mod updates;
 pub use fates::{DeleteFault, Fate, decide_delete};
 pub use options::DeleteOptions;
 pub use updates::{after_update, is_let_go};
-
-#[cfg(test)]
-mod tests;

@@ -9,6 +9,3 @@ pub mod service;
 pub use fault::RunFault;
 pub use run_loop::run;
 pub use service::LineService;
-
-#[cfg(test)]
-mod tests;

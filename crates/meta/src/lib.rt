@@ -31,6 +31,3 @@ pub use objects::Object;
 pub use owners::OwnerReference;
 pub use stored::StoredObject;
 pub use writes::Write;
-
-#[cfg(test)]
-mod tests;

@@ -4,8 +4,6 @@
 pub mod labels;
 pub mod object_labels;
 pub mod subdomains;
-#[cfg(test)]
-mod tests;
 
 pub use labels::{is_label, is_namespace};
 pub use object_labels::{is_label_key, is_label_value};

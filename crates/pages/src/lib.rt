@@ -7,6 +7,3 @@ pub mod tokens;
 
 pub use cuts::{Page, page_of};
 pub use tokens::Token;
-
-#[cfg(test)]
-mod tests;

@@ -11,8 +11,6 @@ pub(crate) mod pieces;
 pub mod reflector_laws;
 pub mod reflectors;
 pub(crate) mod shown;
-#[cfg(test)]
-mod tests;
 
 pub use definitions::reflectors::{Ask, End};
 pub use deltas::{Delta, Fed};

@@ -9,6 +9,3 @@ mod statuses;
 pub use messages::message;
 pub use reply::Reply;
 pub use statuses::{body, code, success_text, text};
-
-#[cfg(test)]
-mod tests;

@@ -3,8 +3,6 @@
 
 pub mod body;
 pub mod check;
-#[cfg(test)]
-mod collection_tests;
 pub mod collections;
 pub mod faults;
 pub mod laws;
@@ -12,6 +10,4 @@ pub mod line;
 pub mod list_options;
 pub(crate) mod members;
 pub mod query;
-#[cfg(test)]
-mod tests;
 pub mod watch_options;

@@ -9,6 +9,3 @@ pub mod past;
 
 pub use events::Event;
 pub use journal::Journal;
-
-#[cfg(test)]
-mod tests;

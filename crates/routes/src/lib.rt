@@ -5,5 +5,3 @@
 pub mod entries;
 pub mod table;
 pub mod targets;
-#[cfg(test)]
-mod tests;

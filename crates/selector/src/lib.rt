@@ -17,8 +17,3 @@ pub use fields::Fields;
 pub use requirements::Requirement;
 pub use selectors::Selector;
 pub use views::View;
-
-#[cfg(test)]
-mod selection_tests;
-#[cfg(test)]
-mod tests;

@@ -11,6 +11,3 @@ pub mod sessions;
 pub use asked::Asked;
 pub use asking::read_request;
 pub use sessions::Session;
-
-#[cfg(test)]
-mod tests;

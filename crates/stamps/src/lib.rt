@@ -3,6 +3,4 @@
 
 pub mod moments;
 pub mod revisions;
-#[cfg(test)]
-mod tests;
 pub mod uids;

@@ -9,6 +9,3 @@ pub mod stores;
 
 pub use chunks::Chunk;
 pub use stores::Store;
-
-#[cfg(test)]
-mod tests;

@@ -18,6 +18,3 @@ mod uids;
 pub use checks::{check_create, check_update};
 pub use counts::is_status_valid;
 pub use spec_defaults::defaults;
-
-#[cfg(test)]
-mod tests;

@@ -8,10 +8,3 @@ pub mod requests;
 
 pub use crate::accepting::accept;
 pub use crate::requests::Request;
-
-#[cfg(test)]
-mod delete_tests;
-#[cfg(test)]
-mod tests;
-#[cfg(test)]
-mod update_tests;

@@ -8,6 +8,3 @@ mod undoing;
 
 pub use cache::Cache;
 pub use changes::Change;
-
-#[cfg(test)]
-mod tests;

@@ -1,0 +1,11 @@
+//! Tests of what was written and what is there: that calls succeed, and give what was written.
+#![tactic(auto)]
+
+#[cfg(test)]
+mod fixtures;
+#[cfg(test)]
+mod revisions_tests;
+#[cfg(test)]
+mod store_tests;
+#[cfg(test)]
+mod watch_cache_tests;
