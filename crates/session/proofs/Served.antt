@@ -1,11 +1,15 @@
 -- What a served request says of its outcome.
-use Rattle.std.proofs.Common.{◌≡◌, ℕ, List, [], ◌∷◌, ◌++◌, false, Option, Ok, IfSome, decimal, option_map, string_bytes, ap, ap₂, sym, subst}
+use Rattle.std.proofs.Common.{◌≡◌, ◌≢◌, ◌∙◌, ℕ, List, [], ◌∷◌, ◌++◌, false, Option, Result, Ok, Err, IfOk, IfSome, decimal, option_map, string_bytes, ap, ap₂, sym, subst}
 use Rattle.answers.specs.Serves.{Serves}
 use Rattle.laws.proofs.Limits.{room}
 use Rattle.definitions.specs.Lines.{outcome, reply_text}
 use Rattle.definitions.specs.Servers.{Server, after_writing}
 use Rattle.definitions.specs.Verbs as verbs
 use Rattle.definitions.specs.Verbs.{Answer, Outcome, Request, answered, refused, overflows}
+use Rattle.desk.specs.Replies.{Lists}
+use Rattle.meta.specs.Faults.{refusal_of}
+use Rattle.meta.specs.declared.faults.Fault.{Fault}
+use Rattle.meta.specs.declared.faults.Fault.TheVariants as fault
 use Rattle.meta.specs.Writes.{write_of}
 use Rattle.meta.specs.declared.writes.Write.{Write}
 use Rattle.reply.specs.declared.reply.Reply.{Reply}
@@ -28,3 +32,10 @@ pub served-room : (s : Held) (q : Request) (r : Reply) (w : Option Write) → Se
 served-room s q r w is =
     subst (λ e. IfSome e (λ e. overflows s.server.snapshot.members s.server.snapshot.revision e ≡ false)) (sym (served-write (accepted s q) r w is))
     (room q s.server.snapshot.members s.server.snapshot.revision s.moment)
+
+-- the line of a list that is refused
+pub list-refused : {X M : Type 0} (o : Outcome) (e : Fault) (text : X → List ℕ) (line : Result X M) → Lists o (Err e) → IfOk line (λ l. text l ≡ reply_text (outcome (refused (refusal_of e))))
+    → IfOk line (λ l. e ≢ fault.NoMemory) → IfOk line (λ l. text l ≡ reply_text (outcome o))
+list-refused o e text (Err m) is same wants = same
+list-refused (answered a) e text (Ok l) is same wants = absurd (wants is)
+list-refused (refused f) e text (Ok l) is same wants = same ∙ ap (λ g. reply_text (outcome (refused g))) (sym is)
