@@ -1,0 +1,11 @@
+//! Bodies in chunks, as HTTP/1.1 has them: written, and read in any pieces. What is read and written through is watched, so that
+//! who uses it knows whether a call of it has failed.
+#![tactic(auto)]
+
+pub mod fault;
+pub mod watched;
+pub mod writer;
+
+pub use fault::ChunkFault;
+pub use watched::Watched;
+pub use writer::Writer;
