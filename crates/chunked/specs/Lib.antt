@@ -1,3 +1,5 @@
 pub mod Bodies
 pub mod Devices
+pub mod Parts
+pub mod Reading
 pub mod Writing

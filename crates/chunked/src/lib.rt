@@ -3,6 +3,8 @@
 #![tactic(auto)]
 
 pub mod fault;
+pub mod line;
+pub mod place;
 pub mod watched;
 pub mod writer;
 

@@ -1,6 +1,6 @@
 use Rattle.std.proofs.Common.{rules, ◌++◌, take, ap, ◌∙◌, append_assoc}
 use Rattle.std.proofs.lemmas.List.{take-append-drop}
-use Rattle.chunked.proofs.Progress.{Appends-more, Appends-kept}
+use Rattle.std.proofs.KnownBytes.{Appends-trans, Appends-kept}
 use Rattle.chunked.proofs.watched.Watched.write_text.Goals as goal
 use Rattle.chunked.proofs.watched.Watched.write_text.Goals.{in-Ok, in-Err+else-self}
 
@@ -10,7 +10,7 @@ loop-preserved g c =
     elim c.match-write.branch [
       | in-Ok w ↦ (
         h.0 ++ take w.in-Ok.n c.loop.rest.now,
-        Appends-more _ _ _ h.0 (take w.in-Ok.n c.loop.rest.now) h.1 w.in-Ok.ensures.bytes,
+        Appends-trans _ _ _ h.0 (take w.in-Ok.n c.loop.rest.now) h.1 w.in-Ok.ensures.bytes,
         append_assoc h.0 (take w.in-Ok.n c.loop.rest.now) c.match-write.rest.now
             ∙ ap (λ r. h.0 ++ (take w.in-Ok.n c.loop.rest.now ++ r.now)) w.rest-is
             ∙ ap (λ r. h.0 ++ (take w.in-Ok.n c.loop.rest.now ++ r)) w.split_at.ensures.back
