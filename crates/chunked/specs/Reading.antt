@@ -39,7 +39,7 @@ abbrev pub Reaches : Place → Option (List ℕ) → List ℕ → Place → Opti
 Reaches old before content new after = (read : List ℕ) × Consumes before after read × Passes old read content new
 
 -- what was read is malformed: nothing that begins with it is P, with lines of up to `longest_line` bytes;
--- or truncated: it is all that there was, it is not P, and something that begins with it is
+-- or truncated: it is all that there was, it is not P, and something that begins with it is Whole; there is always memory
 abbrev pub Fails : (ℕ → List ℕ → Type 0) → (List ℕ → Type 0) → Option (List ℕ) → Option (List ℕ) → ChunkFault → Type 0
 Fails P Whole before after fault.Malformed = (read : List ℕ) × Consumes before after read × ((more : List ℕ) → (P longest_line (read ++ more) → ⊥))
 Fails P Whole before after fault.Truncated =

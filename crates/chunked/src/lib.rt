@@ -5,9 +5,11 @@
 pub mod fault;
 pub mod line;
 pub mod place;
+pub mod reader;
 pub mod watched;
 pub mod writer;
 
 pub use fault::ChunkFault;
+pub use reader::Reader;
 pub use watched::Watched;
 pub use writer::Writer;
