@@ -1,9 +1,8 @@
 -- Lines of chunks, read byte after byte.
 use Rattle.std.proofs.lemmas.Bool.{cases_lt}
-use Rattle.std.proofs.Common.{◌⊎◌, inl, inr, ◌≡◌, ◌≢◌, ℕ, ◌<◌, ◌≤◌, ◌-◌, ◌+◌, List, [], ◌∷◌, ◌++◌, length, take, drop, Option, Some, None, refl, sym, ap, subst, ◌∙◌, append_assoc, append-nil, length-append, arith}
+use Rattle.std.proofs.Common.{◌⊎◌, inl, inr, ◌≡◌, ℕ, ◌<◌, ◌≤◌, List, [], ◌∷◌, ◌++◌, length, drop, Option, refl, sym, ap, subst, ◌∙◌, append_assoc, append-nil, length-append, arith}
 use Rattle.std.specs.Io.KnownBytes.{Consumes, IsAtEnd}
-use Rattle.httparse.specs.Grammar.{ChunkLine, IsChunkLine, print_chunk_line, ReadsChunkLine, HasNoChunkLine, NeverHasChunkLine, MayBecomeChunkLine, chunk_size, print_extension, print_end}
-use Rattle.httparse.specs.Grammar as grammar
+use Rattle.httparse.specs.Grammar.{ChunkLine, print_chunk_line, ReadsChunkLine, HasNoChunkLine, NeverHasChunkLine, print_extension}
 use Rattle.httparse.specs.Spans.{IsChunkLineAt}
 use Rattle.chunked.specs.Bodies.{crlf}
 use Rattle.chunked.specs.Reading.{Fails, longest_line}
@@ -19,8 +18,7 @@ pub fails_after : (P Q : ℕ → List ℕ → Type 0) (V W : List ℕ → Type 0
 fails_after P Q V W a b c front fault.Malformed r imp whole h =
     (front ++ h.0, Consumes-trans a b c front h.0 r h.1, λ more p. h.2 more (imp longest_line (h.0 ++ more) (subst (P longest_line) (append_assoc front h.0 more) p)))
 fails_after P Q V W a b c front fault.Truncated r imp whole h =
-    let on = whole (h.0 ++ h.4) h.5 in
-    (
+    let on = whole (h.0 ++ h.4) h.5 in (
       front ++ h.0,
       Consumes-trans a b c front h.0 r h.1,
       h.2,
@@ -53,7 +51,7 @@ behind_cr tail rest e = ap (drop 1) e
 pub end_fails_second : (a b c : Option (List ℕ)) (f : ChunkFault) → Consumes a b (13 ∷ []) → Fails (HasText (10 ∷ [])) (IsText (10 ∷ [])) b c f → Fails (HasText crlf) (IsText crlf) a c f
 end_fails_second a b c f r h =
     fails_after (HasText crlf) (HasText (10 ∷ [])) (IsText crlf) (IsText (10 ∷ [])) a b c (13 ∷ []) f r
-        (λ longest tail p. (p.0, behind_cr tail (10 ∷ p.0) p.1)) (λ tail e. ([], ap (λ t. 13 ∷ t) (append-nil tail ∙ e))) h
+    (λ longest tail p. (p.0, behind_cr tail (10 ∷ p.0) p.1)) (λ tail e. ([], ap (λ t. 13 ∷ t) (append-nil tail ∙ e))) h
 
 -- a line ends with LF, and is not empty
 abbrev line_front : ChunkLine → List ℕ
@@ -111,8 +109,7 @@ pub line_read : (prev : List ℕ) (b : ℕ) (bytes : List ℕ) (len size : ℕ) 
 line_read prev b bytes len size before mid after none e fits r s l at =
     let reads : ReadsChunkLine (prev ++ (b ∷ [])) l (drop len bytes) = subst (λ t. ReadsChunkLine t l (drop len bytes)) e at.reads in
     let whole : prev ++ (b ∷ []) ≡ print_chunk_line l =
-    reads.1 ∙ ap (λ t. print_chunk_line l ++ t) (all_read prev b l (drop len bytes) none reads) ∙ append-nil (print_chunk_line l) in
-    (
+    reads.1 ∙ ap (λ t. print_chunk_line l ++ t) (all_read prev b l (drop len bytes) none reads) ∙ append-nil (print_chunk_line l) in (
       l,
       subst (Consumes before after) whole (Consumes-trans before mid after prev (b ∷ []) r s),
       at.reads.0,

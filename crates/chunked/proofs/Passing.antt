@@ -1,13 +1,13 @@
 -- From place to place.
-use Rattle.std.proofs.Common.{◌≡◌, ℕ, zero, suc, true, ◌<◌, ◌≤◌, ◌-◌, ◌+◌, List, [], ◌∷◌, ◌++◌, length, take, drop, Option, Some, None, refl, sym, ap, subst, ◌∙◌, append_assoc, append-nil, length-append, arith}
-use Rattle.std.proofs.lemmas.List.{append_cancel_left, length-replicate}
+use Rattle.std.proofs.Common.{◌≡◌, ℕ, zero, suc, true, ◌<◌, ◌≤◌, ◌-◌, ◌+◌, List, [], ◌∷◌, ◌++◌, length, take, drop, Option, None, refl, sym, ap, subst, ◌∙◌, append_assoc, append-nil, length-append, arith}
+use Rattle.std.proofs.lemmas.List.{append_cancel_left, length-replicate, take-append-le, length-take-le}
 use Rattle.std.proofs.Math.ListN.{replicate}
 use Rattle.std.proofs.lemmas.List.Elements.{All-nil, All-cons}
 use Rattle.std.specs.Char.{is_ascii_hexdigit}
 use Rattle.std.proofs.KnownBytes.{Consumes-trans, Consumes-nil}
 use Rattle.std.specs.Io.KnownBytes.{Consumes, IsAtEnd}
 use Rattle.httparse.specs.Grammar.{ChunkLine, IsChunkLine, print_chunk_line, ReadsChunkLine, chunk_size, is_ows}
-use Rattle.httparse.proofs.ChunkLemmas.{chunk_line_unique, ReadsChunkLine-append}
+use Rattle.httparse.proofs.ChunkLemmas.{chunk_line_unique}
 use Rattle.chunked.specs.Bodies.{IsBodyWithin, crlf, joined, last_chunk}
 use Rattle.chunked.specs.Reading.{IsLeft, HasRest, HasAnyRest, Passes, Reaches, Fails, Stops, longest_line}
 use Rattle.chunked.specs.Parts.{HasLine, IsLine, HasText, IsText, ReadsSize}
@@ -35,7 +35,7 @@ pub passes_rest : (p q : Place) (read content : List ℕ) → Passes p read cont
 passes_rest p q read content a longest tail h = let on = a.1 longest tail h.0 h.1 h.2 in (on.0, h.1, on.2)
 
 -- a body is one within any greater length of lines
-longer_body : (m n : ℕ) → m ≤ n → (chunks : List (List ℕ)) (input rest : List ℕ) → IsBodyWithin m chunks input rest → IsBodyWithin n chunks input rest
+pub longer_body : (m n : ℕ) → m ≤ n → (chunks : List (List ℕ)) (input rest : List ℕ) → IsBodyWithin m chunks input rest → IsBodyWithin n chunks input rest
 longer_body m n le [] input rest (l, reads, none, short) = (l, reads, none, omega (arith, le, short))
 longer_body m n le (bytes ∷ chunks) input rest (l, tail, reads, long, short, pos, body) = (l, tail, reads, long, omega (arith, le, short), pos, longer_body m n le chunks tail rest body)
 
@@ -49,8 +49,7 @@ pub passes_any : (p q : Place) (read content : List ℕ) → Passes p read conte
 passes_any p q read content a tail (n, (inner, rest, h)) =
     let le : n ≤ n + longest_line = omega arith in
     let some : longest_line ≤ n + longest_line = omega arith in
-    let whole = a.0 (n + longest_line) tail inner rest some (longer_left n (n + longest_line) le q tail inner rest h) in
-    (
+    let whole = a.0 (n + longest_line) tail inner rest some (longer_left n (n + longest_line) le q tail inner rest h) in (
       [],
       (n + longest_line, (content ++ inner, rest, subst (λ t. IsLeft (n + longest_line) p (read ++ t) (content ++ inner) rest) (sym (append-nil tail)) whole)),
     )
@@ -128,8 +127,7 @@ passes_bytes n k taken long le = (
     ap (λ t. taken ++ t) h.6 ∙ sym (append_assoc taken h.0 (joined h.2)),
   ),
   λ longest tail all rest h.
-      let on = split taken tail h.0 (crlf ++ h.1) (omega (arith, long, h.3, le)) h.4 in
-      (
+      let on = split taken tail h.0 (crlf ++ h.1) (omega (arith, long, h.3, le)) h.4 in (
         on.0 ++ joined h.2,
         h.6 ∙ ap (λ t. t ++ joined h.2) on.1 ∙ append_assoc taken on.0 (joined h.2),
         (on.0, h.1, h.2, omega (arith, long, h.3, ap length on.1, length-append taken on.0), on.2, h.5, refl),
@@ -152,7 +150,7 @@ zero_line_ok = record {
 }
 
 -- the end of a body is one
-last_is_body : (rest : List ℕ) → IsBodyWithin 3 [] (last_chunk ++ rest) rest
+pub last_is_body : (rest : List ℕ) → IsBodyWithin 3 [] (last_chunk ++ rest) rest
 last_is_body rest = (zero_line, (zero_line_ok, ap (λ t. t ++ (crlf ++ rest)) (sym zero_line_is)), refl, omega (arith, ap length zero_line_is))
 
 abbrev zeros : ℕ → List ℕ
@@ -170,8 +168,7 @@ line_may_go_on l (suc n) ok size =
     let le : 3 ≤ m = omega arith in
     let bytes = zeros (suc n) in
     let long : length bytes ≡ suc n = length-replicate (suc n) 0 in
-    let body = longer_body 3 m le [] last_chunk [] (last_is_body []) in
-    (
+    let body = longer_body 3 m le [] last_chunk [] (last_is_body []) in (
       bytes ++ (crlf ++ last_chunk),
       (m, (joined (bytes ∷ []), [], (bytes ∷ [], (l, last_chunk, (ok, refl), sym size ∙ sym long, omega arith, omega (arith, long), body), refl))),
     )
@@ -233,7 +230,7 @@ line_fails a b f h = fails_at (HasRest place.Line) HasLine (HasAnyRest place.Lin
 pub end_fails : (a b c : Option (List ℕ)) (n : ℕ) (f : ChunkFault) → n ≡ 0 → ReadsSize a b n → Fails (HasText crlf) (IsText crlf) b c f → Stops place.Line a c f
 end_fails a b c n f none r h =
     fails_after (HasRest place.Line) (HasText crlf) (HasAnyRest place.Line) (IsText crlf) a b c (print_chunk_line r.0) f r.1
-        (rest_has_end r.0 r.2 (sym none ∙ r.3)) (end_is_rest r.0 r.2 (sym none ∙ r.3)) h
+    (rest_has_end r.0 r.2 (sym none ∙ r.3)) (end_is_rest r.0 r.2 (sym none ∙ r.3)) h
 
 pub close_fails : (a b : Option (List ℕ)) (f : ChunkFault) → Fails (HasText crlf) (IsText crlf) a b f → Stops (place.Within 0) a b f
 close_fails a b f h = fails_at (HasRest (place.Within 0)) (HasText crlf) (HasAnyRest (place.Within 0)) (IsText crlf) a b f rest_has_close close_is_rest h
@@ -247,3 +244,10 @@ next_fails a b c f r h = stops_then (place.Within 0) place.Line crlf a b c f r p
 
 pub reaches_stay : (known : Option (List ℕ)) (p : Place) → Reaches p known [] p known
 reaches_stay known p = ([], Consumes-nil known, passes_stay p)
+
+-- bytes that were read into a part of a buffer
+pub bytes_read : (a b : Option (List ℕ)) (n k : ℕ) (part rest : List ℕ) → k ≤ length part → length part ≤ n → Consumes a b (take k part)
+    → Reaches (place.Within n) a (take k (part ++ rest)) (place.Within (n - k)) b
+bytes_read a b n k part rest le fits c =
+    subst (λ t. Reaches (place.Within n) a t (place.Within (n - k)) b) (sym (take-append-le k part rest le))
+    (reaches_bytes a b n k (take k part) (length-take-le k part le) (omega (arith, le, fits)) c)

@@ -1,5 +1,5 @@
 -- What a reader of a body in chunks has read, and what is left of the body.
-use Rattle.std.specs.Prelude.{◌≡◌, ◌≤◌, ℕ, List, [], ◌∷◌, ◌++◌, length, Option, Some, None, Bool, true, false, Result, Ok, Err, ⊤}
+use Rattle.std.specs.Prelude.{◌≡◌, ◌≤◌, ℕ, List, [], ◌++◌, length, Option, Some, None, Bool, true, false, Result, Ok, Err, ⊤}
 use Rattle.std.specs.Io.KnownBytes.{Consumes, IsAtEnd}
 use Rattle.chunked.specs.Bodies.{IsBodyWithin, crlf, joined}
 use Rattle.chunked.specs.declared.fault.ChunkFault.{ChunkFault}

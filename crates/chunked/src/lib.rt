@@ -3,6 +3,7 @@
 #![tactic(auto)]
 
 pub mod fault;
+pub mod laws;
 pub mod line;
 pub mod place;
 pub mod reader;

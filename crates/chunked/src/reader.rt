@@ -169,7 +169,7 @@ impl<R: Read + Drop> Reader<R> {
     #[tactic(auto, using(crate::proofs::Passing::reaches_stay))]
     pub fn read(&mut self, buf: &mut [u8]) -> Result<usize, ChunkFault>
         // Where there is a fault already, it is answered and nothing changes.
-        ensures again { IfSome (fault_at self.old.fault self.old.device.failed) (λ f. (result ≡ Err f) × (self.new ≡ self.old)) }
+        ensures again { IfSome (fault_at self.old.fault self.old.device.failed) (λ f. (result ≡ Err f) × (self.new ≡ self.old) × (buf.new ≡ buf.old)) }
 
         // Without a fault, what was read is bytes of the body, and there is still none.
         ensures bytes { IfOk result (λ k. Reaches self.old.place (R.remaining self.old.device.device) (take k buf.new) self.new.place (R.remaining self.new.device.device)) }

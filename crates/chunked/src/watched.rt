@@ -220,10 +220,6 @@ impl<R: Read + Drop> Watched<R> {
     {
         let mut one = [0u8; 1];
         let n = self.receive(&mut one)?;
-        if n == 0 {
-            Ok(None)
-        } else {
-            Ok(Some(one[0]))
-        }
+        if n == 0 { Ok(None) } else { Ok(Some(one[0])) }
     }
 }

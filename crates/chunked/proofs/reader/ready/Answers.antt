@@ -1,5 +1,5 @@
-use Rattle.std.proofs.Common.{rules, ◌≡◌, [], IfOk, IfErr, sym, subst}
-use Rattle.chunked.specs.Reading.{Reaches, Stops}
+use Rattle.std.proofs.Common.{rules, ◌≡◌, [], IfOk, sym, subst}
+use Rattle.chunked.specs.Reading.{Reaches}
 use Rattle.chunked.specs.declared.place.Place.TheVariants as place
 use Rattle.chunked.proofs.reader.ready.Goals as goal
 
