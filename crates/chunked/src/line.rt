@@ -59,7 +59,8 @@ pub(crate) fn read_size<R: Read + Drop>(device: &mut Watched<R>) -> Result<u64, 
 fn read_this<R: Read + Drop>(device: &mut Watched<R>, wanted: u8) -> Result<(), ChunkFault>
     requires { device.old.failed ≡ false }
     ensures text { OnOk result (Consumes (R.remaining device.old.device) (R.remaining device.new.device) (wanted ∷ [])) }
-    ensures fault { IfErr result (λ f. Fails (HasText (wanted ∷ [])) (IsText (wanted ∷ [])) (R.remaining device.old.device) (R.remaining device.new.device) f) }
+    ensures fault { IfErr result (λ f. Fails (HasText (wanted ∷ [])) (IsText (wanted ∷ []))
+        (R.remaining device.old.device) (R.remaining device.new.device) f) }
     ensures watched { IsWatched device.new.failed result }
 {
     match device.byte()? {

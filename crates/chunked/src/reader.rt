@@ -45,7 +45,8 @@ fn next_chunk<R: Read + Drop>(device: &mut Watched<R>) -> Result<Place, ChunkFau
 #[tactic(auto, using(crate::proofs::Passing::reaches_next, crate::proofs::Passing::close_fails, crate::proofs::Passing::next_fails))]
 fn after_chunk<R: Read + Drop>(device: &mut Watched<R>) -> Result<Place, ChunkFault>
     requires { device.old.failed ≡ false }
-    ensures place { IfOk result (λ p. Reaches (place.Within 0) (R.remaining device.old.device) [] p (R.remaining device.new.device)) }
+    ensures place { IfOk result (λ p. Reaches (place.Within 0) (R.remaining device.old.device) []
+        p (R.remaining device.new.device)) }
     ensures ready { IfOk result (λ p. IsReady p) }
     ensures fault { IfErr result (λ f. Stops (place.Within 0) (R.remaining device.old.device) (R.remaining device.new.device) f) }
     ensures watched { IsWatched device.new.failed result }
@@ -135,11 +136,13 @@ impl<R: Read + Drop> Reader<R> {
         requires sound { self.old.device.failed ≡ false }
         requires ready { IsReady self.old.place }
         requires room { 0 < length buf.old }
-        ensures bytes { IfOk result (λ k. Reaches self.old.place (R.remaining self.old.device.device) (take k buf.new) self.new.place (R.remaining self.new.device.device)) }
+        ensures bytes { IfOk result (λ k. Reaches self.old.place (R.remaining self.old.device.device)
+            (take k buf.new) self.new.place (R.remaining self.new.device.device)) }
         ensures bound { IfOk result (λ k. k ≤ length buf.new) }
         ensures end { IfOk result (λ k. k ≡ 0 → self.new.place ≡ place.Ended) }
         ensures len { length buf.new ≡ length buf.old }
-        ensures fault { IfErr result (λ f. Stops self.old.place (R.remaining self.old.device.device) (R.remaining self.new.device.device) f) }
+        ensures fault { IfErr result (λ f. Stops self.old.place (R.remaining self.old.device.device)
+            (R.remaining self.new.device.device) f) }
         ensures sound { OnOk result (self.new.fault ≡ self.old.fault) }
         ensures stopped { IfErr result (λ f. self.new.fault ≡ Some f) }
         ensures watched { IsWatched self.new.device.failed result }
@@ -169,10 +172,12 @@ impl<R: Read + Drop> Reader<R> {
     #[tactic(auto, using(crate::proofs::Passing::reaches_stay))]
     pub fn read(&mut self, buf: &mut [u8]) -> Result<usize, ChunkFault>
         // Where there is a fault already, it is answered and nothing changes.
-        ensures again { IfSome (fault_at self.old.fault self.old.device.failed) (λ f. (result ≡ Err f) × (self.new ≡ self.old) × (buf.new ≡ buf.old)) }
+        ensures again { IfSome (fault_at self.old.fault self.old.device.failed) (λ f.
+            (result ≡ Err f) × (self.new ≡ self.old) × (buf.new ≡ buf.old)) }
 
         // Without a fault, what was read is bytes of the body, and there is still none.
-        ensures bytes { IfOk result (λ k. Reaches self.old.place (R.remaining self.old.device.device) (take k buf.new) self.new.place (R.remaining self.new.device.device)) }
+        ensures bytes { IfOk result (λ k. Reaches self.old.place (R.remaining self.old.device.device)
+            (take k buf.new) self.new.place (R.remaining self.new.device.device)) }
         ensures sound { OnOk result (fault_at self.new.fault self.new.device.failed ≡ None) }
         ensures bound { IfOk result (λ k. k ≤ length buf.new) }
         ensures len { length buf.new ≡ length buf.old }
@@ -182,8 +187,10 @@ impl<R: Read + Drop> Reader<R> {
         // A fault is there from now on. The first one has its reason, and the device's raises the flag.
         ensures fault { IfErr result (λ f. fault_at self.new.fault self.new.device.failed ≡ Some f) }
         ensures reason { fault_at self.old.fault self.old.device.failed ≡ None
-            → IfErr result (λ f. Stops self.old.place (R.remaining self.old.device.device) (R.remaining self.new.device.device) f) }
-        ensures watched { fault_at self.old.fault self.old.device.failed ≡ None → IsWatched self.new.device.failed result }
+            → IfErr result (λ f. Stops self.old.place (R.remaining self.old.device.device)
+            (R.remaining self.new.device.device) f) }
+        ensures watched { fault_at self.old.fault self.old.device.failed ≡ None
+            → IsWatched self.new.device.failed result }
     {
         if let Some(fault) = self.fault() {
             return Err(fault);

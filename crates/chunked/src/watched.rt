@@ -44,6 +44,17 @@ impl<D: Drop> Watched<D> {
     {
         self.device
     }
+
+    /// Raises the flag for an error that does not ask for the call again.
+    fn note(&mut self, error: &io::Error)
+        ensures device { self.new.device ≡ self.old.device }
+        ensures interrupted { error_kind error.now ≡ ErrorKind.Interrupted → self.new.failed ≡ self.old.failed }
+        ensures failed { error_kind error.now ≢ ErrorKind.Interrupted → self.new.failed ≡ true }
+    {
+        if error.kind() != ErrorKind::Interrupted {
+            self.failed = true;
+        }
+    }
 }
 
 impl<R: Read + Drop> Read for Watched<R> {
@@ -53,15 +64,14 @@ impl<R: Read + Drop> Read for Watched<R> {
         ensures bound { ReadsAtMost result buf.new }
         ensures bytes { ReadConsumes (R.remaining self.old.device) (R.remaining self.new.device) result buf.new }
         ensures kept { OnOk result (self.new.failed ≡ self.old.failed) }
-        ensures interrupted { IfErr result (λ e. error_kind e ≡ ErrorKind.Interrupted → self.new.failed ≡ self.old.failed) }
+        ensures interrupted { IfErr result (λ e. error_kind e ≡ ErrorKind.Interrupted
+            → self.new.failed ≡ self.old.failed) }
         ensures failed { IfErr result (λ e. error_kind e ≢ ErrorKind.Interrupted → self.new.failed ≡ true) }
     {
         match self.device.read(buf) {
             Ok(n) => Ok(n),
             Err(error) => {
-                if error.kind() != ErrorKind::Interrupted {
-                    self.failed = true;
-                }
+                self.note(&error);
                 Err(error)
             }
         }
@@ -77,7 +87,8 @@ impl<W: Write + Drop> Write for Watched<W> {
         ensures kept { IfOk result (λ n. 0 < n → self.new.failed ≡ self.old.failed) }
         ensures empty { OnOk result (length buf.now ≡ 0 → self.new.failed ≡ self.old.failed) }
         ensures nothing { IfOk result (λ n. n ≡ 0 → 0 < length buf.now → self.new.failed ≡ true) }
-        ensures interrupted { IfErr result (λ e. error_kind e ≡ ErrorKind.Interrupted → self.new.failed ≡ self.old.failed) }
+        ensures interrupted { IfErr result (λ e. error_kind e ≡ ErrorKind.Interrupted
+            → self.new.failed ≡ self.old.failed) }
         ensures failed { IfErr result (λ e. error_kind e ≢ ErrorKind.Interrupted → self.new.failed ≡ true) }
     {
         match self.device.write(buf) {
@@ -88,9 +99,7 @@ impl<W: Write + Drop> Write for Watched<W> {
                 Ok(n)
             }
             Err(error) => {
-                if error.kind() != ErrorKind::Interrupted {
-                    self.failed = true;
-                }
+                self.note(&error);
                 Err(error)
             }
         }
@@ -99,15 +108,14 @@ impl<W: Write + Drop> Write for Watched<W> {
     fn flush(&mut self) -> io::Result<()>
         ensures bytes { Keeps (W.contents self.old.device) (W.contents self.new.device) }
         ensures kept { OnOk result (self.new.failed ≡ self.old.failed) }
-        ensures interrupted { IfErr result (λ e. error_kind e ≡ ErrorKind.Interrupted → self.new.failed ≡ self.old.failed) }
+        ensures interrupted { IfErr result (λ e. error_kind e ≡ ErrorKind.Interrupted
+            → self.new.failed ≡ self.old.failed) }
         ensures failed { IfErr result (λ e. error_kind e ≢ ErrorKind.Interrupted → self.new.failed ≡ true) }
     {
         match self.device.flush() {
             Ok(()) => Ok(()),
             Err(error) => {
-                if error.kind() != ErrorKind::Interrupted {
-                    self.failed = true;
-                }
+                self.note(&error);
                 Err(error)
             }
         }

@@ -25,10 +25,9 @@ pub struct Writer<W: Drop> {
 fn chunk_of(alloc: Global, bytes: &[u8]) -> Result<Vec<u8>, AllocError>
     ensures { IfOk result (λ text. text.items ≡ chunk_text bytes.now) }
 {
-    let size = format!(in alloc; "{:x}", bytes.len())?;
+    let line = format!(in alloc; "{:x}\r\n", bytes.len())?;
     let mut text = Vec::with_capacity(alloc, bytes.len().saturating_add(MOST_ADDED))?;
-    text.extend_from_slice(size.as_bytes())?;
-    text.extend_from_slice(b"\r\n")?;
+    text.extend_from_slice(line.as_bytes())?;
     text.extend_from_slice(bytes)?;
     text.extend_from_slice(b"\r\n")?;
     Ok(text)
