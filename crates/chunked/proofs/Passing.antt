@@ -39,7 +39,7 @@ pub longer_body : (m n : ℕ) → m ≤ n → (chunks : List (List ℕ)) (input 
 longer_body m n le [] input rest (l, reads, none, short) = (l, reads, none, omega (arith, le, short))
 longer_body m n le (bytes ∷ chunks) input rest (l, tail, reads, long, short, pos, body) = (l, tail, reads, long, omega (arith, le, short), pos, longer_body m n le chunks tail rest body)
 
-longer_left : (m n : ℕ) → m ≤ n → (p : Place) (input content rest : List ℕ) → IsLeft m p input content rest → IsLeft n p input content rest
+pub longer_left : (m n : ℕ) → m ≤ n → (p : Place) (input content rest : List ℕ) → IsLeft m p input content rest → IsLeft n p input content rest
 longer_left m n le place.Line input content rest h = (h.0, longer_body m n le h.0 input rest h.1, h.2)
 longer_left m n le (place.Within k) input content rest h = (h.0, h.1, h.2, h.3, h.4, longer_body m n le h.2 h.1 rest h.5, h.6)
 longer_left m n le place.Ended input content rest h = h
@@ -153,12 +153,18 @@ zero_line_ok = record {
 pub last_is_body : (rest : List ℕ) → IsBodyWithin 3 [] (last_chunk ++ rest) rest
 last_is_body rest = (zero_line, (zero_line_ok, ap (λ t. t ++ (crlf ++ rest)) (sym zero_line_is)), refl, omega (arith, ap length zero_line_is))
 
-abbrev zeros : ℕ → List ℕ
+abbrev pub zeros : ℕ → List ℕ
 zeros n = replicate n 0
 
 -- a chunk that was begun may be continued
-chunk_may_end : (n : ℕ) → HasAnyRest (place.Within n) (zeros n ++ (crlf ++ last_chunk))
-chunk_may_end n = (3, (zeros n ++ [], [], (zeros n, last_chunk, [], length-replicate n 0, refl, last_is_body [], refl)))
+abbrev pub chunk_rest : ℕ → List ℕ
+chunk_rest n = zeros n ++ (crlf ++ last_chunk)
+
+pub chunk_is_left : (n : ℕ) → IsLeft 3 (place.Within n) (chunk_rest n) (zeros n ++ []) []
+chunk_is_left n = (zeros n, last_chunk, [], length-replicate n 0, refl, last_is_body [], refl)
+
+chunk_may_end : (n : ℕ) → HasAnyRest (place.Within n) (chunk_rest n)
+chunk_may_end n = (3, (zeros n ++ [], [], chunk_is_left n))
 
 -- a line may be continued to a body
 line_may_go_on : (l : ChunkLine) (n : ℕ) → IsChunkLine l → n ≡ chunk_size l → (more : List ℕ) × HasAnyRest place.Line (print_chunk_line l ++ more)

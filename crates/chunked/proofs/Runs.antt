@@ -1,12 +1,13 @@
 -- A body that is read in pieces.
-use Rattle.std.proofs.Common.{◌≡◌, ℕ, List, [], ◌∷◌, ◌++◌, Option, Some, None, refl, sym, ap, subst, ◌∙◌, append_assoc, append-nil}
-use Rattle.chunked.specs.Bodies.{IsBodyWithin, joined}
-use Rattle.chunked.specs.Reading.{IsLeft, Stops, longest_line}
+use Rattle.std.proofs.Common.{◌≡◌, ℕ, List, [], ◌∷◌, ◌++◌, Option, Some, None, refl, sym, ap, subst, ◌∙◌, append_assoc, append-nil, arith}
+use Rattle.chunked.specs.Bodies.{IsBodyWithin, joined, last_chunk}
+use Rattle.chunked.specs.Reading.{IsLeft, Passes, Stops, longest_line}
 use Rattle.chunked.specs.Laws.{ReadsPieces, IsReadAs}
 use Rattle.chunked.specs.declared.fault.ChunkFault.{ChunkFault}
 use Rattle.chunked.specs.declared.fault.ChunkFault.TheVariants as fault
 use Rattle.chunked.specs.declared.place.Place.{Place}
 use Rattle.chunked.specs.declared.place.Place.TheVariants as place
+use Rattle.chunked.proofs.Passing.{passes_stay, longer_body, longer_left, last_is_body, zeros, chunk_rest, chunk_is_left}
 
 -- what is left of a body after pieces
 run_leaves : (pieces : List (List ℕ)) (p q : Place) (input left all rest : List ℕ) → ReadsPieces p input pieces q left → IsLeft longest_line p input all rest
@@ -38,4 +39,47 @@ read_as chunks input rest body pieces p left run =
       (on.0, on.1),
       λ e. let end = ends p left on.0 rest e on.2 in (sym (on.1 ∙ ap (λ t. joined pieces ++ t) end.0 ∙ append-nil (joined pieces)), end.1),
       λ after f stops. no_fault p left on.0 rest after f on.2 stops,
+    )
+
+-- one passage after another, each with content
+passes_more : (p q s : Place) (front back first second : List ℕ) → Passes p front first q → Passes q back second s → Passes p (front ++ back) (first ++ second) s
+passes_more p q s front back first second a b = (
+  λ longest tail more rest le h.
+      let whole = a.0 longest (back ++ tail) (second ++ more) rest le (b.0 longest tail more rest le h) in
+      subst (λ t. IsLeft longest p t ((first ++ second) ++ more) rest) (sym (append_assoc front back tail))
+      (subst (λ t. IsLeft longest p (front ++ (back ++ tail)) t rest) (sym (append_assoc first second more)) whole),
+  λ longest tail all rest h.
+      let on = a.1 longest (back ++ tail) all rest (subst (λ t. IsLeft longest p t all rest) (append_assoc front back tail) h) in
+      let last = b.1 longest tail on.0 rest on.2 in
+      (last.0, on.1 ∙ ap (λ t. first ++ t) last.1 ∙ sym (append_assoc first second last.0), last.2),
+)
+
+-- pieces are one passage
+run_passes : (pieces : List (List ℕ)) (p q : Place) (input left : List ℕ) → ReadsPieces p input pieces q left → (read : List ℕ) × (input ≡ read ++ left) × Passes p read (joined pieces) q
+run_passes [] p q input left h = ([], h.1, subst (λ r. Passes p [] [] r) h.0 (passes_stay p))
+run_passes (piece ∷ pieces) p q input left (mid, between, reaches, on) =
+    let rest = run_passes pieces mid q between left on in (
+      reaches.0 ++ rest.0,
+      reaches.1 ∙ ap (λ t. reaches.0 ++ t) rest.1 ∙ sym (append_assoc reaches.0 rest.0 left),
+      passes_more p mid q reaches.0 rest.0 piece (joined pieces) reaches.2 rest.2,
+    )
+
+-- at each place something can be left of a body
+some_left : (p : Place) → (tail : List ℕ) × (content : List ℕ) × IsLeft longest_line p tail content []
+some_left place.Line = (last_chunk, [], ([], longer_body 3 longest_line (omega arith) [] last_chunk [] (last_is_body []), refl))
+some_left (place.Within n) = (chunk_rest n, zeros n ++ [], longer_left 3 longest_line (omega arith) (place.Within n) (chunk_rest n) (zeros n ++ []) [] (chunk_is_left n))
+some_left place.Ended = ([], [], (refl, refl))
+
+pub not_invented : (pieces : List (List ℕ)) (p : Place) (input left : List ℕ) → ReadsPieces place.Line input pieces p left
+    → (read : List ℕ) × (input ≡ read ++ left)
+    × ((tail : List ℕ) × (chunks : List (List ℕ)) × IsBodyWithin longest_line chunks (read ++ tail) [])
+    × ((tail rest : List ℕ) (chunks : List (List ℕ)) → IsBodyWithin longest_line chunks (read ++ tail) rest → (more : List ℕ) × (joined chunks ≡ joined pieces ++ more))
+not_invented pieces p input left h =
+    let run = run_passes pieces place.Line p input left h in
+    let some = some_left p in
+    let body = run.2.0 longest_line some.0 some.1 [] (omega arith) some.2 in (
+      run.0,
+      run.1,
+      (some.0, body.0, body.1),
+      λ tail rest chunks b. let on = run.2.1 longest_line tail (joined chunks) rest (chunks, b, refl) in (on.0, on.1),
     )

@@ -41,3 +41,11 @@ BodiesAreRead = (chunks : List (List ℕ)) (input rest : List ℕ) → IsBodyWit
 -- what was written is read back
 abbrev pub WrittenIsRead : Type 0
 WrittenIsRead = (chunks : List (List ℕ)) (rest : List ℕ) → AreChunks chunks → IsReadAs chunks (chunks_text chunks ++ (last_chunk ++ rest)) rest
+
+-- nothing is invented: there is a body that begins with what was read, and the bytes of each one that does begin with the pieces
+abbrev pub NothingIsInvented : Type 0
+NothingIsInvented =
+    (pieces : List (List ℕ)) (p : Place) (input left : List ℕ) → ReadsPieces place.Line input pieces p left
+    → (read : List ℕ) × (input ≡ read ++ left)
+    × ((tail : List ℕ) × (chunks : List (List ℕ)) × IsBodyWithin longest_line chunks (read ++ tail) [])
+    × ((tail rest : List ℕ) (chunks : List (List ℕ)) → IsBodyWithin longest_line chunks (read ++ tail) rest → (more : List ℕ) × (joined chunks ≡ joined pieces ++ more))
