@@ -1,0 +1,16 @@
+//! Bodies in chunks, as HTTP/1.1 has them: written, and read in any pieces. What is read and written through is watched, so that
+//! who uses it knows whether a call of it has failed.
+#![tactic(auto)]
+
+pub mod fault;
+pub mod laws;
+pub mod line;
+pub mod place;
+pub mod reader;
+pub mod watched;
+pub mod writer;
+
+pub use fault::ChunkFault;
+pub use reader::Reader;
+pub use watched::Watched;
+pub use writer::Writer;

@@ -1,0 +1,12 @@
+//! Where a reader stands in a body.
+
+/// Where a reader stands in a body in chunks.
+#[derive(Debug, Clone, Copy, PartialEq, Eq)]
+pub enum Place {
+    /// At the line before a chunk.
+    Line,
+    /// At this many bytes of a chunk, and the end of a line after them.
+    Within(u64),
+    /// Behind the body.
+    Ended,
+}

@@ -1,0 +1,233 @@
+//! Readers and writers that are watched for failures.
+ghost use Rattle.std.specs.Prelude.{◌≡◌, ◌≢◌, ◌≤◌, ◌<◌, [], ◌∷◌, IfOk, OnOk, IfErr, OnErr, MatchOption, length, take, true, false};
+ghost use Rattle.std.specs.IoError.{error_kind};
+ghost use Rattle.std.specs.Io.{ReadsAtMost, WritesAtMost};
+ghost use Rattle.std.specs.Io.KnownBytes.{Appends, Keeps, Consumes, IsAtEnd, ReadConsumes, WriteAppends};
+ghost use Rattle.chunked.specs.Devices.{AppendsBeginning};
+ghost use Rattle.chunked.specs.declared.fault.ChunkFault.TheVariants as fault;
+
+use crate::fault::ChunkFault;
+use std::io;
+use std::io::{ErrorKind, Read, Write};
+
+/// A reader or a writer, and the flag whether a call of it has failed. The flag rises just there: an error that says that the call
+/// was interrupted asks for the call again, and is no failure; a write that takes nothing of a text that is not empty is one.
+/// Nothing lowers the flag.
+#[derive(Drop)]
+pub struct Watched<D: Drop> {
+    device: D,
+    failed: bool,
+}
+
+impl<D: Drop> Watched<D> {
+    /// Returns the device with its flag down.
+    pub fn new(device: D) -> Watched<D>
+        ensures device { result.device ≡ device }
+        ensures failed { result.failed ≡ false }
+    {
+        Watched {
+            device,
+            failed: false,
+        }
+    }
+
+    /// Returns whether a call of the device has failed.
+    pub fn has_failed(&self) -> bool
+        ensures { result ≡ self.now.failed }
+    {
+        self.failed
+    }
+
+    /// Returns the device, which is watched no more.
+    pub fn into_inner(self) -> D
+        ensures { result ≡ self.device }
+    {
+        self.device
+    }
+
+    /// Raises the flag for an error that does not ask for the call again.
+    fn note(&mut self, error: &io::Error)
+        ensures device { self.new.device ≡ self.old.device }
+        ensures interrupted { error_kind error.now ≡ ErrorKind.Interrupted → self.new.failed ≡ self.old.failed }
+        ensures failed { error_kind error.now ≢ ErrorKind.Interrupted → self.new.failed ≡ true }
+    {
+        if error.kind() != ErrorKind::Interrupted {
+            self.failed = true;
+        }
+    }
+}
+
+impl<R: Read + Drop> Read for Watched<R> {
+    ghost remaining = { λ w. R.remaining w.device };
+
+    fn read(&mut self, buf: &mut [u8]) -> io::Result<usize>
+        ensures bound { ReadsAtMost result buf.new }
+        ensures bytes { ReadConsumes (R.remaining self.old.device) (R.remaining self.new.device) result buf.new }
+        ensures kept { OnOk result (self.new.failed ≡ self.old.failed) }
+        ensures interrupted { IfErr result (λ e. error_kind e ≡ ErrorKind.Interrupted
+            → self.new.failed ≡ self.old.failed) }
+        ensures failed { IfErr result (λ e. error_kind e ≢ ErrorKind.Interrupted → self.new.failed ≡ true) }
+    {
+        match self.device.read(buf) {
+            Ok(n) => Ok(n),
+            Err(error) => {
+                self.note(&error);
+                Err(error)
+            }
+        }
+    }
+}
+
+impl<W: Write + Drop> Write for Watched<W> {
+    ghost contents = { λ w. W.contents w.device };
+
+    fn write(&mut self, buf: &[u8]) -> io::Result<usize>
+        ensures bound { WritesAtMost result buf.now }
+        ensures bytes { WriteAppends (W.contents self.old.device) (W.contents self.new.device) result buf.now }
+        ensures kept { IfOk result (λ n. 0 < n → self.new.failed ≡ self.old.failed) }
+        ensures empty { OnOk result (length buf.now ≡ 0 → self.new.failed ≡ self.old.failed) }
+        ensures nothing { IfOk result (λ n. n ≡ 0 → 0 < length buf.now → self.new.failed ≡ true) }
+        ensures interrupted { IfErr result (λ e. error_kind e ≡ ErrorKind.Interrupted
+            → self.new.failed ≡ self.old.failed) }
+        ensures failed { IfErr result (λ e. error_kind e ≢ ErrorKind.Interrupted → self.new.failed ≡ true) }
+    {
+        match self.device.write(buf) {
+            Ok(n) => {
+                if n == 0 && !buf.is_empty() {
+                    self.failed = true;
+                }
+                Ok(n)
+            }
+            Err(error) => {
+                self.note(&error);
+                Err(error)
+            }
+        }
+    }
+
+    fn flush(&mut self) -> io::Result<()>
+        ensures bytes { Keeps (W.contents self.old.device) (W.contents self.new.device) }
+        ensures kept { OnOk result (self.new.failed ≡ self.old.failed) }
+        ensures interrupted { IfErr result (λ e. error_kind e ≡ ErrorKind.Interrupted
+            → self.new.failed ≡ self.old.failed) }
+        ensures failed { IfErr result (λ e. error_kind e ≢ ErrorKind.Interrupted → self.new.failed ≡ true) }
+    {
+        match self.device.flush() {
+            Ok(()) => Ok(()),
+            Err(error) => {
+                self.note(&error);
+                Err(error)
+            }
+        }
+    }
+}
+
+impl<W: Write + Drop> Watched<W> {
+    /// Writes all of a text, again and again where the device is interrupted.
+    fn write_text(&mut self, text: &[u8]) -> Result<(), ChunkFault>
+        requires { self.old.failed ≡ false }
+        ensures ok { OnOk result (Appends (W.contents self.old.device) (W.contents self.new.device) text.now) }
+        ensures sound { OnOk result (self.new.failed ≡ false) }
+        ensures err { OnErr result (AppendsBeginning (W.contents self.old.device) (W.contents self.new.device) text.now) }
+        ensures failed { OnErr result (self.new.failed ≡ true) }
+        ensures fault { IfErr result (λ f. f ≡ fault.Device) }
+    {
+        let mut rest = text;
+        for _ in 0..u64::MAX {
+            if rest.is_empty() {
+                return Ok(());
+            }
+            match self.write(rest) {
+                Ok(0) => return Err(ChunkFault::Device),
+                Ok(n) => rest = rest.split_at(n).1,
+                Err(_) => {
+                    if self.failed {
+                        return Err(ChunkFault::Device);
+                    }
+                }
+            }
+        }
+        self.failed = true;
+        Err(ChunkFault::Device)
+    }
+
+    /// Flushes the device, again where it is interrupted.
+    fn flush_through(&mut self) -> Result<(), ChunkFault>
+        requires { self.old.failed ≡ false }
+        ensures bytes { Keeps (W.contents self.old.device) (W.contents self.new.device) }
+        ensures sound { OnOk result (self.new.failed ≡ false) }
+        ensures failed { OnErr result (self.new.failed ≡ true) }
+        ensures fault { IfErr result (λ f. f ≡ fault.Device) }
+    {
+        for _ in 0..u64::MAX {
+            match self.flush() {
+                Ok(()) => return Ok(()),
+                Err(_) => {
+                    if self.failed {
+                        return Err(ChunkFault::Device);
+                    }
+                }
+            }
+        }
+        self.failed = true;
+        Err(ChunkFault::Device)
+    }
+
+    /// Writes all of a text and flushes the device. Where the device fails, a beginning of the text was written.
+    pub(crate) fn send(&mut self, text: &[u8]) -> Result<(), ChunkFault>
+        requires { self.old.failed ≡ false }
+        ensures ok { OnOk result (Appends (W.contents self.old.device) (W.contents self.new.device) text.now) }
+        ensures sound { OnOk result (self.new.failed ≡ false) }
+        ensures err { OnErr result (AppendsBeginning (W.contents self.old.device) (W.contents self.new.device) text.now) }
+        ensures failed { OnErr result (self.new.failed ≡ true) }
+        ensures fault { IfErr result (λ f. f ≡ fault.Device) }
+    {
+        self.write_text(text)?;
+        match self.flush_through() {
+            Ok(()) => Ok(()),
+            Err(fault) => Err(fault),
+        }
+    }
+}
+
+impl<R: Read + Drop> Watched<R> {
+    /// Reads a part of what is left, again where the device is interrupted; none only at the end, or where there is no room.
+    pub(crate) fn receive(&mut self, buf: &mut [u8]) -> Result<usize, ChunkFault>
+        requires { self.old.failed ≡ false }
+        ensures bound { IfOk result (λ n. n ≤ length buf.new) }
+        ensures len { length buf.new ≡ length buf.old }
+        ensures read { IfOk result (λ n. Consumes (R.remaining self.old.device) (R.remaining self.new.device) (take n buf.new)) }
+        ensures end { IfOk result (λ n. n ≡ 0 → 0 < length buf.new → IsAtEnd (R.remaining self.new.device)) }
+        ensures sound { OnOk result (self.new.failed ≡ false) }
+        ensures failed { OnErr result (self.new.failed ≡ true) }
+        ensures fault { IfErr result (λ f. f ≡ fault.Device) }
+    {
+        for _ in 0..u64::MAX {
+            match self.read(buf) {
+                Ok(n) => return Ok(n),
+                Err(_) => {
+                    if self.failed {
+                        return Err(ChunkFault::Device);
+                    }
+                }
+            }
+        }
+        self.failed = true;
+        Err(ChunkFault::Device)
+    }
+
+    /// Reads a byte; none only at the end.
+    pub(crate) fn byte(&mut self) -> Result<Option<u8>, ChunkFault>
+        requires { self.old.failed ≡ false }
+        ensures read { IfOk result (λ b. MatchOption b
+            (Consumes (R.remaining self.old.device) (R.remaining self.new.device) [] × IsAtEnd (R.remaining self.new.device))
+            (λ x. Consumes (R.remaining self.old.device) (R.remaining self.new.device) (x ∷ []))) }
+        ensures sound { OnOk result (self.new.failed ≡ false) }
+        ensures failed { OnErr result (self.new.failed ≡ true) }
+        ensures fault { IfErr result (λ f. f ≡ fault.Device) }
+    {
+        let mut one = [0u8; 1];
+        let n = self.receive(&mut one)?;
+        if n == 0 { Ok(None) } else { Ok(Some(one[0])) }
+    }
+}
