@@ -13,7 +13,7 @@ use Rattle.definitions.specs.DeleteOptions.{Options}
 use Rattle.definitions.specs.Deletion.{left_by, marked, others_then, of_policy, are_of, is_of_policy, with_deletion}
 use Rattle.definitions.specs.History.{History, found, members, present, state}
 use Rattle.laws.specs.HistoryLaws.{KeepsText, is_delete}
-use Rattle.laws.specs.LifecycleLaws.{OfReplaced, OfRemoved, all_of_policy, DeletesSpareFinalizers, LastFinalizersRemove, DeletionsStand, NoFinalizerIsAdded}
+use Rattle.laws.specs.LifecycleLaws.{OfReplaced, OfRemoved, all_of_policy, DeletesSpareFinalizers, LastFinalizersRemove, WritesKeepDeletions, NoFinalizerIsAdded}
 use Rattle.definitions.specs.Metadata.{metadata, metadata_of, metadata_text, at_revision, is_being_deleted}
 use Rattle.definitions.specs.Names.{Name}
 use Rattle.definitions.specs.NewObjects.{created}
@@ -112,7 +112,7 @@ since_in_place k r held o =
     let d = in_place k held o in
     moved (metadata_text since held) (metadata_text since (updated k r held d)) (metadata_text since d) (text-updated k since r held d refl refl) (deletion-in_place k held o)
 
-pub stand : DeletionsStand
+pub stand : WritesKeepDeletions
 stand q h moment =
     let r = present h + 1 in
     of_accept (λ u. OfReplaced h u (λ k held new. KeepsText since held new)) (λ f. tt) (λ code body. tt) q h moment

@@ -119,13 +119,13 @@ filled_name [] h = cc
 filled_name (b ∷ bs) h = filled_long (b ∷ bs) (omega arith)
 
 -- what is named is valid where the name that is given is, and where none is the one that is made
-valid_name : (test : List ℕ → Bool) (o g : Option (List ℕ)) (r : ℕ) (d : Data) → generate_name d ≡ g → is_name o d ≡ true → (is_some o || passes_if_there (generates (name_from test o g r)) g) ≡ true
+pub valid_name : (test : List ℕ → Bool) (o g : Option (List ℕ)) (r : ℕ) (d : Data) → generate_name d ≡ g → is_name o d ≡ true → (is_some o || passes_if_there (generates (name_from test o g r)) g) ≡ true
     → is_subdomain (name_from test o g r) ≡ true
 valid_name test (Some n) g r d is named made = named
 valid_name test None (Some given) r d is named made = (both_true (list_all is_generating_byte given) (is_subdomain (name_from test None (Some given) r)) made).1
 valid_name test None None r d is named made = let no : false ≡ true = sym (ap is_some is) ∙ named in cc
 
-met : (b : Bool) (f : Field) (rest : Option Field) → cond b rest (Some f) ≡ None → (b ≡ true) × (rest ≡ None)
+pub met : (b : Bool) (f : Field) (rest : Option Field) → cond b rest (Some f) ≡ None → (b ≡ true) × (rest ≡ None)
 met true f rest h = (refl, h)
 met false f rest h = cc
 
