@@ -1,5 +1,5 @@
 -- Each reference of an object names one that was created before it, or none of this server.
-use Rattle.std.proofs.Common.{◌-◌, ◌++◌, length-append, ◌≡◌, ◌≤◌, ◌<◌, ℕ, ◌+◌, ◌^◌, List, [], ◌∷◌, Bool, true, false, cond, not, ◌&&◌, ◌||◌, Option, Some, None, IfSome, Result, Ok, Err, is_some, codes, bytes_eq, nat_lt, nat_le, length, arith, refl, sym, ap, subst, ◌∙◌}
+use Rattle.std.proofs.Common.{◌-◌, ◌++◌, length-append, ◌≡◌, ◌≤◌, ◌<◌, ℕ, ◌+◌, ◌^◌, List, [], ◌∷◌, Bool, true, false, cond, not, ◌&&◌, Option, Some, None, IfSome, codes, bytes_eq, nat_lt, nat_le, length, arith, refl, sym, ap, subst, ◌∙◌}
 use Rattle.std.specs.Prelude.{option_and_then, unwrap_or}
 use Rattle.std.specs.List.{list_all}
 use Rattle.std.proofs.lemmas.Bool.{le-ltb, ltb-false}
@@ -7,26 +7,23 @@ use Rattle.serde_json.specs.Data.{Data, Items, no_items, put, string, array}
 use Rattle.serde_json.specs.Find.{as_array, get_member}
 use Rattle.serde_json.proofs.Views.{get_member-put_other}
 use Rattle.definitions.specs.declared.kinds.Kind.{Kind}
-use Rattle.definitions.specs.declared.refusals.Part.{Part}
-use Rattle.definitions.specs.declared.refusals.Part.TheVariants as part
-use Rattle.definitions.specs.Checks.{finalizers, generate_name, is_owner, is_of_the_future, is_known_uid, is_not_empty, are_owners_valid, controllers, checks, create_fault, update_fault, adds_no_finalizer, is_selector_kept}
+use Rattle.definitions.specs.Checks.{finalizers, generate_name, is_owner, is_of_the_future, is_known_uid, is_not_empty, are_owners_valid, controllers, checks, update_fault, adds_no_finalizer, is_selector_kept}
 use Rattle.definitions.specs.Deletion.{left_by, marked, with_deletion}
 use Rattle.definitions.specs.GeneratedNames.{name_from}
 use Rattle.definitions.specs.History.{History, found, members, present, state}
 use Rattle.definitions.specs.Kinds.{has_generation}
 use Rattle.laws.specs.HistoryLaws.{OfStored}
-use Rattle.definitions.specs.Metadata.{Owner, owners, owners_in, metadata, metadata_of, name, namespace, version, at_revision, is_being_deleted, is_other}
+use Rattle.definitions.specs.Metadata.{Owner, owners, owners_in, metadata, metadata_of, name, at_revision, is_being_deleted}
 use Rattle.definitions.specs.Names.{Name}
 use Rattle.definitions.specs.NewObjects.{created}
 use Rattle.definitions.specs.Reading.{reading}
-use Rattle.definitions.specs.Refusals.{bad_request, too_large, already_exists, storage_full}
 use Rattle.definitions.specs.Replacements.{in_place, updated, with_said_status, with_next_generation}
 use Rattle.definitions.specs.SelectorValues.{passes}
 use Rattle.definitions.specs.Uids.{uid_text, uid_revision, cluster_word}
-use Rattle.definitions.specs.Verbs.{Request, get_object, list_objects, create_object, update_object, update_status, patch_object, delete_object, Outcome, accept, shown, stored, said, new_name, create_as, create_checked, create_read, is_too_large, is_past_greatest, is_free, most_objects}
-use Rattle.laws.proofs.Cases.{of_delete, of_patch, of_status, of_update}
+use Rattle.definitions.specs.Verbs.{Request, get_object, list_objects, create_object, update_object, update_status, patch_object, delete_object, Outcome, accept, shown, said, new_name, is_free}
+use Rattle.laws.proofs.Cases.{of_create, of_delete, of_patch, of_status, of_update}
 use Rattle.laws.proofs.CheckLaws.{all_met, stored_pass}
-use Rattle.laws.proofs.Guards.{guard, guard_field, there as if_there}
+use Rattle.laws.proofs.Guards.{there as if_there}
 use Rattle.definitions.proofs.JsonMembers.{apart, metadata_of-with}
 use Rattle.laws.proofs.Removals.{member-at_revision, member-with_next_generation, member-updated, member-restated}
 use Rattle.laws.proofs.VerbLaws.{found-state}
@@ -140,25 +137,18 @@ module _ (h : History) (moment : List ℕ) (all : KnownNow h) where
   abbrev P : Outcome → Type 0
   P o = OfStored o (λ k d. Known (present h) d)
 
-  create_known : (kind : Kind) (ns : List ℕ) (read : Result Data Part) → P (create_read kind ns read (members h (present h)) (present h) moment)
-  create_known kind ns (Err p) = tt
-  create_known kind ns (Ok o) =
-      let ms = members h (present h) in
-      let r = present h in
-      let k = new_name kind ns o ms r in
-      let d = created kind (r + 1) ns k.name moment o in
-      guard P (λ f. tt) (is_other (namespace o) ns || is_some (version o)) (bad_request part.Object) (create_checked k o ms r moment)
-      (λ _. guard_field P (λ f. tt) k (create_fault kind k.name r o) (create_as k d ms r)
-      (λ valid. guard P (λ f. tt) (is_too_large d) too_large _
-      (λ _. guard P (λ f. tt) (is_some (found k ms)) (already_exists k) _
-      (λ _. guard P (λ f. tt) (nat_le most_objects (length ms) || is_past_greatest (r + 1)) storage_full (stored 201 k d)
-      (λ _. valid_known r d
-      (all_met (checks kind k.name r true true d) (stored_pass kind k.name r r (r + 1) ns moment o (omega arith) (name_is (is_free kind ns ms) (name o) (generate_name o) (r + 1)) valid)).1.1.1.1.0)))))
-
   known_by : (q : Request) → P (accept q h moment)
   known_by (get_object k) = if_there P (λ f. tt) k shown (found k (members h (present h))) (λ d is. tt)
   known_by (list_objects v) = tt
-  known_by (create_object kind ns d) = create_known kind ns (said kind d)
+  known_by (create_object kind ns d) =
+      let ms = members h (present h) in
+      let r = present h in
+      of_create P (λ f. tt) kind ns (said kind d) ms r moment
+      (λ o read valid fits free room.
+      let k = new_name kind ns o ms r in
+      let made = created kind (r + 1) ns k.name moment o in
+      let passed = stored_pass kind k.name r r (r + 1) ns moment o (omega arith) (name_is (is_free kind ns ms) (name o) (generate_name o) (r + 1)) valid in
+      valid_known r made (all_met (checks kind k.name r true true made) passed).1.1.1.1.0)
   known_by (update_object k d) =
       of_update P (λ f. tt) (λ d. tt) k (said k.kind d) (members h (present h)) (present h) (λ o held read at equal valid fits low. update_known k (present h) held o valid) (λ o held read at equal free low. tt)
   known_by (update_status k d) =

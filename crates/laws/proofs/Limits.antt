@@ -140,6 +140,6 @@ room q ms r moment =
     let full = nat_le most_objects (length ms) in
     let last = is_past_greatest (r + 1) in
     of_accept_at (λ o. IfSome (write_of o) (λ w. overflows ms r w ≡ false)) (λ f. tt) (λ code body. tt) q ms r moment
-    (λ kind ns o fits free left. room_of full last (is_some (found (new_name kind ns o ms r) ms)) left) (λ k o held at valid fits low. held_room (full && true) last (found k ms) held at low)
+    (λ kind ns d o read valid fits free left. room_of full last (is_some (found (new_name kind ns o ms r) ms)) left) (λ k o held at valid fits low. held_room (full && true) last (found k ms) held at low)
     (λ k o held at free low. gone_room full last (not (is_some (found k ms))) low) (λ k o held at fits low. held_room (full && true) last (found k ms) held at low)
     (λ k o held at low. held_room (full && true) last (found k ms) held at low) (λ k o held at none low. gone_room full last (not (is_some (found k ms))) low)

@@ -1,30 +1,27 @@
 -- What a request stores is as a parser gives it, where what was asked and what is there are so.
-use Rattle.std.proofs.Common.{◌≡◌, ◌+◌, ◌||◌, ℕ, List, [], ◌∷◌, length, Bool, true, false, cond, codes, decimal, nat_le, is_some, IfSome, Option, Some, None, option_and_then, unwrap_or, Result, Ok, Err, refl, sym, ◌∙◌}
+use Rattle.std.proofs.Common.{◌≡◌, ◌+◌, ℕ, List, [], ◌∷◌, Bool, true, false, cond, codes, decimal, IfSome, Option, Some, None, option_and_then, unwrap_or, sym, ◌∙◌}
 use Rattle.serde_json.specs.Data.{Data, null, boolean, number, string, array, object, Items, no_items, item, Members, put}
 use Rattle.serde_json.specs.Find.{get, get_member, as_array}
 use Rattle.definitions.specs.declared.kinds.Kind.{Kind}
 use Rattle.definitions.specs.declared.kinds.Kind.TheVariants.{ConfigMap, Pod, ReplicaSet, Deployment}
 use Rattle.definitions.specs.declared.policies.Policy.{Policy}
 use Rattle.definitions.specs.declared.policies.Policy.TheVariants.{Orphan, Foreground, Background}
-use Rattle.definitions.specs.declared.refusals.Part.{Part}
-use Rattle.definitions.specs.declared.refusals.Part.TheVariants as part
-use Rattle.definitions.specs.Checks.{create_fault, finalizers}
+use Rattle.definitions.specs.Checks.{finalizers}
 use Rattle.definitions.specs.Defaults.{whole}
 use Rattle.definitions.specs.Deletion.{left_by, marked, with_deletion, others_then, of_policy, are_of, is_of_policy}
 use Rattle.definitions.specs.History.{History, found, members, present, state}
 use Rattle.definitions.specs.Kinds.{has_generation}
 use Rattle.laws.specs.HistoryLaws.{OfStored}
-use Rattle.definitions.specs.Metadata.{metadata, metadata_of, with_metadata, namespace, version, at_revision, is_being_deleted, is_other}
+use Rattle.definitions.specs.Metadata.{metadata, metadata_of, with_metadata, at_revision, is_being_deleted}
 use Rattle.definitions.specs.Names.{Name}
 use Rattle.definitions.specs.NewObjects.{created, new_metadata, first_status, with_status}
 use Rattle.definitions.specs.Reading.{reading}
-use Rattle.definitions.specs.Refusals.{bad_request, too_large, already_exists, storage_full}
 use Rattle.definitions.specs.Replacements.{as_held, keeping, kept, kept_of, in_place, updated, said_status, with_said_status, with_next_generation, is_new_generation, next_generation, generation}
 use Rattle.definitions.specs.Uids.{uid_text, cluster_word}
 use Rattle.definitions.specs.Values.{members_of, without, merged}
-use Rattle.definitions.specs.Verbs.{Request, get_object, list_objects, create_object, update_object, update_status, patch_object, delete_object, Outcome, accept, shown, stored, said, new_name, create_as, create_checked, create_read, is_too_large, is_past_greatest, most_objects}
-use Rattle.laws.proofs.Cases.{of_delete, of_patch, of_status, of_update}
-use Rattle.laws.proofs.Guards.{guard, guard_field, there}
+use Rattle.definitions.specs.Verbs.{Request, get_object, list_objects, create_object, update_object, update_status, patch_object, delete_object, Outcome, accept, shown, said, new_name}
+use Rattle.laws.proofs.Cases.{of_create, of_delete, of_patch, of_status, of_update}
+use Rattle.laws.proofs.Guards.{there}
 use Rattle.laws.proofs.VerbLaws.{found-state}
 use Rattle.definitions.specs.Reached.{IsParsed, AreParsed, IsAsked}
 use Rattle.laws.proofs.Asked.{Both, joined, inside}
@@ -159,24 +156,12 @@ module _ (h : History) (moment : List ℕ) (all : ParsedNow h) where
   there_now : (k : Name) (held : Data) → found k (members h (present h)) ≡ Some held → IsParsed held
   there_now k held is = all k held (sym (found-state h k) ∙ is)
 
-  create_parsed : (kind : Kind) (ns : List ℕ) (d : Data) (read : Result Data Part) → said kind d ≡ read → IsParsed d → P (create_read kind ns read (members h (present h)) (present h) moment)
-  create_parsed kind ns d (Err p) is a = tt
-  create_parsed kind ns d (Ok o) is a =
-      let ms = members h (present h) in
-      let r = present h in
-      let k = new_name kind ns o ms r in
-      let made = created kind (r + 1) ns k.name moment o in
-      guard P (λ f. tt) (is_other (namespace o) ns || is_some (version o)) (bad_request part.Object) (create_checked k o ms r moment)
-      (λ _. guard_field P (λ f. tt) k (create_fault kind k.name r o) (create_as k made ms r)
-      (λ valid. guard P (λ f. tt) (is_too_large made) too_large _
-      (λ _. guard P (λ f. tt) (is_some (found k ms)) (already_exists k) _
-      (λ _. guard P (λ f. tt) (nat_le most_objects (length ms) || is_past_greatest (r + 1)) storage_full (stored 201 k made)
-      (λ _. new kind (r + 1) ns k.name moment o (parsed_said kind d o is a))))))
-
   pub parsed_by : (q : Request) → IsAsked q → P (accept q h moment)
   parsed_by (get_object k) a = there P (λ f. tt) k shown (found k (members h (present h))) (λ d is. tt)
   parsed_by (list_objects v) a = tt
-  parsed_by (create_object kind ns d) a = create_parsed kind ns d (said kind d) refl a.1
+  parsed_by (create_object kind ns d) a =
+      of_create P (λ f. tt) kind ns (said kind d) (members h (present h)) (present h) moment
+      (λ o read valid fits free room. new kind (present h + 1) ns (new_name kind ns o (members h (present h)) (present h)).name moment o (parsed_said kind d o read a.1))
   parsed_by (update_object k d) a =
       of_update P (λ f. tt) (λ d. tt) k (said k.kind d) (members h (present h)) (present h)
       (λ o held read is equal valid fits low. replaced k.kind (present h + 1) held o (there_now k held is) (parsed_said k.kind d o read a)) (λ o held read is equal free low. tt)

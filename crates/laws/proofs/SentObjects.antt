@@ -119,22 +119,25 @@ filled_name [] h = cc
 filled_name (b ∷ bs) h = filled_long (b ∷ bs) (omega arith)
 
 -- what is named is valid where the name that is given is, and where none is the one that is made
-pub valid_name : (test : List ℕ → Bool) (o g : Option (List ℕ)) (r : ℕ) (d : Data) → generate_name d ≡ g → is_name o d ≡ true → (is_some o || passes_if_there (generates (name_from test o g r)) g) ≡ true
+valid_name : (test : List ℕ → Bool) (o g : Option (List ℕ)) (r : ℕ) (d : Data) → generate_name d ≡ g → is_name o d ≡ true → (is_some o || passes_if_there (generates (name_from test o g r)) g) ≡ true
     → is_subdomain (name_from test o g r) ≡ true
 valid_name test (Some n) g r d is named made = named
 valid_name test None (Some given) r d is named made = (both_true (list_all is_generating_byte given) (is_subdomain (name_from test None (Some given) r)) made).1
 valid_name test None None r d is named made = let no : false ≡ true = sym (ap is_some is) ∙ named in cc
 
-pub met : (b : Bool) (f : Field) (rest : Option Field) → cond b rest (Some f) ≡ None → (b ≡ true) × (rest ≡ None)
+met : (b : Bool) (f : Field) (rest : Option Field) → cond b rest (Some f) ≡ None → (b ≡ true) × (rest ≡ None)
 met true f rest h = (refl, h)
 met false f rest h = cc
 
-pub filled_new : (kind : Kind) (ns : List ℕ) (o : Data) (ms : history.Members) (r now : ℕ) → create_fault kind (new_name kind ns o ms r).name now o ≡ None → IsFilled (new_name kind ns o ms r).name
-filled_new kind ns o ms r now none =
+pub created_valid : (kind : Kind) (ns : List ℕ) (o : Data) (ms : history.Members) (r now : ℕ) → create_fault kind (new_name kind ns o ms r).name now o ≡ None → is_subdomain (new_name kind ns o ms r).name ≡ true
+created_valid kind ns o ms r now none =
     let made = (new_name kind ns o ms r).name in
     let first = met (is_name_valid o) field.Name _ none in
     let second = met (is_generate_name_valid made o) field.GenerateName _ first.1 in
-    filled_name made (valid_name (is_free kind ns ms) (name o) (generate_name o) (r + 1) o refl first.0 second.0)
+    valid_name (is_free kind ns ms) (name o) (generate_name o) (r + 1) o refl first.0 second.0
+
+pub filled_new : (kind : Kind) (ns : List ℕ) (o : Data) (ms : history.Members) (r now : ℕ) → create_fault kind (new_name kind ns o ms r).name now o ≡ None → IsFilled (new_name kind ns o ms r).name
+filled_new kind ns o ms r now none = filled_name (new_name kind ns o ms r).name (created_valid kind ns o ms r now none)
 
 one_name : (t : List ℕ) → IsFilled t → One 98 Metadata (codes "name") (string t)
 one_name t h = (refl, h, tt, omega arith, refl)

@@ -57,7 +57,7 @@ origin : (q : Request) (h : History) (moment : List ℕ) → OfStored (accept q 
 origin q h moment =
     let r = present h + 1 in
     of_accept (λ o. OfStored o (Origin h)) (λ f. tt) (λ code body. tt) q h moment
-    (λ kind ns o fits free room.
+    (λ kind ns d o read valid fits free room.
     inl (uid-created kind r ns (new_name kind ns o (members h (present h)) (present h)).name moment o, sym (found-state h (new_name kind ns o (members h (present h)) (present h))) ∙ none_from _ free))
     (λ k o was at valid fits low. inr (was, sym (found-state h k) ∙ at))
     (λ k o was at free low. tt)

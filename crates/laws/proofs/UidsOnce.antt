@@ -68,7 +68,7 @@ born_by : (q : Request) (h : History) (moment : List ℕ) → AreBorn (present h
 born_by q h moment b =
     let r = present h + 1 in
     of_accept (λ o. OfStored o (λ k d. IsBorn (present h + 1) d)) (λ f. tt) (λ code body. tt) q h moment
-    (λ kind ns o fits free room. (r, uid-created kind r ns (new_name kind ns o (members h (present h)) (present h)).name moment o, omega arith))
+    (λ kind ns d o read valid fits free room. (r, uid-created kind r ns (new_name kind ns o (members h (present h)) (present h)).name moment o, omega arith))
     (λ k o was at valid fits low. born_kept (present h) was (updated k.kind r was (in_place k.kind was o)) (found_born h k was b at) (kept_in_place k.kind r was o).0)
     (λ k o was at free low. tt)
     (λ k o was at fits low.
@@ -110,5 +110,5 @@ none_has n (w ∷ ws) low b = (one_has_not n w.put low b.0, none_has n ws low b.
 pub unused : NewUidsAreUnused
 unused h kind ns d moment reached =
     of_create (λ u. OfStored u (λ k new. (t : List ℕ) × (uid new ≡ Some t) × NoneHas t (writes h))) (λ f. tt) kind ns (said kind d) (members h (present h)) (present h) moment
-    (λ o fits free room.
+    (λ o read valid fits free room.
     (uid_text cluster_word (present h + 1), uid-created kind (present h + 1) ns (new_name kind ns o (members h (present h)) (present h)).name moment o, none_has (present h) (writes h) (limited h reached).1 (born h reached)))
