@@ -2,6 +2,7 @@
 pub mod Refusals
 pub mod Deletion
 pub mod Verbs
+pub mod Reached
 pub mod Versions
 pub mod Servers
 pub mod Lists

@@ -42,6 +42,7 @@ pub use Rattle.definitions.specs.Requests.Targets
 pub use Rattle.definitions.specs.Answers.Refusals
 pub use Rattle.definitions.specs.Answers.Deletion
 pub use Rattle.definitions.specs.Answers.Verbs
+pub use Rattle.definitions.specs.Answers.Reached
 pub use Rattle.definitions.specs.Answers.Versions
 pub use Rattle.definitions.specs.Answers.Servers
 pub use Rattle.definitions.specs.Answers.Lists

@@ -34,7 +34,8 @@ module _ (P : Outcome → Type 0) (refusal : (f : Refusal) → P (refused f)) wh
       (λ fits. guard P refusal (is_some (found k ms)) (already_exists k) _ (λ free. guard P refusal (nat_le most_objects (length ms) || is_past_greatest (r + 1)) storage_full _ (λ room. each fits free room)))
 
   pub of_create : (kind : Kind) (ns : List ℕ) (read : Result Data Part) (ms : history.Members) (r : ℕ) (moment : List ℕ)
-      → ((o : Data) → is_too_large (created kind (r + 1) ns (new_name kind ns o ms r).name moment o) ≡ false → is_some (found (new_name kind ns o ms r) ms) ≡ false
+      → ((o : Data) → read ≡ Ok o → create_fault kind (new_name kind ns o ms r).name r (with_first_status kind o) ≡ None
+      → is_too_large (created kind (r + 1) ns (new_name kind ns o ms r).name moment o) ≡ false → is_some (found (new_name kind ns o ms r) ms) ≡ false
       → (nat_le most_objects (length ms) || is_past_greatest (r + 1)) ≡ false → P (stored 201 (new_name kind ns o ms r) (created kind (r + 1) ns (new_name kind ns o ms r).name moment o)))
       → P (create_read kind ns read ms r moment)
   of_create kind ns (Err p) ms r moment each = refusal (bad_request p)
@@ -42,7 +43,7 @@ module _ (P : Outcome → Type 0) (refusal : (f : Refusal) → P (refused f)) wh
       let k = new_name kind ns o ms r in
       guard P refusal (is_other (namespace o) ns || is_some (version o)) (bad_request part.Object) (create_checked k o ms r moment)
       (λ _. guard_field P refusal k (create_fault kind k.name r (with_first_status kind o)) (create_as k (created kind (r + 1) ns k.name moment o) ms r)
-      (λ _. of_create_as k (created kind (r + 1) ns k.name moment o) ms r (each o)))
+      (λ valid. of_create_as k (created kind (r + 1) ns k.name moment o) ms r (each o refl valid)))
 
   -- ---- what stands in the place of what is held
 
@@ -155,10 +156,10 @@ module _ (P : Outcome → Type 0) (refusal : (f : Refusal) → P (refused f)) (q
 
 -- ---- all verbs
 
--- what may be written of a new object, by a create
+-- what may be written of a new object, by a create: it was read, and its checks passed
 abbrev pub Creates : (Outcome → Type 0) → history.Members → ℕ → List ℕ → Type 0
 Creates P ms r moment =
-    (kind : Kind) (ns : List ℕ) (o : Data)
+    (kind : Kind) (ns : List ℕ) (d o : Data) → said kind d ≡ Ok o → create_fault kind (new_name kind ns o ms r).name r (with_first_status kind o) ≡ None
     → is_too_large (created kind (r + 1) ns (new_name kind ns o ms r).name moment o) ≡ false
     → is_some (found (new_name kind ns o ms r) ms) ≡ false
     → (nat_le most_objects (length ms) || is_past_greatest (r + 1)) ≡ false
@@ -203,7 +204,7 @@ module _ (P : Outcome → Type 0) (refusal : (f : Refusal) → P (refused f)) (q
   of_accept_at (get_object k) ms r moment new put gone status marks deletes = there P refusal k shown (found k ms) (λ d is. quiet 200 d)
   of_accept_at (list_objects v) ms r moment new put gone status marks deletes = quiet 200 _
   of_accept_at (create_object kind ns d) ms r moment new put gone status marks deletes =
-      of_create P refusal kind ns (said kind d) ms r moment (new kind ns)
+      of_create P refusal kind ns (said kind d) ms r moment (new kind ns d)
   of_accept_at (update_object k d) ms r moment new put gone status marks deletes =
       of_update P refusal (quiet 200) k (said k.kind d) ms r (λ o held read is same. put k o held is) (λ o held read is same. gone k o held is)
   of_accept_at (update_status k d) ms r moment new put gone status marks deletes =

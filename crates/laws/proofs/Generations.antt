@@ -149,7 +149,7 @@ count (get_object k) h moment = there (CountedBy (get_object k) h) (λ f. tt) k 
 count (list_objects v) h moment = tt
 count (create_object kind ns d) h moment =
     of_create (CountedBy (create_object kind ns d) h) (λ f. tt) kind ns (said kind d) (members h (present h)) (present h) moment
-    (λ o fits free room.
+    (λ o read valid fits free room.
     let k = new_name kind ns o (members h (present h)) (present h) in
     of_none (λ held. Counts (create_object kind ns d) kind held (created kind (present h + 1) ns k.name moment o)) (state h (present h) k)
     (sym (found-state h k) ∙ none_from (found k (members h (present h))) free))
@@ -200,7 +200,7 @@ generation-new_metadata k r ns named moment meta has =
 pub begin : GenerationsBegin
 begin kind ns d h moment has =
     of_create (λ u. OfStored u (λ k new. generation new ≡ 1)) (λ f. tt) kind ns (said kind d) (members h (present h)) (present h) moment
-    (λ o fits free room.
+    (λ o read valid fits free room.
     let k = new_name kind ns o (members h (present h)) (present h) in
     let meta = new_metadata kind (present h + 1) ns k.name moment (metadata_of o) in
     ap count_of

@@ -5,8 +5,7 @@ use Rattle.std.specs.Ordering.{match_ordering}
 use Rattle.std.specs.Map.{lookup, remove_entry}
 use Rattle.std.specs.BTreeMap.{insert_entry, is_at}
 use Rattle.serde_json.specs.Data.{Data}
-use Rattle.laws.specs.HistoryLaws.{BodiesFit, RunsStayWithinLimits, WritesHaveRoom}
-use Rattle.definitions.specs.Lines.{start, default_window}
+use Rattle.laws.specs.HistoryLaws.{BodiesFit, WritesHaveRoom}
 use Rattle.definitions.specs.Names.{Name, name_cmp}
 use Rattle.definitions.specs.History.{History, Write, write, writes, up_to, Members, after, after_all, put_or_remove, members, found, present}
 use Rattle.definitions.specs.declared.methods.Method.{Method}
@@ -19,8 +18,6 @@ use Rattle.definitions.specs.Verbs.{Request, accept, new_name, with_write, write
 use Rattle.laws.proofs.Cases.{of_accept_at}
 use Rattle.laws.proofs.Past.{writes-append, whole}
 use Rattle.definitions.proofs.PutLaws.{IsAscending, IsAbove-below, none_above, name_cmp_total, IsAscending-after_all}
-use Rattle.laws.proofs.Compacted.{snapshot-compaction}
-use Rattle.laws.proofs.Runs.{by_lines}
 use Rattle.laws.proofs.HeldMembers.{at_most}
 use Rattle.laws.proofs.VerbLaws.{present-write}
 
@@ -158,14 +155,6 @@ room q ms r moment =
     let full = nat_le most_objects (length ms) in
     let last = is_past_greatest (r + 1) in
     of_accept_at (λ o. IfSome (write_of o) (λ w. overflows ms r w ≡ false)) (λ f. tt) (λ code body. tt) q ms r moment
-    (λ kind ns o fits free left. room_of full last (is_some (found (new_name kind ns o ms r) ms)) left) (λ k o held at valid fits low. held_room (full && true) last (found k ms) held at low)
+    (λ kind ns d o read valid fits free left. room_of full last (is_some (found (new_name kind ns o ms r) ms)) left) (λ k o held at valid fits low. held_room (full && true) last (found k ms) held at low)
     (λ k o held at free low. gone_room full last (not (is_some (found k ms))) low) (λ k o held at fits low. held_room (full && true) last (found k ms) held at low)
     (λ k o held at low. held_room (full && true) last (found k ms) held at low) (λ k o held at none low. gone_room full last (not (is_some (found k ms))) low)
-
-each_outcome : (h : History) (o : Option Write) → IfSome o (λ w. overflows (members h (present h)) (present h) w ≡ false) → Within h → Within (with_write h o)
-each_outcome h None r w = w
-each_outcome h (Some v) r w = within-write h v r w
-
-pub limits : RunsStayWithinLimits
-limits lines =
-    by_lines Within (λ q h moment w. each_outcome h (write_of (accept q h moment)) (room q (members h (present h)) (present h) moment) w) (λ h r le w. subst (λ z. (length z.members ≤ 65536) × (z.revision ≤ 9007199254740991)) (sym (snapshot-compaction h r)) w) (start default_window) lines (omega arith, omega arith)

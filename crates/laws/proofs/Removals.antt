@@ -13,7 +13,7 @@ use Rattle.definitions.specs.DeleteOptions.{Options}
 use Rattle.definitions.specs.Deletion.{left_by, marked, others_then, of_policy, are_of, is_of_policy, with_deletion}
 use Rattle.definitions.specs.History.{History, found, members, present, state}
 use Rattle.laws.specs.HistoryLaws.{KeepsText, is_delete}
-use Rattle.laws.specs.LifecycleLaws.{OfReplaced, OfRemoved, all_of_policy, DeletesSpareFinalizers, LastFinalizersRemove, DeletionsStand, NoFinalizerIsAdded}
+use Rattle.laws.specs.LifecycleLaws.{OfReplaced, OfRemoved, all_of_policy, DeletesSpareFinalizers, LastFinalizersRemove, WritesKeepDeletions, NoFinalizerIsAdded}
 use Rattle.definitions.specs.Metadata.{metadata, metadata_of, metadata_text, at_revision, is_being_deleted}
 use Rattle.definitions.specs.Names.{Name}
 use Rattle.definitions.specs.NewObjects.{created}
@@ -79,7 +79,7 @@ pub last_removes : LastFinalizersRemove
 last_removes (get_object k) h moment other = there (TakesTheLast h) (λ f. tt) k shown (found k (members h (present h))) (λ d is. tt)
 last_removes (list_objects v) h moment other = tt
 last_removes (create_object kind ns d) h moment other =
-    of_create (TakesTheLast h) (λ f. tt) kind ns (said kind d) (members h (present h)) (present h) moment (λ o fits free room. tt)
+    of_create (TakesTheLast h) (λ f. tt) kind ns (said kind d) (members h (present h)) (present h) moment (λ o read valid fits free room. tt)
 last_removes (update_object k d) h moment other =
     of_update (TakesTheLast h) (λ f. tt) (λ d. tt) k (said k.kind d) (members h (present h)) (present h) (λ o held read at equal valid fits low. tt)
     (λ o held read at equal free low. let_go_of h k held (updated k.kind (present h + 1) held (in_place k.kind held o)) at free)
@@ -112,11 +112,11 @@ since_in_place k r held o =
     let d = in_place k held o in
     moved (metadata_text since held) (metadata_text since (updated k r held d)) (metadata_text since d) (text-updated k since r held d refl refl) (deletion-in_place k held o)
 
-pub stand : DeletionsStand
+pub stand : WritesKeepDeletions
 stand q h moment =
     let r = present h + 1 in
     of_accept (λ u. OfReplaced h u (λ k held new. KeepsText since held new)) (λ f. tt) (λ code body. tt) q h moment
-    (λ kind ns o fits free room.
+    (λ kind ns d o read valid fits free room.
     let k = new_name kind ns o (members h (present h)) (present h) in
     of_none (λ held. KeepsText since held (created kind r ns k.name moment o)) (state h (present h) k) (sym (found-state h k) ∙ none_from (found k (members h (present h))) free))
     (λ k o held at valid fits low.
@@ -256,7 +256,7 @@ adds_no_other (get_object k) h moment = there (AddedBy (get_object k) h) (λ f. 
 adds_no_other (list_objects v) h moment = tt
 adds_no_other (create_object kind ns d) h moment =
     of_create (AddedBy (create_object kind ns d) h) (λ f. tt) kind ns (said kind d) (members h (present h)) (present h) moment
-    (λ o fits free room.
+    (λ o read valid fits free room.
     let k = new_name kind ns o (members h (present h)) (present h) in
     of_none (λ held. Added (create_object kind ns d) held (created kind (present h + 1) ns k.name moment o)) (state h (present h) k) (sym (found-state h k) ∙ none_from (found k (members h (present h))) free))
 adds_no_other (update_object k d) h moment =

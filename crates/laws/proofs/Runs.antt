@@ -1,11 +1,11 @@
 -- What holds after any lines.
-use Rattle.std.proofs.Common.{◌≡◌, ◌≤◌, ℕ, ◌+◌, ◌==◌, List, [], ◌∷◌, ◌++◌, length, Bool, true, false, cond, nat_lt, Option, Some, None, IfSome, Result, Ok, Err, decimal, arith, append_assoc, subst, refl, sym, ap, ◌∙◌}
+use Rattle.std.proofs.Common.{◌≡◌, ◌≤◌, ℕ, ◌==◌, List, [], ◌∷◌, ◌++◌, length, Bool, true, false, cond, nat_lt, Option, Some, None, Result, Ok, Err, append_assoc, subst, refl, sym, ap, ◌∙◌}
 use Rattle.std.proofs.lemmas.Bool.{ltb-false}
 use Rattle.definitions.specs.declared.kinds.Kind.{Kind}
 use Rattle.definitions.specs.Collections.{ListOptions, WatchOptions}
-use Rattle.definitions.specs.History.{History, Entry, Write, View, write, compaction, writes, Follows, CanHappen, present}
-use Rattle.laws.specs.HistoryLaws.{RunsOnlyAdd, WindowsOnlyForget, RunsCanHappen, Carry, RunsCarryRevisions}
-use Rattle.definitions.specs.Lines.{Session, start, default_window, Line, ask, at, compact, unreadable, line_of, outcome, reply_for, watch_reply, compact_reply, history_from, session_after, next, after_lines}
+use Rattle.definitions.specs.History.{History, Entry, Write, View, write, compaction, present}
+use Rattle.laws.specs.HistoryLaws.{RunsOnlyAdd, WindowsOnlyForget}
+use Rattle.definitions.specs.Lines.{Session, start, Line, ask, at, compact, unreadable, line_of, outcome, reply_for, watch_reply, compact_reply, history_from, session_after, next, after_lines}
 use Rattle.definitions.specs.Lists.{list_answer}
 use Rattle.definitions.specs.Refusals.{Refusal, too_new}
 use Rattle.definitions.specs.Streams as streams
@@ -13,10 +13,6 @@ use Rattle.definitions.specs.Targets.{Asked, request, list, watch, read_request}
 use Rattle.definitions.specs.Verbs.{Request, accept, with_write, write_of}
 use Rattle.definitions.specs.Versions.{Listed, list_for, compacts}
 use Rattle.definitions.specs.WatchReplies.{watch_lines}
-use Rattle.definitions.specs.Metadata.{version}
-use Rattle.laws.proofs.Compacted.{same_writes, follows_compaction}
-use Rattle.laws.proofs.Past.{writes-append}
-use Rattle.laws.proofs.VerbLaws.{versions}
 
 -- a list and a watch leave what has happened as it is
 kept_list : (h : History) (v : View) (o : ListOptions) (r : Result Listed Refusal) → history_from h (outcome (list_answer v o r)) ≡ h
@@ -81,33 +77,6 @@ begins-entry h whole e b = (b.0 ++ e ∷ [], ap (λ l. l ++ e ∷ []) b.1 ∙ ap
 pub only_add : RunsOnlyAdd
 only_add s lines =
     by_lines (Begins s.history) (λ q h moment b. begins-write s.history h (write_of (accept q h moment)) b) (λ h r le b. begins-entry s.history h (compaction r) b) s lines ([], nothing s.history)
-
-follows-write : (r : ℕ) (h : History) (w : Write) → Follows r h → Follows r (h ++ write w ∷ [])
-follows-write r [] w f = tt
-follows-write r (write v ∷ h) w f = follows-write (r + 1) h w f
-follows-write r (compaction c ∷ h) w f = (f.0, follows-write r h w f.1)
-
-follows-outcome : (h : History) (o : Option Write) → CanHappen h → CanHappen (with_write h o)
-follows-outcome h None f = f
-follows-outcome h (Some w) f = follows-write 1 h w f
-
-pub can_happen : RunsCanHappen
-can_happen lines =
-    by_lines CanHappen (λ q h moment f. follows-outcome h (write_of (accept q h moment)) f) (λ h r le f. follows_compaction 1 (present h) r h (omega arith) le f) (start default_window) lines tt
-
-carry-append : (r n : ℕ) (ws : List Write) (w : Write) → n ≡ r + length ws → Carry r ws → IfSome w.put (λ d. version d ≡ Some (decimal n)) → Carry r (ws ++ w ∷ [])
-carry-append r n [] w is c last =
-    let here : n ≡ r = omega (arith, is) in
-    (subst (λ m. IfSome w.put (λ d. version d ≡ Some (decimal m))) here last, tt)
-carry-append r n (v ∷ ws) w is c last = (c.0, carry-append (r + 1) n ws w (omega (arith, is)) c.1 last)
-
-carry-write : (h : History) (o : Option Write) → IfSome o (λ w. IfSome w.put (λ d. version d ≡ Some (decimal (present h + 1)))) → Carry 2 (writes h) → Carry 2 (writes (with_write h o))
-carry-write h None v c = c
-carry-write h (Some w) v c = subst (Carry 2) (sym (writes-append h (write w ∷ []))) (carry-append 2 (present h + 1) (writes h) w (omega arith) c v)
-
-pub carry : RunsCarryRevisions
-carry lines =
-    by_lines (λ h. Carry 2 (writes h)) (λ q h moment c. carry-write h (write_of (accept q h moment)) (versions q h moment) c) (same_writes (Carry 2)) (start default_window) lines tt
 
 -- ---- windows
 

@@ -1,4 +1,4 @@
--- What the changes of a watch show, after any lines.
+-- What the changes of a watch show, in all that is reached.
 use Rattle.std.proofs.Common.{◌≡◌, ◌≤◌, ◌+◌, ◌-◌, ◌==◌, ◌&&◌, ℕ, List, [], ◌∷◌, ◌++◌, length, drop, Bool, true, false, cond, not, nat_le, codes, decimal, is_some, bytes_eq, option_and_then, IsSome, IfSome, unwrap_or, Option, Some, None, Ok, refl, sym, ap, ◌∙◌, subst, arith, length-append}
 use Rattle.std.proofs.lemmas.Bool.{leb-true}
 use Rattle.std.proofs.lemmas.List.{length-take}
@@ -13,7 +13,6 @@ use Rattle.definitions.specs.Changes.{Change, change_of, changes_after, gone_at}
 use Rattle.definitions.specs.History.{Write, writes, present, up_to, last_of, in_view, seen}
 use Rattle.definitions.specs.Metadata.{at_revision, metadata_of, metadata_text, name, namespace, uid}
 use Rattle.definitions.specs.Names.{Name}
-use Rattle.definitions.specs.Lines.{history_of}
 use Rattle.definitions.specs.Reading.{reading, is_body, fits, tidied, filled, whole_of}
 use Rattle.definitions.specs.Reflectors.{shown, shown_read, has_identity, revision, name_in}
 use Rattle.definitions.specs.Revisions.{revision_of}
@@ -21,13 +20,13 @@ use Rattle.laws.specs.SentLaws.{IsKept, IsTold, IsShort, ChangesAreTold, whole}
 use Rattle.definitions.specs.Values.{members_of}
 use Rattle.laws.proofs.HeldMembers.{version-at_revision}
 use Rattle.definitions.proofs.JsonMembers.{text_in-put_other, metadata_text-with}
-use Rattle.laws.proofs.Limits.{limits}
+use Rattle.laws.proofs.Limited.{limited}
 use Rattle.laws.proofs.NoFloatsRead.{both_true}
 use Rattle.laws.proofs.Played.{up_to-split}
 use Rattle.laws.proofs.ReadAgain.{opened}
 use Rattle.definitions.proofs.RevisionTexts.{revision_is}
 use Rattle.laws.proofs.SentObjects.{IsStored, IsHeld, filled_decimal, whole_stored}
-use Rattle.laws.proofs.SentRuns.{AreStored, AreStored-split, AreStored-up_to, last_held, all_stored}
+use Rattle.laws.proofs.Stored.{AreStored, AreStored-split, AreStored-up_to, last_held, all_stored}
 use Rattle.laws.proofs.TextLengths.{fits_at}
 use Rattle.laws.proofs.WholeObjects.{neat_metadata, ordered_metadata, reads_whole, whole_at}
 
@@ -143,12 +142,11 @@ both k [] a = (tt, tt)
 both k (c ∷ cs) a = let more = both k cs a.1 in ((a.0.0, more.0), (a.0.1, more.1))
 
 pub changes_told : ChangesAreTold
-changes_told lines k a b le =
-    let h = history_of lines in
+changes_told h k a b reached le =
     let ws = drop (a - 1) (up_to b h) in
-    let few : present h ≤ 9007199254740991 = (limits lines).1 in
+    let few : present h ≤ 9007199254740991 = (limited h reached).1 in
     let split : up_to a h ++ ws ≡ up_to b h = up_to-split h a b le in
-    let parts = AreStored-split 2 (up_to a h) ws (subst (AreStored 2) (sym split) (AreStored-up_to h b (all_stored lines))) in
+    let parts = AreStored-split 2 (up_to a h) ws (subst (AreStored 2) (sym split) (AreStored-up_to h b (all_stored h reached))) in
     let place : 2 + length (up_to a h) ≡ length (up_to a h) + 2 = omega arith in
     let long : length (up_to a h) + length ws ≡ length (up_to b h) = sym (length-append (up_to a h) ws) ∙ ap length split in
     let short = length-take (b - 1) (writes h) in

@@ -1,11 +1,9 @@
--- The body of a list, as it is read.
-use Rattle.std.proofs.Common.{◌≡◌, ◌≤◌, ◌+◌, ◌||◌, ℕ, List, [], ◌∷◌, ◌++◌, map, Bool, true, false, cond, nat_le, codes, bytes_eq, is_some, is_eq, IfSome, Option, Some, None, option_map, option_and_then, Ok, Ordering, Less, Equal, Greater, refl, sym, ap, ◌∙◌, subst, arith, append_assoc, append-nil}
+-- The body of a list, as it is read, and the map that it plays to.
+use Rattle.std.proofs.Common.{◌≡◌, ◌≤◌, ◌||◌, ℕ, List, [], ◌∷◌, ◌++◌, map, Bool, true, false, cond, nat_le, codes, bytes_eq, is_some, Option, Some, None, option_map, option_and_then, Ok, Greater, refl, sym, ap, ◌∙◌, subst, arith, append_assoc, append-nil}
 use Rattle.std.proofs.lemmas.Bool.{le-leb}
 use Rattle.std.proofs.lemmas.Slice.Eq.{bytes_eq-Decides}
-use Rattle.std.specs.BTreeMap.{insert_entry, is_at}
 use Rattle.std.specs.List.{AllByRecursion, list_any}
-use Rattle.std.specs.Map.{remove_entry}
-use Rattle.std.specs.Ordering.{match_ordering, ordering_reverse}
+use Rattle.std.specs.Ordering.{ordering_reverse}
 use Rattle.std.specs.Str.{is_utf8}
 use Rattle.serde_json.specs.Data as json
 use Rattle.serde_json.specs.Data.{Data, null, boolean, number, string, array, object, no_members, member, put, depth, items_depth}
@@ -18,7 +16,7 @@ use Rattle.definitions.specs.declared.schemas.Member.{Member}
 use Rattle.definitions.specs.declared.schemas.Shape.TheVariants.{NameOf, VersionOf, Object as ObjectOf}
 use Rattle.definitions.specs.declared.schemas.Schema.TheVariants.{Root}
 use Rattle.definitions.specs.Kinds.{api_version, kind_text}
-use Rattle.definitions.specs.History.{Write, Members, present, up_to, after_all, put_or_remove, in_view, viewed, list}
+use Rattle.definitions.specs.History.{History, Members, present, up_to, after_all, put_or_remove, in_view, viewed, list}
 use Rattle.definitions.specs.Names.{Name, name_cmp, is_named}
 use Rattle.definitions.specs.Objects.{Object}
 use Rattle.definitions.specs.Reading.{reading, is_body, is_absent, fits, tidied, filled, empty}
@@ -26,18 +24,19 @@ use Rattle.definitions.specs.Schemas.{kept, member_at}
 use Rattle.definitions.specs.Values.{members_of, without, is_null}
 use Rattle.definitions.specs.Verbs.{as_item, list_body}
 use Rattle.definitions.specs.Reflectors.{Shown, shown, shown_read, name_in, all_shown, apart, items_shown, repeats, is_list, revision, list_in, list_of, put_all}
-use Rattle.definitions.specs.Lines.{history_of}
-use Rattle.laws.specs.SentLaws.{whole, objects_in, ListsAreRead, ListsNest}
+use Rattle.definitions.specs.Reached.{IsReached}
+use Rattle.laws.specs.SentLaws.{whole, objects_in, ListsArePut, ListsAreRead, ListsNest}
 use Rattle.definitions.proofs.JsonMembers.{get_member-without_other}
 use Rattle.laws.proofs.JsonOrder.{IsOrdered, IsOrdered-without, put_back, gone}
-use Rattle.laws.proofs.Limits.{limits}
+use Rattle.laws.proofs.Limited.{limited}
 use Rattle.laws.proofs.NeatMembers.{Neat, Neat-get, Neat-without, Neat-depth, Neat-whole, Neat-fits, Neat-tidy, opens}
-use Rattle.definitions.proofs.PutLaws.{name_cmp_total, same_name, IsAbove, IsAscending}
+use Rattle.definitions.proofs.PutLaws.{name_cmp_total, IsAbove, IsAscending}
 use Rattle.laws.proofs.ReadAgain.{Has, HasSpec, Filled, Filled-filled, defaulted, spec_members, filled_members, filled-object, closed, tidied_members-MembersTidy}
 use Rattle.definitions.proofs.RevisionTexts.{revision_is}
 use Rattle.laws.proofs.SentChanges.{shown_is, name_is, same_kind, nests, read_body}
-use Rattle.laws.proofs.SentObjects.{IsStored, IsHeld}
-use Rattle.laws.proofs.SentRuns.{AreStored, AreStored-up_to, all_stored}
+use Rattle.laws.proofs.SentObjects.{IsHeld}
+use Rattle.laws.proofs.EachWrite.{Held, held_all}
+use Rattle.laws.proofs.Stored.{AreStored-up_to, all_stored, held_puts}
 use Rattle.laws.proofs.Streamed.{put_last, list_ascending}
 
 -- ---- an item says what the object says
@@ -151,50 +150,19 @@ item_shown k n d same held =
 
 -- ---- the members of a list
 
-abbrev Lists : Kind → Name × Data → Type 0
+abbrev pub Lists : Kind → Name × Data → Type 0
 Lists k m = (k ≡ m.0.kind) × IsHeld m.0 m.1
-
-abbrev Held : Members → Type 0
-Held ms = AllByRecursion (λ (m : Name × Data). IsHeld m.0 m.1) ms
-
-insert_at : (o : Ordering) (n : Name) (d : Data) (m : Name × Data) (ms : Members) → name_cmp n m.0 ≡ o → IsHeld n d → Held (m ∷ ms) → Held (insert_entry name_cmp ms n d)
-    → Held (match_ordering o ((n, d) ∷ m ∷ ms) ((m.0, d) ∷ ms) (m ∷ insert_entry name_cmp ms n d))
-insert_at Less n d m ms is h a later = (h, a)
-insert_at Equal n d m ms is h a later = (subst (λ x. IsHeld x d) (same_name n m.0 (ap is_eq is)) h, a.1)
-insert_at Greater n d m ms is h a later = (a.0, later)
-
-held_insert : (n : Name) (d : Data) (ms : Members) → IsHeld n d → Held ms → Held (insert_entry name_cmp ms n d)
-held_insert n d [] h a = (h, tt)
-held_insert n d (m ∷ ms) h a = insert_at (name_cmp n m.0) n d m ms refl h a (held_insert n d ms h a.1)
-
-remove_at : (b : Bool) (m : Name × Data) (ms left : Members) → Held (m ∷ ms) → Held left → Held (cond b ms (m ∷ left))
-remove_at true m ms left a later = a.1
-remove_at false m ms left a later = (a.0, later)
-
-held_remove : (n : Name) (ms : Members) → Held ms → Held (remove_entry (is_at (name_cmp n)) ms)
-held_remove n [] a = tt
-held_remove n (m ∷ ms) a = remove_at (is_at (name_cmp n) m.0) m ms (remove_entry (is_at (name_cmp n)) ms) a (held_remove n ms a.1)
-
-held_after : (r : ℕ) (n : Name) (o : Option Data) (ms : Members) → IfSome o (IsStored n r) → Held ms → Held (put_or_remove ms n o)
-held_after r n None ms h a = held_remove n ms a
-held_after r n (Some d) ms h a = held_insert n d ms (r, h) a
-
-held_all : (r : ℕ) (ws : List Write) (ms : Members) → AreStored r ws → Held ms → Held (after_all ms ws)
-held_all r [] ms s a = a
-held_all r (w ∷ ws) ms s a = held_all (r + 1) ws (put_or_remove ms w.key w.put) s.1 (held_after r w.key w.put ms s.0 a)
 
 view_at : (k : Kind) (b : Bool) (m : Name × Data) (ms : Members) → in_view (whole k) m.0 m.1 ≡ b → IsHeld m.0 m.1 → AllByRecursion (Lists k) ms → AllByRecursion (Lists k) (cond b (m ∷ ms) ms)
 view_at k true m ms is h a = ((same_kind k m.0.kind is, h), a)
 view_at k false m ms is h a = a
 
-in_list : (k : Kind) (ms : Members) → Held ms → AllByRecursion (Lists k) (viewed (whole k) ms)
+in_list : (k : Kind) (ms : Members) → Held IsHeld ms → AllByRecursion (Lists k) (viewed (whole k) ms)
 in_list k [] a = tt
 in_list k (m ∷ ms) a = view_at k (in_view (whole k) m.0 m.1) m (viewed (whole k) ms) refl a.0 (in_list k ms a.1)
 
-pub all_listed : (lines : List (List ℕ)) (k : Kind) (r : ℕ) → AllByRecursion (Lists k) (list (history_of lines) (whole k) r)
-all_listed lines k r =
-    let h = history_of lines in
-    in_list k (after_all [] (up_to r h)) (held_all 2 (up_to r h) [] (AreStored-up_to h r (all_stored lines)) tt)
+pub all_listed : (h : History) (k : Kind) (r : ℕ) → IsReached h → AllByRecursion (Lists k) (list h (whole k) r)
+all_listed h k r reached = in_list k (after_all [] (up_to r h)) (held_all IsHeld (up_to r h) [] (held_puts 2 (up_to r h) (AreStored-up_to h r (all_stored h reached))) tt)
 
 -- ---- the body
 
@@ -242,22 +210,21 @@ list_of_is k body d u r = rw (u, r) refl
 
 -- ---- the map that it plays to
 
-put_all_on : (k : Kind) (ms done : Members) → AllByRecursion (Lists k) ms → IsAscending name_cmp (done ++ ms) → put_all done (objects_in k ms) ≡ done ++ ms
+pub put_all_on : (k : Kind) (ms done : Members) → AllByRecursion (Lists k) ms → IsAscending name_cmp (done ++ ms) → put_all done (objects_in k ms) ≡ done ++ ms
 put_all_on k [] done a ascending = sym (append-nil done)
 put_all_on k (m ∷ ms) done a ascending =
     ap (λ n. put_all (put_or_remove done n (Some m.1)) (objects_in k ms)) (name_is k m.0 a.0.1.0 m.1 a.0.0 a.0.1.1.kept)
     ∙ ap (λ z. put_all z (objects_in k ms)) (put_last done m ms ascending)
     ∙ put_all_on k ms (done ++ m ∷ []) a.1 (subst (IsAscending name_cmp) (sym (append_assoc done (m ∷ []) ms)) ascending) ∙ append_assoc done (m ∷ []) ms
 
+pub lists_put : ListsArePut
+lists_put h k r reached = put_all_on k (list h (whole k) r) [] (all_listed h k r reached) (list_ascending h (whole k) r)
+
 pub lists_read : ListsAreRead
-lists_read lines k r body text =
-    let h = history_of lines in
-    let few : present h ≤ 9007199254740991 = (limits lines).1 in
-    let all = all_listed lines k r in
-    let ascending = list_ascending h (whole k) r in (
-      list_of_is k body (list_body k r (list h (whole k) r)) text.utf8 text.says ∙ list_is k r (list h (whole k) r) all ascending (omega (arith, text.reached, few)),
-      put_all_on k (list h (whole k) r) [] all ascending,
-    )
+lists_read h k r body reached text =
+    let few : present h ≤ 9007199254740991 = (limited h reached).1 in
+    list_of_is k body (list_body k r (list h (whole k) r)) text.utf8 text.says
+    ∙ list_is k r (list h (whole k) r) (all_listed h k r reached) (list_ascending h (whole k) r) (omega (arith, text.reached, few))
 
 -- ---- how deep it nests
 
@@ -269,5 +236,5 @@ items_nest k (m ∷ ms) a =
     let more = items_nest k ms a.1 in omega (arith, here, more)
 
 pub lists_nest : ListsNest
-lists_nest lines k r =
-    let h = items_nest k (list (history_of lines) (whole k) r) (all_listed lines k r) in omega (arith, h)
+lists_nest h k r reached =
+    let deep = items_nest k (list h (whole k) r) (all_listed h k r reached) in omega (arith, deep)

@@ -130,17 +130,19 @@ met : (b : Bool) (f : Field) (rest : Option Field) → cond b rest (Some f) ≡ 
 met true f rest h = (refl, h)
 met false f rest h = cc
 
-pub filled_new : (kind : Kind) (ns : List ℕ) (o : Data) (ms : history.Members) (r now : ℕ) → create_fault kind (new_name kind ns o ms r).name now (with_first_status kind o) ≡ None → IsFilled (new_name kind ns o ms r).name
-filled_new kind ns o ms r now none =
+pub created_valid : (kind : Kind) (ns : List ℕ) (o : Data) (ms : history.Members) (r now : ℕ) → create_fault kind (new_name kind ns o ms r).name now (with_first_status kind o) ≡ None → is_subdomain (new_name kind ns o ms r).name ≡ true
+created_valid kind ns o ms r now none =
     let made = (new_name kind ns o ms r).name in
     let d = with_first_status kind o in
     let first = met (is_name_valid d) field.Name _ none in
     let second = met (is_generate_name_valid made d) field.GenerateName _ first.1 in
     let named : name o ≡ name d = ap (text_in (codes "name")) (sym (metadata_of-first kind o)) in
     let given : generate_name o ≡ generate_name d = ap (text_in (codes "generateName")) (sym (metadata_of-first kind o)) in
-    filled_name made
-    (valid_name (is_free kind ns ms) (name o) (generate_name o) (r + 1) d (sym given) (ap (λ n. is_name n d) named ∙ first.0)
-    (ap₂ (λ n g. is_some n || passes_if_there (generates made) g) named given ∙ second.0))
+    valid_name (is_free kind ns ms) (name o) (generate_name o) (r + 1) d (sym given) (ap (λ n. is_name n d) named ∙ first.0)
+    (ap₂ (λ n g. is_some n || passes_if_there (generates made) g) named given ∙ second.0)
+
+pub filled_new : (kind : Kind) (ns : List ℕ) (o : Data) (ms : history.Members) (r now : ℕ) → create_fault kind (new_name kind ns o ms r).name now (with_first_status kind o) ≡ None → IsFilled (new_name kind ns o ms r).name
+filled_new kind ns o ms r now none = filled_name (new_name kind ns o ms r).name (created_valid kind ns o ms r now none)
 
 one_name : (t : List ℕ) → IsFilled t → One 98 Metadata (codes "name") (string t)
 one_name t h = (refl, h, tt, omega arith, refl)

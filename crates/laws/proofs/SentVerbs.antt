@@ -1,5 +1,5 @@
 -- What each verb stores is stored as it should be.
-use Rattle.std.proofs.Common.{◌≡◌, ◌≤◌, ◌+◌, ◌||◌, ◌&&◌, ◌==◌, ℕ, List, length, Bool, true, false, cond, not, nat_le, codes, decimal, bytes_eq, is_some, IfSome, Option, Some, None, Result, Ok, Err, refl, sym, ap, ◌∙◌, subst, arith}
+use Rattle.std.proofs.Common.{◌≡◌, ◌≤◌, ◌+◌, ◌&&◌, ◌==◌, ℕ, List, length, Bool, true, false, cond, not, nat_le, codes, decimal, bytes_eq, is_some, IfSome, Option, Some, None, Result, Ok, Err, refl, sym, ap, ◌∙◌, subst, arith}
 use Rattle.std.proofs.lemmas.Slice.Eq.{bytes_eq-Decides}
 use Rattle.serde_json.specs.Data.{Data, string, array, object, Items, put}
 use Rattle.serde_json.specs.Events.{items_len}
@@ -12,7 +12,7 @@ use Rattle.definitions.specs.declared.refusals.Part.{Part}
 use Rattle.definitions.specs.declared.refusals.Part.TheVariants as part
 use Rattle.definitions.specs.declared.refusals.Mismatch.TheVariants as mismatch
 use Rattle.definitions.specs.declared.schemas.Schema.TheVariants.{Metadata}
-use Rattle.definitions.specs.Checks.{create_fault, update_fault, is_status_valid, finalizers}
+use Rattle.definitions.specs.Checks.{update_fault, is_status_valid, finalizers}
 use Rattle.definitions.specs.DeleteOptions.{Options}
 use Rattle.definitions.specs.Deletion.{Fate, remove, mark, keep, decided, fate, kept_code, leaves, left_by, marked, removal_of, with_deletion}
 use Rattle.definitions.specs.Kinds.{has_generation, has_status}
@@ -26,6 +26,7 @@ use Rattle.definitions.specs.Refusals.{bad_request, not_found, already_exists, i
 use Rattle.definitions.specs.Replacements.{generation, in_place, is_let_go, is_new_generation, next_generation, said_status, says_the_same, updated, with_next_generation, with_said_status}
 use Rattle.definitions.specs.Values.{inner_of, members_of, merged}
 use Rattle.definitions.specs.Verbs.{Request, get_object, list_objects, create_object, update_object, update_status, patch_object, delete_object, accept, by_decision, by_fate, delete, removed, stored, shown, said, create_read, create_checked, create_as, new_name, update_read, replace, replace_with, replace_changed, let_go, put_in_place, status_read, restate, restate_with, patch, patch_read, names_path, is_too_large, is_past_greatest, most_objects, status_put}
+use Rattle.laws.proofs.Cases.{of_create}
 use Rattle.laws.proofs.Guards.{there, either}
 use Rattle.laws.proofs.HeldMembers.{name-new_metadata, namespace-new_metadata, uid-new_metadata, name-in_place, namespace-in_place, uid-in_place, text-with_next_generation}
 use Rattle.definitions.proofs.JsonMembers.{apart, text_in, text_in-put_other, metadata_of-with}
@@ -42,17 +43,11 @@ use Rattle.laws.proofs.SentObjects.{IsStored, IsHeld, IsAsked, Says, stored_in, 
 
 -- ---- create
 
-by_create_as : (k : Name) (d : Data) (ms : history.Members) (r : ℕ) → (is_too_large d ≡ false → r + 1 ≤ 9007199254740991 → IsStored k (r + 1) d) → Stores (r + 1) (create_as k d ms r)
-by_create_as k d ms r each =
-    behind (r + 1) (is_too_large d) too_large _
-    (λ fits. behind (r + 1) (is_some (found k ms)) (already_exists k) _
-    (λ _. behind (r + 1) (nat_le most_objects (length ms) || is_past_greatest (r + 1)) storage_full (stored 201 k d)
-    (λ room. each fits (low_after (r + 1) (either_false (nat_le most_objects (length ms)) (is_past_greatest (r + 1)) room)))))
-
-by_create : (kind : Kind) (ns : List ℕ) (d : Data) (read : Result Data Part) (ms : history.Members) (r : ℕ) (moment : List ℕ) → said kind d ≡ read → IsFilled ns → IsFilled moment
-    → HasOrders d → Stores (r + 1) (create_read kind ns read ms r moment)
-by_create kind ns d (Err p) ms r moment is space now a = tt
-by_create kind ns d (Ok o) ms r moment is space now a =
+by_create : (kind : Kind) (ns : List ℕ) (d : Data) (ms : history.Members) (r : ℕ) (moment : List ℕ) → IsFilled ns → IsFilled moment → HasOrders d
+    → Stores (r + 1) (create_read kind ns (said kind d) ms r moment)
+by_create kind ns d ms r moment space now a =
+    of_create (Stores (r + 1)) (λ f. tt) kind ns (said kind d) ms r moment
+    (λ o is none fits free room.
     let k = new_name kind ns o ms r in
     let meta = new_metadata kind (r + 1) ns k.name moment (metadata_of o) in
     let new = object (with_status (first_status kind) (members_of o)) in
@@ -63,12 +58,10 @@ by_create kind ns d (Ok o) ms r moment is space now a =
       namespace = namespace-new_metadata kind (r + 1) ns k.name moment (metadata_of o);
       uid = ap is_some (uid-new_metadata kind (r + 1) ns k.name moment (metadata_of o));
     } in
-    behind (r + 1) (is_other (namespace o) ns || is_some (version o)) (bad_request part.Object) (create_checked k o ms r moment)
-    (λ _. behind_field (r + 1) k (create_fault kind k.name r (with_first_status kind o)) (create_as k (created kind (r + 1) ns k.name moment o) ms r)
-    (λ none. by_create_as k (created kind (r + 1) ns k.name moment o) ms r
-    (λ fits low. stored_at k (r + 1) meta new (whole_status kind (first_status kind) (members_of o) (may_first kind) w)
+    let low = low_after (r + 1) (either_false (nat_le most_objects (length ms)) (is_past_greatest (r + 1)) room) in
+    stored_at k (r + 1) meta new (whole_status kind (first_status kind) (members_of o) (may_first kind) w)
     (neat_new kind (r + 1) ns k.name moment (metadata_of o) space (filled_new kind ns o ms r r none) now (neat_metadata kind o w))
-    (ordered_new kind (r + 1) ns k.name moment (metadata_of o) (ordered_metadata kind o w)) says low fits)))
+    (ordered_new kind (r + 1) ns k.name moment (metadata_of o) (ordered_metadata kind o w)) says low fits)
 
 -- ---- update
 
@@ -268,7 +261,7 @@ by_delete k o ms r moment now held =
 pub stores : (q : Request) (h : History) (moment : List ℕ) → IsAsked q → IsTime moment → ((k : Name) → IfSome (found k (members h (present h))) (IsHeld k)) → Stores (present h + 1) (accept q h moment)
 stores (get_object k) h moment asked now held = there (Stores (present h + 1)) (λ f. tt) k shown (found k (members h (present h))) (λ d is. tt)
 stores (list_objects v) h moment asked now held = tt
-stores (create_object kind ns d) h moment asked now held = by_create kind ns d (said kind d) (members h (present h)) (present h) moment refl asked.0 now.0 asked.1
+stores (create_object kind ns d) h moment asked now held = by_create kind ns d (members h (present h)) (present h) moment asked.0 now.0 asked.1
 stores (update_object k d) h moment asked now held = by_update k d (said k.kind d) (members h (present h)) (present h) refl asked (held k)
 stores (update_status k d) h moment asked now held = by_status k d (reading k.kind d) (members h (present h)) (present h) refl asked (held k)
 stores (patch_object k d) h moment asked now held = by_patch k d (members h (present h)) (present h) (held k)

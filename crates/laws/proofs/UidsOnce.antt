@@ -1,12 +1,12 @@
--- No two objects that are created get one uid, whatever lines are read.
+-- The uid of a new object is that of no object that was ever there.
 use Rattle.std.proofs.Common.{◌≡◌, ◌≤◌, ◌+◌, ◌-◌, ℕ, List, [], ◌∷◌, ◌++◌, length, Bool, true, false, cond, codes, IfSome, Option, Some, None, arith, refl, sym, subst, ap, ◌∙◌}
 use Rattle.serde_json.specs.Data.{Data}
 use Rattle.definitions.specs.Checks.{finalizers}
 use Rattle.definitions.specs.Deletion.{left_by, marked}
 use Rattle.definitions.specs.History.{History, Write, write, writes, found, last_of, members, present, up_to}
 use Rattle.laws.specs.HistoryLaws.{OfStored, KeepsText}
-use Rattle.laws.specs.LifecycleLaws.{NoneHas, UidsAreGivenOnce}
-use Rattle.definitions.specs.Lines.{start, default_window, history_of}
+use Rattle.laws.specs.LifecycleLaws.{NoneHas, NewUidsAreUnused}
+use Rattle.definitions.specs.Reached.{IsReached}
 use Rattle.definitions.specs.Metadata.{metadata_of, uid, at_revision}
 use Rattle.definitions.specs.Names.{Name, is_named}
 use Rattle.definitions.specs.Replacements.{in_place, updated, with_said_status}
@@ -14,10 +14,10 @@ use Rattle.definitions.specs.Uids.{uid_text, uid_revision, cluster_word}
 use Rattle.definitions.specs.Verbs.{Request, accept, new_name, said, with_write, write_of}
 use Rattle.laws.proofs.Cases.{of_accept, of_create}
 use Rattle.laws.proofs.HeldMembers.{uid-created}
-use Rattle.laws.proofs.Limits.{limits}
+use Rattle.laws.proofs.Limited.{limited}
 use Rattle.laws.proofs.Past.{whole, writes-append}
 use Rattle.laws.proofs.Compacted.{same_writes}
-use Rattle.laws.proofs.Runs.{by_lines}
+use Rattle.laws.proofs.Reaching.{by_reached}
 use Rattle.definitions.proofs.Uids.{held}
 use Rattle.laws.proofs.VerbLaws.{found-state, kept_in_place, present-write, text-marked, text-restated}
 
@@ -68,7 +68,7 @@ born_by : (q : Request) (h : History) (moment : List ℕ) → AreBorn (present h
 born_by q h moment b =
     let r = present h + 1 in
     of_accept (λ o. OfStored o (λ k d. IsBorn (present h + 1) d)) (λ f. tt) (λ code body. tt) q h moment
-    (λ kind ns o fits free room. (r, uid-created kind r ns (new_name kind ns o (members h (present h)) (present h)).name moment o, omega arith))
+    (λ kind ns d o read valid fits free room. (r, uid-created kind r ns (new_name kind ns o (members h (present h)) (present h)).name moment o, omega arith))
     (λ k o was at valid fits low. born_kept (present h) was (updated k.kind r was (in_place k.kind was o)) (found_born h k was b at) (kept_in_place k.kind r was o).0)
     (λ k o was at free low. tt)
     (λ k o was at fits low.
@@ -86,8 +86,8 @@ born_write h (Some w) v b =
     subst (λ n. AreBorn n (writes (with_write h (Some w)))) (sym (present-write h w))
     (subst (AreBorn (present h + 1)) (sym (writes-append h (write w ∷ []))) (born_append (present h + 1) (writes h) w (later_all (present h) (present h + 1) (writes h) (omega arith) b) v))
 
-born : (lines : List (List ℕ)) → AreBorn (present (history_of lines)) (writes (history_of lines))
-born lines = by_lines (λ h. AreBorn (present h) (writes h)) (λ q h moment b. born_write h (write_of (accept q h moment)) (born_by q h moment b) b) (same_writes (λ ws. AreBorn (length ws + 1) ws)) (start default_window) lines tt
+born : (h : History) → IsReached h → AreBorn (present h) (writes h)
+born h reached = by_reached (λ h. AreBorn (present h) (writes h)) (λ q h moment a t b. born_write h (write_of (accept q h moment)) (born_by q h moment b) b) (same_writes (λ ws. AreBorn (length ws + 1) ws)) h reached tt
 
 -- a uid of an earlier create is another
 not_next : (n r : ℕ) (d : Data) → n ≤ 9007199254740991 → r ≤ n → uid d ≡ Some (uid_text cluster_word r) → uid d ≡ Some (uid_text cluster_word (n + 1)) → ⊥
@@ -107,9 +107,8 @@ none_has : (n : ℕ) (ws : List Write) → n ≤ 9007199254740991 → AreBorn n 
 none_has n [] low b = tt
 none_has n (w ∷ ws) low b = (one_has_not n w.put low b.0, none_has n ws low b.1)
 
-pub given_once : UidsAreGivenOnce
-given_once lines kind ns d moment =
-    let h = (history_of lines) in
+pub unused : NewUidsAreUnused
+unused h kind ns d moment reached =
     of_create (λ u. OfStored u (λ k new. (t : List ℕ) × (uid new ≡ Some t) × NoneHas t (writes h))) (λ f. tt) kind ns (said kind d) (members h (present h)) (present h) moment
-    (λ o fits free room.
-    (uid_text cluster_word (present h + 1), uid-created kind (present h + 1) ns (new_name kind ns o (members h (present h)) (present h)).name moment o, none_has (present h) (writes h) (limits lines).1 (born lines)))
+    (λ o read valid fits free room.
+    (uid_text cluster_word (present h + 1), uid-created kind (present h + 1) ns (new_name kind ns o (members h (present h)) (present h)).name moment o, none_has (present h) (writes h) (limited h reached).1 (born h reached)))

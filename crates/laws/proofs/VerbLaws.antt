@@ -35,7 +35,7 @@ use Rattle.definitions.proofs.PutLaws.{found-after_all, name_cmp_total}
 pub versions : WritesCarryTheirRevision
 versions q h moment =
     of_accept (λ o. OfStored o (λ k d. version d ≡ Some (decimal (present h + 1)))) (λ f. tt) (λ code body. tt) q h moment
-    (λ kind ns o fits free room.
+    (λ kind ns d o read valid fits free room.
     let k = new_name kind ns o (members h (present h)) (present h) in
     version-at_revision (present h + 1) (new_metadata kind (present h + 1) ns k.name moment (metadata_of o)) (object (with_status (first_status kind) (members_of o))))
     (λ k o held at valid fits low.
@@ -53,7 +53,7 @@ found-state h k = found-after_all k [] (up_to (present h) h) tt
 pub creates : CreatesAreNew
 creates kind ns d h moment =
     of_create (λ o. OfStored o (λ k new. (state h (present h) k ≡ None) × (uid new ≡ Some (uid_text cluster_word (present h + 1))))) (λ f. tt) kind ns (said kind d) (members h (present h)) (present h) moment
-    (λ o fits free room. (sym (found-state h _) ∙ none_from _ free, uid-created kind (present h + 1) ns (new_name kind ns o (members h (present h)) (present h)).name moment o))
+    (λ o read valid fits free room. (sym (found-state h _) ∙ none_from _ free, uid-created kind (present h + 1) ns (new_name kind ns o (members h (present h)) (present h)).name moment o))
 
 same_at : (b : Bool) (s t : List ℕ) → bytes_eq s t ≡ b → not b ≡ false → t ≡ s
 same_at true s t is h = sym ((bytes_eq-Decides s t).0 is)
@@ -113,7 +113,7 @@ reads_write h k d =
 pub reads : AnswersAreRead
 reads q h moment =
     of_accept (λ o. OfStored o (λ k d. (outcome_body o ≡ d) × (state (history_after h o) (present (history_after h o)) k ≡ Some d))) (λ f. tt) (λ code body. tt) q h moment
-    (λ kind ns o fits free room. (refl, reads_write h _ _)) (λ k o held at valid fits low. (refl, reads_write h k _)) (λ k o held at free low. tt) (λ k o held at fits low. (refl, reads_write h k _))
+    (λ kind ns d o read valid fits free room. (refl, reads_write h _ _)) (λ k o held at valid fits low. (refl, reads_write h k _)) (λ k o held at free low. tt) (λ k o held at fits low. (refl, reads_write h k _))
     (λ k o held at low. (refl, reads_write h k _)) (λ k o held at none low. tt)
 
 abbrev IsFit : Outcome → Type 0
@@ -123,7 +123,7 @@ pub writes_fit : WritesFit
 writes_fit (get_object k) h moment other = there IsFit (λ f. tt) k shown (found k (members h (present h))) (λ d is. tt)
 writes_fit (list_objects v) h moment other = tt
 writes_fit (create_object kind ns d) h moment other =
-    of_create IsFit (λ f. tt) kind ns (said kind d) (members h (present h)) (present h) moment (λ o fits free room. at_most 1572864 _ fits)
+    of_create IsFit (λ f. tt) kind ns (said kind d) (members h (present h)) (present h) moment (λ o read valid fits free room. at_most 1572864 _ fits)
 writes_fit (update_object k d) h moment other =
     of_update IsFit (λ f. tt) (λ d. tt) k (said k.kind d) (members h (present h)) (present h) (λ o held read is same valid fits low. at_most 1572864 _ fits) (λ o held read is same free low. tt)
 writes_fit (update_status k d) h moment other =
@@ -192,7 +192,7 @@ pub identity : WritesKeepIdentity
 identity q h moment =
     let r = present h + 1 in
     of_accept (λ u. OfStored u (λ k new. IfSome (state h (present h) k) (KeepsBoth new))) (λ f. tt) (λ code body. tt) q h moment
-    (λ kind ns o fits free room.
+    (λ kind ns d o read valid fits free room.
     let k = new_name kind ns o (members h (present h)) (present h) in
     of_none (KeepsBoth (created kind r ns k.name moment o)) (state h (present h) k) (sym (found-state h k) ∙ none_from (found k (members h (present h))) free))
     (λ k o held at valid fits low. of_held (KeepsBoth (updated k.kind r held (in_place k.kind held o))) (state h (present h) k) held (sym (found-state h k) ∙ at) (kept_in_place k.kind r held o))

@@ -8,7 +8,7 @@ use Rattle.definitions.specs.declared.kinds.Kind.{Kind}
 use Rattle.definitions.specs.declared.methods.Method.{Method}
 use Rattle.definitions.specs.Lines.{Session, start, after_lines, history_of}
 use Rattle.definitions.specs.Names.{Name, name_cmp, is_named}
-use Rattle.definitions.specs.History.{History, Members, Write, write, writes, CanHappen, present, found, members, state, View, list, seen}
+use Rattle.definitions.specs.History.{History, Members, Write, write, present, found, members, state, View, list, seen}
 use Rattle.definitions.specs.Refusals.{Refusal}
 use Rattle.definitions.specs.Metadata.{metadata_text, uid, version}
 use Rattle.definitions.specs.Reading.{reading}
@@ -52,6 +52,11 @@ OfStored o P = IfSome (write_of o) (λ w. IfSome w.put (P w.key))
 -- each object that is written carries the revision of its write (Kubernetes API Concepts, Resource versions)
 abbrev pub WritesCarryTheirRevision : Type 0
 WritesCarryTheirRevision = (q : Request) (h : History) (moment : List ℕ) → OfStored (accept q h moment) (λ k d. version d ≡ Some (decimal (present h + 1)))
+
+-- these writes in order, the first at revision r: each object carries the revision of its write
+abbrev pub Carry : ℕ → List Write → Type 0
+Carry r [] = Unit {0}
+Carry r (w ∷ ws) = IfSome w.put (λ d. version d ≡ Some (decimal r)) × Carry (r + 1) ws
 
 -- the uid of a new object holds the revision of its create, and no object was there
 abbrev pub CreatesAreNew : Type 0
@@ -129,25 +134,6 @@ RunsOnlyAdd = (s : Session) (lines : List (List ℕ)) → (more : History) × ((
 -- what has happened is the same whatever windows are kept
 abbrev pub WindowsOnlyForget : Type 0
 WindowsOnlyForget = (m n : ℕ) (lines : List (List ℕ)) → (after_lines (start m) lines).history ≡ (after_lines (start n) lines).history
-
--- whatever lines are read, what has happened by then can happen
-abbrev pub RunsCanHappen : Type 0
-RunsCanHappen = (lines : List (List ℕ)) → CanHappen (history_of lines)
-
--- these writes in order, the first at revision r: each object carries the revision of its write
-abbrev pub Carry : ℕ → List Write → Type 0
-Carry r [] = Unit {0}
-Carry r (w ∷ ws) = IfSome w.put (λ d. version d ≡ Some (decimal r)) × Carry (r + 1) ws
-
--- whatever lines are read, each object that was ever stored carries the revision of its write, the first of which is 2
-abbrev pub RunsCarryRevisions : Type 0
-RunsCarryRevisions = (lines : List (List ℕ)) → Carry 2 (writes (history_of lines))
-
--- whatever lines are read, there are no more objects and no greater revision than there may be
-abbrev pub RunsStayWithinLimits : Type 0
-RunsStayWithinLimits =
-    (lines : List (List ℕ))
-    → (length (members (history_of lines) (present (history_of lines))) ≤ 65536) × (present (history_of lines) ≤ 9007199254740991)
 
 -- ---- reading
 

@@ -2,8 +2,11 @@ pub mod BoardLaws
 pub mod CheckLaws
 pub mod ExpectationLaws
 pub mod HistoryLaws
+pub mod IdentityLaws
 pub mod LifecycleLaws
 pub mod PageLaws
+pub mod ParsedLaws
+pub mod ReachedLaws
 pub mod SelectorLaws
 pub mod SentLaws
 pub mod ServerLaws

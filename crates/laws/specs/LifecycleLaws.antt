@@ -11,7 +11,7 @@ use Rattle.definitions.specs.Deletion.{is_of_policy, of_policy}
 use Rattle.definitions.specs.History.{History, Write, writes, present, state}
 use Rattle.definitions.specs.Kinds.{has_generation}
 use Rattle.laws.specs.HistoryLaws.{OfStored, KeepsText, is_delete}
-use Rattle.definitions.specs.Lines.{history_of}
+use Rattle.definitions.specs.Reached.{IsReached}
 use Rattle.definitions.specs.Metadata.{metadata, uid, version, is_being_deleted}
 use Rattle.definitions.specs.Names.{Name}
 use Rattle.definitions.specs.Reading.{reading}
@@ -54,8 +54,8 @@ LastFinalizersRemove =
 -- ---- what is being deleted
 
 -- an object that is being deleted is so since the same moment until it is removed (Kubernetes API Conventions, Metadata)
-abbrev pub DeletionsStand : Type 0
-DeletionsStand = (q : Request) (h : History) (moment : List ℕ) → OfReplaced h (accept q h moment) (λ k held new. KeepsText (codes "deletionTimestamp") held new)
+abbrev pub WritesKeepDeletions : Type 0
+WritesKeepDeletions = (q : Request) (h : History) (moment : List ℕ) → OfReplaced h (accept q h moment) (λ k held new. KeepsText (codes "deletionTimestamp") held new)
 
 -- to an object that is being deleted no finalizer is added, but that of a delete's policy
 abbrev pub NoFinalizerIsAdded : Type 0
@@ -68,16 +68,16 @@ NoFinalizerIsAdded =
 
 -- ---- uids
 
--- whatever lines are read, no object that was ever there has the uid of the next one that is created (RFC 9562, UUID Version 8)
+-- no object of these writes has a uid
 abbrev pub NoneHas : List ℕ → List Write → Type 0
 NoneHas t [] = Unit {0}
 NoneHas t (w ∷ ws) = IfSome w.put (λ d. uid d ≡ Some t → ⊥) × NoneHas t ws
 
-abbrev pub UidsAreGivenOnce : Type 0
-UidsAreGivenOnce =
-    (lines : List (List ℕ)) (kind : Kind) (ns : List ℕ) (d : Data) (moment : List ℕ)
-    → OfStored (accept (create_object kind ns d) (history_of lines) moment)
-    (λ k new. (t : List ℕ) × (uid new ≡ Some t) × NoneHas t (writes (history_of lines)))
+-- whoever asked, no object that was ever there has the uid of the next one that is created (RFC 9562, UUID Version 8)
+abbrev pub NewUidsAreUnused : Type 0
+NewUidsAreUnused =
+    (h : History) (kind : Kind) (ns : List ℕ) (d : Data) (moment : List ℕ) → IsReached h
+    → OfStored (accept (create_object kind ns d) h moment) (λ k new. (t : List ℕ) × (uid new ≡ Some t) × NoneHas t (writes h))
 
 -- ---- generations
 

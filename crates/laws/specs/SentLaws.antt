@@ -14,7 +14,7 @@ use Rattle.definitions.specs.Objects.{Object}
 use Rattle.definitions.specs.Metadata.{name, namespace, uid, version}
 use Rattle.definitions.specs.Reading.{reading}
 use Rattle.definitions.specs.Changes.{Change, changes}
-use Rattle.definitions.specs.Lines.{history_of}
+use Rattle.definitions.specs.Reached.{IsReached}
 use Rattle.definitions.specs.Streams.{Line, IsStream}
 use Rattle.definitions.specs.WatchReplies.{watch_lines}
 use Rattle.definitions.specs.Verbs.{list_body}
@@ -35,9 +35,9 @@ abbrev pub AreKept : ℕ → List Write → Type 0
 AreKept r [] = Unit {0}
 AreKept r (w ∷ ws) = IfSome w.put (IsKept w.key r) × AreKept (r + 1) ws
 
--- whatever lines are read, each object that was ever stored reads as itself, and says its key, a uid and its revision
-abbrev pub RunsKeepObjects : Type 0
-RunsKeepObjects = (lines : List (List ℕ)) → AreKept 2 (writes (history_of lines))
+-- whoever asked, each object that was ever stored reads as itself, and says its key, a uid and its revision
+abbrev pub ObjectsAreKept : Type 0
+ObjectsAreKept = (h : History) → IsReached h → AreKept 2 (writes h)
 
 -- ---- what is sent
 
@@ -59,11 +59,11 @@ pub record IsShort (c : Change) : Type 0 where
   pub nests : depth c.object ≤ 100
   pub fits : length (compact_text c.object) ≤ 1574912
 
--- whatever lines are read, what a watch of a kind shows is read as it stands, says its key and revision, and is short enough for a line
+-- whoever asked, what a watch of a kind shows is read as it stands, says its key and revision, and is short enough for a line
 abbrev pub ChangesAreTold : Type 0
 ChangesAreTold =
-    (lines : List (List ℕ)) (k : Kind) (a b : ℕ) → a ≤ b
-    → AllByRecursion (IsTold k) (changes (history_of lines) (whole k) a b) × AllByRecursion IsShort (changes (history_of lines) (whole k) a b)
+    (h : History) (k : Kind) (a b : ℕ) → IsReached h → a ≤ b
+    → AllByRecursion (IsTold k) (changes h (whole k) a b) × AllByRecursion IsShort (changes h (whole k) a b)
 
 -- the lines that a watch after a revision shows are a stream from there to the present revision, with bookmarks or without
 abbrev pub WatchesAreStreams : Type 0
@@ -87,13 +87,14 @@ pub record IsListText (h : History) (k : Kind) (r : ℕ) (body : List ℕ) : Typ
 abbrev pub listed_at : History → Kind → ℕ → Listed
 listed_at h k r = record { revision = r; objects = objects_in k (list h (whole k) r) }
 
--- whatever lines are read, a text that says the list of a kind at a revision is read as that revision and the objects of that
--- list as they stand, and who puts them in place of what it held holds that list
-abbrev pub ListsAreRead : Type 0
-ListsAreRead =
-    (lines : List (List ℕ)) (k : Kind) (r : ℕ) (body : List ℕ) → IsListText (history_of lines) k r body
-    → (list_of k body ≡ Some (listed_at (history_of lines) k r)) × (put_all [] (objects_in k (list (history_of lines) (whole k) r)) ≡ list (history_of lines) (whole k) r)
+-- who puts the objects of a list of a kind in place of what it held holds that list
+abbrev pub ListsArePut : Type 0
+ListsArePut = (h : History) (k : Kind) (r : ℕ) → IsReached h → put_all [] (objects_in k (list h (whole k) r)) ≡ list h (whole k) r
 
--- whatever lines are read, the list of a kind nests no deeper than what is read of a text
+-- a text that says the list of a kind at a revision is read as that revision and the objects of that list as they stand
+abbrev pub ListsAreRead : Type 0
+ListsAreRead = (h : History) (k : Kind) (r : ℕ) (body : List ℕ) → IsReached h → IsListText h k r body → list_of k body ≡ Some (listed_at h k r)
+
+-- the list of a kind nests no deeper than what is read of a text
 abbrev pub ListsNest : Type 0
-ListsNest = (lines : List (List ℕ)) (k : Kind) (r : ℕ) → depth (list_body k r (list (history_of lines) (whole k) r)) ≤ max_depth
+ListsNest = (h : History) (k : Kind) (r : ℕ) → IsReached h → depth (list_body k r (list h (whole k) r)) ≤ max_depth

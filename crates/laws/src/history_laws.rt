@@ -1,5 +1,5 @@
 //! Laws of the definitions.
-ghost use Rattle.laws.specs.HistoryLaws.{MembersAreState, MembersAreInOrder, ListsShowTheState, ListsAreInOrder, PastStands, WritesSetState, WritesCarryTheirRevision, CreatesAreNew, NamedVersionsAreReplaced, WritesKeepIdentity, WritesFit, WritesHaveRoom, RefusalsWriteNothing, AnswersAreRead, UidsHoldRevisions, PathsAreRoutes, BodiesFit, RunsOnlyAdd, WindowsOnlyForget, RunsCanHappen, RunsCarryRevisions, RunsStayWithinLimits, ReadsAgain};
+ghost use Rattle.laws.specs.HistoryLaws.{MembersAreState, MembersAreInOrder, ListsShowTheState, ListsAreInOrder, PastStands, WritesSetState, WritesCarryTheirRevision, CreatesAreNew, NamedVersionsAreReplaced, WritesKeepIdentity, WritesFit, WritesHaveRoom, RefusalsWriteNothing, AnswersAreRead, UidsHoldRevisions, PathsAreRoutes, BodiesFit, RunsOnlyAdd, WindowsOnlyForget, ReadsAgain};
 
 /// What is there under a key at a revision is what the last write to that key put there.
 pub fn members_are_state()
@@ -94,21 +94,6 @@ pub fn runs_only_add()
 /// How many writes are kept for watches and older lists is no matter to what happens.
 pub fn windows_only_forget()
     ensures { WindowsOnlyForget }
-{}
-
-/// Whatever is asked, the history stays one that can happen: none is compacted that is yet to come.
-pub fn runs_can_happen()
-    ensures { RunsCanHappen }
-{}
-
-/// Whatever is asked, each object that is ever stored names the revision of its own write, so no two versions are confused.
-pub fn runs_carry_revisions()
-    ensures { RunsCarryRevisions }
-{}
-
-/// Whatever is asked, the number of objects and the revision stay within their limits.
-pub fn runs_stay_within_limits()
-    ensures { RunsStayWithinLimits }
 {}
 
 /// What was read reads as itself: who takes in what the server sent holds what the server holds.

@@ -1,5 +1,5 @@
 //! What becomes of objects, whatever is asked.
-ghost use Rattle.laws.specs.LifecycleLaws.{DeletesSpareFinalizers, LastFinalizersRemove, DeletionsStand, NoFinalizerIsAdded, UidsAreGivenOnce, GenerationsCount, GenerationsBegin, StatusesChangeNothingElse, UpdatesReplaceTheirVersion, StatusesReplaceTheirVersion, PatchesReplaceTheirVersion, DeletesRemoveTheirVersion, DeletesFindTheirUid, NoWriteNoChange};
+ghost use Rattle.laws.specs.LifecycleLaws.{DeletesSpareFinalizers, LastFinalizersRemove, WritesKeepDeletions, NoFinalizerIsAdded, NewUidsAreUnused, GenerationsCount, GenerationsBegin, StatusesChangeNothingElse, UpdatesReplaceTheirVersion, StatusesReplaceTheirVersion, PatchesReplaceTheirVersion, DeletesRemoveTheirVersion, DeletesFindTheirUid, NoWriteNoChange};
 
 /// A delete removes no object that has a finalizer, but those by which a policy is known; without a policy, none that has
 /// any.
@@ -13,8 +13,8 @@ pub fn last_finalizers_remove()
 {}
 
 /// An object that is being deleted stays so, since the moment at which that began, until it is removed.
-pub fn deletions_stand()
-    ensures { DeletionsStand }
+pub fn writes_keep_deletions()
+    ensures { WritesKeepDeletions }
 {}
 
 /// An object that is being deleted gets no finalizer that it has not, but that of a delete's policy.
@@ -22,9 +22,9 @@ pub fn no_finalizer_is_added()
     ensures { NoFinalizerIsAdded }
 {}
 
-/// Whatever was asked before, a new object's uid is that of no object that was ever there.
-pub fn uids_are_given_once()
-    ensures { UidsAreGivenOnce }
+/// Whoever asked before, a new object's uid is that of no object that was ever there.
+pub fn new_uids_are_unused()
+    ensures { NewUidsAreUnused }
 {}
 
 /// A generation rises by one where a spec, or a Deployment's annotations, is another or a deletion begins, and only there.

@@ -16,7 +16,7 @@ use Rattle.reflector.proofs.Cutting.{reading_twice, flat, no_cutting_at, at_revi
 use Rattle.reflector.proofs.Followed.{Reaches, follows}
 
 -- the lines are read back as their events
-read_back : (k : Kind) (ls : List Line) (more : List ℕ) → AllByRecursion (IsReadBack k) ls → reading (text_of k ls ++ more) ≡ onto (map (event_of k) ls) (reading more)
+pub read_back : (k : Kind) (ls : List Line) (more : List ℕ) → AllByRecursion (IsReadBack k) ls → reading (text_of k ls ++ more) ≡ onto (map (event_of k) ls) (reading more)
 read_back k [] more h = refl
 read_back k (l ∷ ls) more h =
     ap reading (append_assoc (frame_text (event_of k l)) (text_of k ls) more) ∙ h.0 (text_of k ls ++ more) ∙ ap (onto (event_of k l ∷ [])) (read_back k ls more h.1)

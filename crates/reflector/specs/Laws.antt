@@ -9,7 +9,7 @@ use Rattle.definitions.specs.Frames.{frame_text}
 use Rattle.definitions.specs.Streams.{Line, IsStream, event_of, text_of}
 use Rattle.definitions.specs.Revisions.{greatest_revision}
 use Rattle.definitions.specs.Reflectors.{Reflector, Fed, Listed, list_of, list_delta, with_list, play_deltas, fed, all_fed}
-use Rattle.definitions.specs.Lines.{history_of}
+use Rattle.definitions.specs.Reached.{IsReached}
 use Rattle.laws.specs.SentLaws.{whole, IsTold, IsListText}
 use Rattle.framing.specs.Texts.{ReadsAs, IsWithin}
 
@@ -61,32 +61,32 @@ StreamsAreFollowed =
 abbrev pub IsReadWithin : Kind → Line → Type 0
 IsReadWithin k l = IsWithin (event_of k l) → IsReadBack k l
 
--- lines that go from a to b, of what has happened once these requests were answered, are sent to who watches from a
-pub record IsServed (requests : List (List ℕ)) (k : Kind) (a b : ℕ) (ls : List Line) : Type 0 where
+-- lines that go from a to b, of what has happened at a server, whoever asked, are sent to who watches from a
+pub record IsServed (h : History) (k : Kind) (a b : ℕ) (ls : List Line) : Type 0 where
+  pub happened : IsReached h
   pub forward : a ≤ b
-  pub reached : b ≤ present (history_of requests)
-  pub stream : IsStream (history_of requests) (whole k) a b ls
+  pub reached : b ≤ present h
+  pub stream : IsStream h (whole k) a b ls
   pub read : AllByRecursion (IsReadWithin k) ls
 
--- whatever requests a server answered, whatever part of a watch from a has come, in whatever pieces, the deltas make of the
--- list at a the list at the revision named
+-- whoever asked a server, whatever part of a watch from a has come, in whatever pieces, the deltas make of the list at a the
+-- list at the revision named
 abbrev pub CutServedStreamsAreFollowed : Type 0
 CutServedStreamsAreFollowed =
-    (requests : List (List ℕ)) (a b : ℕ) (ls : List Line) (s : Reflector) (pieces : List (List ℕ)) (more : List ℕ) → IsAt s a → IsServed requests s.kind a b ls
-    → flat_map (λ p. p) pieces ++ more ≡ text_of s.kind ls → GoesOn (history_of requests) s.kind a b (all_fed s pieces)
+    (h : History) (a b : ℕ) (ls : List Line) (s : Reflector) (pieces : List (List ℕ)) (more : List ℕ) → IsAt s a → IsServed h s.kind a b ls
+    → flat_map (λ p. p) pieces ++ more ≡ text_of s.kind ls → GoesOn h s.kind a b (all_fed s pieces)
 
 -- and when all of it has come, they make of it the list at b
 abbrev pub ServedStreamsAreFollowed : Type 0
 ServedStreamsAreFollowed =
-    (requests : List (List ℕ)) (a b : ℕ) (ls : List Line) (s : Reflector) (pieces : List (List ℕ)) → IsAt s a → IsServed requests s.kind a b ls → flat_map (λ p. p) pieces ≡ text_of s.kind ls
-    → GoesOn (history_of requests) s.kind a b (all_fed s pieces)
-    × (play_deltas (list (history_of requests) (whole s.kind) a) (all_fed s pieces).deltas ≡ list (history_of requests) (whole s.kind) b)
+    (h : History) (a b : ℕ) (ls : List Line) (s : Reflector) (pieces : List (List ℕ)) → IsAt s a → IsServed h s.kind a b ls → flat_map (λ p. p) pieces ≡ text_of s.kind ls
+    → GoesOn h s.kind a b (all_fed s pieces) × (play_deltas (list h (whole s.kind) a) (all_fed s pieces).deltas ≡ list h (whole s.kind) b)
 
--- whatever requests a server answered: who takes in its list at a, and then whatever part of a watch from a has come, in
--- whatever pieces, holds the list at the revision named, whatever it held before
+-- whoever asked a server: who takes in its list at a, and then whatever part of a watch from a has come, in whatever pieces,
+-- holds the list at the revision named, whatever it held before
 abbrev pub ListsAndWatchesAreFollowed : Type 0
 ListsAndWatchesAreFollowed =
-    (requests : List (List ℕ)) (a b : ℕ) (ls : List Line) (s : Reflector) (ms : Members) (body : List ℕ) (pieces : List (List ℕ)) (more : List ℕ)
-    → IsListText (history_of requests) s.kind a body → IsServed requests s.kind a b ls → flat_map (λ p. p) pieces ++ more ≡ text_of s.kind ls
-    → (l : Listed) × (list_of s.kind body ≡ Some l) × GoesOn (history_of requests) s.kind a b (all_fed (with_list (Some l) s) pieces)
-    × (let f = all_fed (with_list (Some l) s) pieces in play_deltas ms (list_delta l ∷ f.deltas) ≡ list (history_of requests) (whole s.kind) f.after.revision)
+    (h : History) (a b : ℕ) (ls : List Line) (s : Reflector) (ms : Members) (body : List ℕ) (pieces : List (List ℕ)) (more : List ℕ)
+    → IsListText h s.kind a body → IsServed h s.kind a b ls → flat_map (λ p. p) pieces ++ more ≡ text_of s.kind ls
+    → (l : Listed) × (list_of s.kind body ≡ Some l) × GoesOn h s.kind a b (all_fed (with_list (Some l) s) pieces)
+    × (let f = all_fed (with_list (Some l) s) pieces in play_deltas ms (list_delta l ∷ f.deltas) ≡ list h (whole s.kind) f.after.revision)

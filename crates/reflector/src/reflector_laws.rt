@@ -18,8 +18,8 @@ pub fn streams_are_followed()
     ensures { StreamsAreFollowed }
 {}
 
-/// Whatever requests a server answered, and whatever part of its watch has come, in whatever pieces: who holds the list
-/// where the watch begins and plays the deltas holds the list at the revision that the reflector names. Its lines are as
+/// Whoever asked a server, and whatever part of its watch has come, in whatever pieces: who holds the list where the watch
+/// begins and plays the deltas holds the list at the revision that the reflector names. Its lines are as
 /// `framing::frame_text` and `framing::bookmark_text` write them.
 pub fn cut_served_streams_are_followed()
     ensures { CutServedStreamsAreFollowed }
@@ -31,8 +31,8 @@ pub fn served_streams_are_followed()
     ensures { ServedStreamsAreFollowed }
 {}
 
-/// Whatever requests a server answered: who takes in its list, and then any part of its watch from there, in any pieces,
-/// holds the list at the revision that the reflector names, whatever it held before.
+/// Whoever asked a server: who takes in its list, and then any part of its watch from there, in any pieces, holds the list
+/// at the revision that the reflector names, whatever it held before.
 pub fn lists_and_watches_are_followed()
     ensures { ListsAndWatchesAreFollowed }
 {}

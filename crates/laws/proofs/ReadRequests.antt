@@ -1,6 +1,5 @@
--- What holds of what is stored, after any lines.
-use Rattle.std.proofs.Common.{◌≡◌, ◌≤◌, ◌+◌, ◌-◌, ◌==◌, ◌&&◌, ℕ, List, [], ◌∷◌, ◌++◌, length, drop, Bool, true, false, cond, not, nat_le, nat_lt, codes, bytes_eq, IfSome, Option, Some, None, Result, Ok, Err, refl, sym, subst, arith}
-use Rattle.std.proofs.lemmas.List.{take-append-drop}
+-- What is read of a request is well asked, moments are times, and what has happened after some lines is reached.
+use Rattle.std.proofs.Common.{◌≡◌, ◌≤◌, ◌==◌, ◌&&◌, ℕ, List, [], ◌∷◌, ◌++◌, length, Bool, true, false, cond, not, nat_le, nat_lt, codes, bytes_eq, IfSome, Option, Some, None, Result, Ok, Err, refl, sym, subst, arith}
 use Rattle.std.specs.Str.{is_utf8}
 use Rattle.serde_json.specs.Data.{Data}
 use Rattle.serde_json.specs.Read.{read}
@@ -12,7 +11,7 @@ use Rattle.definitions.specs.History.{History, Write, write, compaction, writes,
 use Rattle.definitions.specs.Lines.{Session, start, default_window, history_of, Line, ask, at, compact, compact_at, unreadable, ask_if, cut, target_alone, target_and_body, line_from, line_of, reply_for, history_from, session_after, next, after_lines}
 use Rattle.definitions.specs.Moments as moments
 use Rattle.definitions.specs.Moments.{has_form, is_day, is_digit, is_moment}
-use Rattle.definitions.specs.Names.{Name, is_named, is_namespace}
+use Rattle.definitions.specs.Names.{Name}
 use Rattle.definitions.specs.Collections as collections
 use Rattle.definitions.specs.Collections.{Read}
 use Rattle.definitions.specs.RequestQueries.{Query}
@@ -23,18 +22,14 @@ use Rattle.definitions.specs.Targets.{Asked, request, list, watch, Route, collec
 use Rattle.definitions.specs.Verbs.{Request, create_object, update_object, update_status, patch_object, accept, with_write, write_of}
 use Rattle.definitions.specs.DeleteOptions.{Options}
 use Rattle.definitions.specs.History as history
-use Rattle.laws.specs.SentLaws.{IsKept, AreKept, RunsKeepObjects}
-use Rattle.laws.proofs.NeatMembers.{IsFilled}
-use Rattle.laws.proofs.NestedOrder.{HasOrders, orders_read}
+use Rattle.laws.proofs.Parsed.{parsed_read}
 use Rattle.laws.proofs.NoFloatsRead.{both_true}
-use Rattle.laws.proofs.Past.{writes-append}
-use Rattle.laws.proofs.Compacted.{same_writes}
 use Rattle.laws.proofs.Runs.{kept_asked, kept_watched, by_compaction}
-use Rattle.definitions.proofs.PutLaws.{found-after_all, same_name}
-use Rattle.laws.proofs.SentObjects.{IsStored, IsAsked, IsHeld, filled_long}
-use Rattle.laws.proofs.SentVerbs.{IsTime, stores}
-
--- ---- what is asked
+use Rattle.laws.proofs.SentObjects.{filled_long}
+use Rattle.laws.proofs.SentVerbs.{IsTime}
+use Rattle.definitions.specs.Reached.{IsParsed, IsAsked, IsReached, opened, asks, compacts}
+use Rattle.laws.specs.ReachedLaws.{RunsAreReached, RequestsAreAsked, MomentsAreTimes}
+use Rattle.laws.proofs.Asked.{time_from}
 
 abbrev AsksWell : Result Asked Refusal → Type 0
 AsksWell (Err f) = Unit {0}
@@ -46,35 +41,31 @@ well_or : (b : Bool) (f : Refusal) (r : Result Asked Refusal) → (b ≡ false �
 well_or true f r each = tt
 well_or false f r each = each refl
 
-ordered_data : (b : Bool) (text : List ℕ) → IfSome (cond b (read text) None) HasOrders
-ordered_data true text = orders_read text
+ordered_data : (b : Bool) (text : List ℕ) → IfSome (cond b (read text) None) IsParsed
+ordered_data true text = parsed_read text
 ordered_data false text = tt
 
 abbrev IsOrderedBody : Result Data Refusal → Type 0
 IsOrderedBody (Err f) = Unit {0}
-IsOrderedBody (Ok d) = HasOrders d
+IsOrderedBody (Ok d) = IsParsed d
 
-ordered_or : (o : Option Data) → IfSome o HasOrders → IsOrderedBody (body_or o)
+ordered_or : (o : Option Data) → IfSome o IsParsed → IsOrderedBody (body_or o)
 ordered_or None h = tt
 ordered_or (Some d) h = h
 
 ordered_body : (text : List ℕ) → IsOrderedBody (body_of text)
 ordered_body text = ordered_or (data_of text) (ordered_data (is_utf8 text) text)
 
-well_with : (f : Data → Request) (r : Result Data Refusal) → ((d : Data) → HasOrders d → IsAsked (f d)) → IsOrderedBody r → AsksWell (asks_with f r)
+well_with : (f : Data → Request) (r : Result Data Refusal) → ((d : Data) → IsParsed d → IsAsked (f d)) → IsOrderedBody r → AsksWell (asks_with f r)
 well_with f (Err e) each h = tt
 well_with f (Ok d) each h = each d h
 
-well_body : (f : Data → Request) (text : List ℕ) → ((d : Data) → HasOrders d → IsAsked (f d)) → AsksWell (with_body f text)
+well_body : (f : Data → Request) (text : List ℕ) → ((d : Data) → IsParsed d → IsAsked (f d)) → AsksWell (with_body f text)
 well_body f text each = well_with f (body_of text) each (ordered_body text)
 
 well_deletes : (n : Name) (r : Result Options Refusal) → AsksWell (deletes_with n r)
 well_deletes n (Err e) = tt
 well_deletes n (Ok o) = tt
-
-filled_namespace : (ns : List ℕ) → is_namespace ns ≡ true → IsFilled ns
-filled_namespace [] h = cc
-filled_namespace (b ∷ bs) h = filled_long (b ∷ bs) (omega arith)
 
 well_read : (v : history.View) (r : Read) → AsksWell (Ok (read_as v r))
 well_read v (collections.list o) = tt
@@ -85,7 +76,7 @@ well_asked Get (collection k ns) q text h = well_read (selected k ns q.collectio
 well_asked Get (object_at n) q text h = tt
 well_asked Get (status_of n) q text h = tt
 well_asked Post (collection k None) q text h = tt
-well_asked Post (collection k (Some ns)) q text h = well_body (create_object k ns) text (λ d a. (filled_namespace ns h, a))
+well_asked Post (collection k (Some ns)) q text h = well_body (create_object k ns) text (λ d a. (h, a))
 well_asked Post (object_at n) q text h = tt
 well_asked Post (status_of n) q text h = tt
 well_asked Put (collection k ns) q text h = tt
@@ -208,64 +199,17 @@ module _ (P : History → Type 0) (each : (q : Request) (h : History) (moment : 
   by_session s [] p = p
   by_session s (t ∷ ts) p = by_session (next s t) ts (by_text (length t == 0) s t p)
 
-  pub by_asked : (lines : List (List ℕ)) → P [] → P (history_of lines)
+  by_asked : (lines : List (List ℕ)) → P [] → P (history_of lines)
   by_asked lines p = (by_session (start default_window) lines ((refl, omega arith), p)).1
 
--- ---- what is stored
+asks_of : (q : Request) (r : Result Asked Refusal) → r ≡ Ok (request q) → AsksWell r → IsAsked q
+asks_of q r is well = subst AsksWell is well
 
--- these writes in order, the first at revision r
-abbrev pub AreStored : ℕ → List Write → Type 0
-AreStored r [] = Unit {0}
-AreStored r (w ∷ ws) = IfSome w.put (IsStored w.key r) × AreStored (r + 1) ws
+pub requests_asked : RequestsAreAsked
+requests_asked method target body q is = asks_of q (read_request method target body) is (well_request method target body)
 
-stored_append : (r n : ℕ) (ws : List Write) (w : Write) → n ≡ r + length ws → AreStored r ws → IfSome w.put (IsStored w.key n) → AreStored r (ws ++ w ∷ [])
-stored_append r n [] w is c last =
-    let here : n ≡ r = omega (arith, is) in
-    (subst (λ m. IfSome w.put (IsStored w.key m)) here last, tt)
-stored_append r n (v ∷ ws) w is c last = (c.0, stored_append (r + 1) n ws w (omega (arith, is)) c.1 last)
+pub moments_timed : MomentsAreTimes
+moments_timed t h = time_from t (timed_moment t h)
 
-stored_write : (h : History) (o : Option Write) → IfSome o (λ w. IfSome w.put (IsStored w.key (present h + 1))) → AreStored 2 (writes h) → AreStored 2 (writes (with_write h o))
-stored_write h None v c = c
-stored_write h (Some w) v c = subst (AreStored 2) (sym (writes-append h (write w ∷ []))) (stored_append 2 (present h + 1) (writes h) w (omega arith) c v)
-
-pub AreStored-split : (r : ℕ) (us ws : List Write) → AreStored r (us ++ ws) → AreStored r us × AreStored (r + length us) ws
-AreStored-split r [] ws a = (tt, subst (λ n. AreStored n ws) (omega arith) a)
-AreStored-split r (u ∷ us) ws a =
-    let more = AreStored-split (r + 1) us ws a.1 in
-    let place : r + 1 + length us ≡ r + length (u ∷ us) = omega arith in
-    ((a.0, more.0), subst (λ n. AreStored n ws) place more.1)
-
-pub AreStored-up_to : (h : History) (r : ℕ) → AreStored 2 (writes h) → AreStored 2 (up_to r h)
-AreStored-up_to h r a = (AreStored-split 2 (up_to r h) (drop (r - 1) (writes h)) (subst (AreStored 2) (sym (take-append-drop (r - 1) (writes h))) a)).0
-
-some_held : (k l : Name) (r : ℕ) (o : Option Data) → k ≡ l → IfSome o (IsStored l r) → IfSome o (IsHeld k)
-some_held k l r None is a = tt
-some_held k l r (Some d) is a = (r, subst (λ n. IsStored n r d) (sym is) a)
-
-held_cond : (b : Bool) (k : Name) (r : ℕ) (w : Write) (before : Option Data) → is_named k w.key ≡ b → IfSome before (IsHeld k) → IfSome w.put (IsStored w.key r) → IfSome (cond b w.put before) (IsHeld k)
-held_cond true k r w before is h a = some_held k w.key r w.put (same_name k w.key is) a
-held_cond false k r w before is h a = h
-
--- what is under a name is stored so
-pub last_held : (k : Name) (r : ℕ) (ws : List Write) (before : Option Data) → IfSome before (IsHeld k) → AreStored r ws → IfSome (last_of before k ws) (IsHeld k)
-last_held k r [] before h a = h
-last_held k r (w ∷ ws) before h a = last_held k (r + 1) ws (cond (is_named k w.key) w.put before) (held_cond (is_named k w.key) k r w before refl h a.0) a.1
-
-pub found_held : (h : History) (r : ℕ) (k : Name) → AreStored 2 (writes h) → IfSome (found k (members h r)) (IsHeld k)
-found_held h r k a = subst (λ o. IfSome o (IsHeld k)) (sym (found-after_all k [] (up_to r h) tt)) (last_held k 2 (up_to r h) None tt (AreStored-up_to h r a))
-
-pub all_stored : (lines : List (List ℕ)) → AreStored 2 (writes (history_of lines))
-all_stored lines =
-    by_asked (λ h. AreStored 2 (writes h)) (λ q h moment well filled a. stored_write h (write_of (accept q h moment)) (stores q h moment well filled (λ k. found_held h (present h) k a)) a)
-    (same_writes (AreStored 2)) lines tt
-
-one_kept : (k : Name) (r : ℕ) (o : Option Data) → IfSome o (IsStored k r) → IfSome o (IsKept k r)
-one_kept k r None a = tt
-one_kept k r (Some d) a = a.kept
-
-all_kept : (r : ℕ) (ws : List Write) → AreStored r ws → AreKept r ws
-all_kept r [] a = tt
-all_kept r (w ∷ ws) a = (one_kept w.key r w.put a.0, all_kept (r + 1) ws a.1)
-
-pub runs_keep : RunsKeepObjects
-runs_keep lines = all_kept 2 (writes (history_of lines)) (all_stored lines)
+pub runs_reached : RunsAreReached
+runs_reached lines = by_asked IsReached (λ q h moment a t r. asks h q moment r a (time_from moment t)) (λ h r le before. compacts h r before le) lines opened

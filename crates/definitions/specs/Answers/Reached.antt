@@ -1,0 +1,56 @@
+-- What can have happened at a server: requests that were accepted one after another, whoever asked, and compactions between them.
+use Rattle.std.specs.Prelude.{◌≡◌, ◌≤◌, ◌<◌, ℕ, List, [], ◌∷◌, ◌++◌, length, true}
+use Rattle.std.specs.Ordering.{nat_cmp}
+use Rattle.std.specs.declared.cmp.Ordering.TheVariants.{Less}
+use Rattle.std.specs.Cmp.Lexicographic.{slice_cmp}
+use Rattle.serde_json.specs.Data.{Data, null, boolean, number, string, array, object, Items, no_items, item, Members, no_members, member}
+use Rattle.definitions.specs.State.History.{History, compaction, present}
+use Rattle.definitions.specs.Texts.Names.{is_namespace}
+use Rattle.definitions.specs.Answers.Verbs.{Request, get_object, list_objects, create_object, update_object, update_status, patch_object, delete_object, accept, history_after}
+
+-- ---- what is asked
+
+-- a name before each of these, in byte order
+abbrev pub IsBefore : List ℕ → Members → Type 0
+IsBefore k no_members = Unit {0}
+IsBefore k (member l d ms) = (slice_cmp nat_cmp k l ≡ Less) × IsBefore k ms
+
+-- data as a parser gives it: the members of each object in the order of their names, each name once (RFC 8259, Objects)
+abbrev mutual
+  pub IsParsed : Data → Type 0
+  IsParsed null = Unit {0}
+  IsParsed (boolean b) = Unit {0}
+  IsParsed (number n) = Unit {0}
+  IsParsed (string t) = Unit {0}
+  IsParsed (array ds) = AreParsed ds
+  IsParsed (object ms) = AreInOrder ms
+
+  pub AreParsed : Items → Type 0
+  AreParsed no_items = Unit {0}
+  AreParsed (item d ds) = IsParsed d × AreParsed ds
+
+  pub AreInOrder : Members → Type 0
+  AreInOrder no_members = Unit {0}
+  AreInOrder (member k d ms) = IsBefore k ms × IsParsed d × AreInOrder ms
+
+-- a request as it can be read of bytes: a create is in a namespace, and a body is as a parser gives it
+abbrev pub IsAsked : Request → Type 0
+IsAsked (get_object k) = Unit {0}
+IsAsked (list_objects v) = Unit {0}
+IsAsked (create_object kind ns d) = (is_namespace ns ≡ true) × IsParsed d
+IsAsked (update_object k d) = IsParsed d
+IsAsked (update_status k d) = IsParsed d
+IsAsked (patch_object k d) = IsParsed d
+IsAsked (delete_object k o) = Unit {0}
+
+-- a text as long as a moment can be; it is not read
+abbrev pub IsTime : List ℕ → Type 0
+IsTime moment = (0 < length moment) × (length moment ≤ 20)
+
+-- ---- what has happened
+
+-- nothing yet; more, after a request at a moment, as it is answered; or a compaction no further than what has happened
+pub data IsReached : History → Type 0 where
+  opened : IsReached []
+  asks : (h : History) (q : Request) (moment : List ℕ) → IsReached h → IsAsked q → IsTime moment → IsReached (history_after h (accept q h moment))
+  compacts : (h : History) (r : ℕ) → IsReached h → r ≤ present h → IsReached (h ++ compaction r ∷ [])

@@ -1,0 +1,76 @@
+-- What is stored is as a parser gives it, and stays so by edits.
+use Rattle.std.proofs.Common.{ℕ, List, codes, IfSome, Option, Some, None, option_and_then, unwrap_or}
+use Rattle.serde_json.specs.Data.{Data, string, array, object, no_members, member, put}
+use Rattle.serde_json.specs.Find.{get}
+use Rattle.definitions.specs.History.{History, writes, present}
+use Rattle.definitions.specs.Checks.{in_spec}
+use Rattle.definitions.specs.Metadata.{metadata_of}
+use Rattle.definitions.specs.Reading.{empty}
+use Rattle.definitions.specs.Replacements.{as_held, keeping}
+use Rattle.definitions.specs.Names.{Name}
+use Rattle.definitions.specs.Values.{members_of, inner_of, without}
+use Rattle.definitions.specs.Verbs.{accept, write_of}
+use Rattle.laws.proofs.Compacted.{same_writes}
+use Rattle.laws.proofs.EachWrite.{AllPut, put_write, there_put, listed_put}
+use Rattle.definitions.specs.Reached.{IsParsed, IsReached}
+use Rattle.laws.specs.ParsedLaws.{StoredAreParsed, ListedAreParsed, MetadataEditsStayParsed, MembersStayParsed, InnerEditsStayParsed, MadePodsAreParsed, copied}
+use Rattle.laws.proofs.Asked.{Both, joined, inside}
+use Rattle.laws.proofs.ParsedVerbs.{meta, with_meta, held_put, keeps, parsed_by}
+use Rattle.laws.proofs.Parsed.{Both-put, Both-without, found, inner}
+use Rattle.laws.proofs.Reaching.{by_asked}
+
+-- ---- what is written
+
+abbrev IsParsedAt : Name → Data → Type 0
+IsParsedAt k d = IsParsed d
+
+all_put : (h : History) → IsReached h → AllPut IsParsedAt (writes h)
+all_put h reached =
+    by_asked (λ h. AllPut IsParsedAt (writes h))
+    (λ q h moment asked a. put_write IsParsedAt h (write_of (accept q h moment)) (parsed_by h moment (λ k d is. there_put IsParsedAt h (present h) k d a is) q asked) a)
+    (same_writes (AllPut IsParsedAt)) h reached tt
+
+pub stored_parsed : StoredAreParsed
+stored_parsed h r k d reached is = there_put IsParsedAt h r k d (all_put h reached) is
+
+pub listed_parsed : ListedAreParsed
+listed_parsed h v r reached = listed_put IsParsedAt h v r (all_put h reached)
+
+-- ---- edits
+
+pub metadata_edits : MetadataEditsStayParsed
+metadata_edits d e q p f =
+    (with_meta (put q e (metadata_of d)) d (Both-put q e (metadata_of d) f (meta d p)) p, with_meta (without q (metadata_of d)) d (Both-without q (metadata_of d) (meta d p)) p)
+
+pub members_stay : MembersStayParsed
+members_stay d e q p f = joined (put q e (members_of d)) (Both-put q e (members_of d) f (inside d p))
+
+pub inner_edits : InnerEditsStayParsed
+inner_edits d e p q parsed f =
+    let ms = put q e (inner_of (get p d)) in
+    let b = Both-put q e (inner_of (get p d)) f (inner (get p d) (found p d parsed)) in
+    joined (put p (object ms) (members_of d)) (Both-put p (object ms) (members_of d) (joined ms b) (inside d parsed))
+
+in_template : (o : Option Data) → IfSome o IsParsed → IsParsed (unwrap_or o empty)
+in_template None h = tt
+in_template (Some d) h = h
+
+in_parsed : (q : List ℕ) (o : Option Data) → IfSome o IsParsed → IfSome (option_and_then (get q) o) IsParsed
+in_parsed q None h = tt
+in_parsed q (Some d) h = found q d h
+
+made_template : (d : Data) → IsParsed d → IsParsed (unwrap_or (in_spec (codes "template") d) empty)
+made_template d p = in_template (in_spec (codes "template") d) (in_parsed (codes "template") (get (codes "spec") d) (found (codes "spec") d p))
+
+pub pods_made : MadePodsAreParsed
+pods_made d refs named p f =
+    let t = unwrap_or (in_spec (codes "template") d) empty in
+    let tp : IsParsed t = made_template d p in
+    let from = inner_of (get (codes "metadata") t) in
+    let fb : Both from = inner (get (codes "metadata") t) (found (codes "metadata") t tp) in
+    let ms = keeping (copied) from no_members in
+    let named_too = put (codes "generateName") (string named) ms in
+    let all = put (codes "ownerReferences") (array refs) named_too in
+    let b : Both all = Both-put (codes "ownerReferences") (array refs) named_too f (Both-put (codes "generateName") (string named) ms tt (keeps copied from no_members fb (tt, tt))) in
+    let root = member (codes "metadata") (object all) no_members in
+    joined (as_held (codes "spec") (get (codes "spec") t) root) (held_put (codes "spec") (get (codes "spec") t) root (found (codes "spec") t tp) ((tt, tt), (joined all b, tt)))

@@ -1,0 +1,5 @@
+use Rattle.laws.proofs.Traced.{stand}
+use Rattle.laws.proofs.identity_laws.deletions_stand.Goals as goal
+
+pub returns : goal.returns
+returns c = stand

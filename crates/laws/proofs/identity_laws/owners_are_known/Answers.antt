@@ -1,0 +1,5 @@
+use Rattle.laws.proofs.KnownOwners.{known}
+use Rattle.laws.proofs.identity_laws.owners_are_known.Goals as goal
+
+pub returns : goal.returns
+returns c = known

@@ -1,0 +1,5 @@
+use Rattle.laws.proofs.ParsedEdits.{listed_parsed}
+use Rattle.laws.proofs.parsed_laws.listed_are_parsed.Goals as goal
+
+pub returns : goal.returns
+returns c = listed_parsed

@@ -1,0 +1,5 @@
+use Rattle.laws.proofs.ParsedEdits.{stored_parsed}
+use Rattle.laws.proofs.parsed_laws.stored_are_parsed.Goals as goal
+
+pub returns : goal.returns
+returns c = stored_parsed

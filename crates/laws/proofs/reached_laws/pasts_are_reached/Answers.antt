@@ -1,0 +1,5 @@
+use Rattle.laws.proofs.Reaching.{past}
+use Rattle.laws.proofs.reached_laws.pasts_are_reached.Goals as goal
+
+pub returns : goal.returns
+returns c = past

@@ -1,0 +1,59 @@
+-- What is there may be asked again: it is as a parser gives it, and stays so where a member of it is changed.
+use Rattle.std.specs.Prelude.{◌≡◌, ℕ, List, [], ◌∷◌, true, Some, codes, unwrap_or}
+use Rattle.std.specs.List.{AllByRecursion}
+use Rattle.serde_json.specs.Data.{Data, string, array, object, Items, no_members, member, put}
+use Rattle.serde_json.specs.Find.{get}
+use Rattle.definitions.specs.Checks.{in_spec}
+use Rattle.definitions.specs.History.{History, View, state, list}
+use Rattle.definitions.specs.Metadata.{metadata_of, with_metadata}
+use Rattle.definitions.specs.Names.{Name, is_namespace, is_subdomain}
+use Rattle.definitions.specs.Reached.{IsParsed, AreParsed, IsReached}
+use Rattle.definitions.specs.Reading.{empty}
+use Rattle.definitions.specs.Replacements.{as_held, keeping}
+use Rattle.definitions.specs.Values.{members_of, inner_of, without}
+
+-- ---- what is there
+
+-- an object that is there is as a parser gives it, at every depth
+abbrev pub StoredAreParsed : Type 0
+StoredAreParsed = (h : History) (r : ℕ) (k : Name) (d : Data) → IsReached h → state h r k ≡ Some d → IsParsed d
+
+-- and each of a list
+abbrev pub ListedAreParsed : Type 0
+ListedAreParsed = (h : History) (v : View) (r : ℕ) → IsReached h → AllByRecursion (λ (m : Name × Data). IsParsed m.1) (list h v r)
+
+-- the key of an object that is there names a namespace and a name as they have to be, so a controller may create beside it
+abbrev pub NamesAreValid : Type 0
+NamesAreValid = (h : History) (r : ℕ) (k : Name) (d : Data) → IsReached h → state h r k ≡ Some d → (is_namespace k.namespace ≡ true) × (is_subdomain k.name ≡ true)
+
+-- ---- what is changed
+
+-- what is parsed stays so with a member set in its metadata, or taken out of it
+abbrev pub MetadataEditsStayParsed : Type 0
+MetadataEditsStayParsed =
+    (d e : Data) (q : List ℕ) → IsParsed d → IsParsed e
+    → IsParsed (with_metadata (put q e (metadata_of d)) d) × IsParsed (with_metadata (without q (metadata_of d)) d)
+
+-- with another member, as its status
+abbrev pub MembersStayParsed : Type 0
+MembersStayParsed = (d e : Data) (q : List ℕ) → IsParsed d → IsParsed e → IsParsed (object (put q e (members_of d)))
+
+-- and with a member set in one of its members, as the replicas in its spec
+abbrev pub InnerEditsStayParsed : Type 0
+InnerEditsStayParsed = (d e : Data) (p q : List ℕ) → IsParsed d → IsParsed e → IsParsed (object (put p (object (put q e (inner_of (get p d)))) (members_of d)))
+
+-- what a pod has of its template's metadata
+abbrev pub copied : List (List ℕ)
+copied = codes "annotations" ∷ codes "finalizers" ∷ codes "labels" ∷ []
+
+-- the pod that is made of an object's template, with owner references and a name to be made, is as a parser gives it (Kubernetes, ReplicaSet)
+abbrev pub MadePodsAreParsed : Type 0
+MadePodsAreParsed =
+    (d : Data) (refs : Items) (named : List ℕ) → IsParsed d → AreParsed refs
+    → (let t = unwrap_or (in_spec (codes "template") d) empty in
+    IsParsed
+    (object
+    (as_held (codes "spec") (get (codes "spec") t)
+    (member (codes "metadata")
+    (object (put (codes "ownerReferences") (array refs) (put (codes "generateName") (string named) (keeping copied (inner_of (get (codes "metadata") t)) no_members))))
+    no_members))))

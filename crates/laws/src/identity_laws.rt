@@ -1,0 +1,32 @@
+//! Laws of versions, uids and owner references, over all that can have happened at a server.
+ghost use Rattle.laws.specs.IdentityLaws.{VersionsTellWrites, VersionsNameOneWrite, UidsTellCreates, UidsAreGivenOnce, DeletionsStand, OwnersAreKnown};
+
+/// An object that is there is what the write of its version put.
+pub fn versions_tell_writes()
+    ensures { VersionsTellWrites }
+{}
+
+/// Two objects, whenever they were there, that say one version are one object under one name.
+pub fn versions_name_one_write()
+    ensures { VersionsNameOneWrite }
+{}
+
+/// An object that is there has the uid of the revision that created it, and has stood under its name ever since.
+pub fn uids_tell_creates()
+    ensures { UidsTellCreates }
+{}
+
+/// Two objects, whenever they were there, that have one uid have one name.
+pub fn uids_are_given_once()
+    ensures { UidsAreGivenOnce }
+{}
+
+/// An object that is gone is never there again with its uid, and one that is being deleted stays so until then.
+pub fn deletions_stand()
+    ensures { DeletionsStand }
+{}
+
+/// An object names as its owners only what was created before it was written, or what no uid of this server names.
+pub fn owners_are_known()
+    ensures { OwnersAreKnown }
+{}
