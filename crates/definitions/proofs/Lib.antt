@@ -5,9 +5,13 @@ pub mod CheckLaws
 pub mod Compacted
 pub mod DefaultsRead
 pub mod Due
+pub mod DueKeys
 pub mod Expected
 pub mod Falling
+pub mod FinalizerSets
+pub mod FirstChanges
 pub mod FollowedWindows
+pub mod FutureUids
 pub mod Generations
 pub mod Guards
 pub mod HeldAnswers
@@ -34,6 +38,7 @@ pub mod ReadAgain
 pub mod Removals
 pub mod RevisionTexts
 pub mod Runs
+pub mod SameObjects
 pub mod SelectorForms
 pub mod SelectorLaws
 pub mod SelectorPlain

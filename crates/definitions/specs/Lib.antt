@@ -11,9 +11,11 @@ pub mod Defaults
 pub mod DeleteOptions
 pub mod Deletion
 pub mod DeletionExamples
+pub mod DueLaws
 pub mod Examples
 pub mod ExpectationLaws
 pub mod Expectations
+pub mod FinalizerLaws
 pub mod Frames
 pub mod GeneratedNames
 pub mod History
@@ -40,6 +42,7 @@ pub mod ReflectorCodes
 pub mod ReflectorExamples
 pub mod Reflectors
 pub mod Refusals
+pub mod ReplacementLaws
 pub mod Replacements
 pub mod RequestQueries
 pub mod Revisions
@@ -63,10 +66,12 @@ pub mod SnapshotLaws
 pub mod Snapshots
 pub mod Streams
 pub mod Targets
+pub mod UidLaws
 pub mod Uids
 pub mod Values
 pub mod VerbExamples
 pub mod Verbs
+pub mod VersionLaws
 pub mod Versions
 pub mod WatchExamples
 pub mod WatchLaws

@@ -1,0 +1,23 @@
+-- When an object in the place of another says the same.
+use Rattle.std.specs.Prelude.{◌≡◌, ◌↔◌, true, Some, codes}
+use Rattle.serde_json.specs.Data.{Data, object, Members}
+use Rattle.serde_json.specs.Find.{get}
+use Rattle.serde_json.specs.Read.{read}
+use Rattle.serde_json.specs.Written.{compact_text}
+use Rattle.definitions.specs.Metadata.{metadata, metadata_of, with_metadata}
+use Rattle.definitions.specs.Replacements.{says_the_same}
+use Rattle.definitions.specs.Values.{without}
+
+-- an object without its version
+abbrev pub without_version : Data → Data
+without_version d = with_metadata (without (codes "resourceVersion") (metadata_of d)) d
+
+-- an object with metadata that is read from its own text, as those that are stored are
+abbrev pub IsReadBack : Data → Type 0
+IsReadBack d = (read (compact_text d) ≡ Some d) × (meta : Members) × (get (codes "metadata") d ≡ Some (object meta))
+
+-- two objects at one version say the same exactly if they are the same but for it
+abbrev pub SameButForTheVersion : Type 0
+SameButForTheVersion =
+    (held d : Data) → IsReadBack held → IsReadBack d → metadata (codes "resourceVersion") held ≡ metadata (codes "resourceVersion") d
+    → (says_the_same held d ≡ true) ↔ (without_version held ≡ without_version d)
