@@ -39,11 +39,16 @@ pub mod Removals
 pub mod RevisionTexts
 pub mod Runs
 pub mod SameObjects
+pub mod SelectorBlanks
+pub mod SelectorCompared
 pub mod SelectorForms
 pub mod SelectorLaws
+pub mod SelectorPieces
 pub mod SelectorPlain
+pub mod SelectorReadBack
 pub mod SelectorSound
 pub mod SelectorTextsRead
+pub mod SelectorWritten
 pub mod SentChanges
 pub mod SentLists
 pub mod SentObjects

@@ -73,8 +73,8 @@ one_object : (d e : Data) → Some d ≡ Some e → d ≡ e
 one_object d e h = cc
 
 pub same_objects : SameButForTheVersion
-same_objects held d h g version =
-    let texts = bytes_eq-Decides (compact_text held) (compact_text d) in (
-      λ says. ap without_version (one_object held d (sym h.0 ∙ ap read (texts.0 says) ∙ g.0)),
-      λ same. texts.1 (ap compact_text (sym (version_back held h) ∙ ap₂ with_version version same ∙ version_back d g)),
+same_objects stored d h g version =
+    let texts = bytes_eq-Decides (compact_text stored) (compact_text d) in (
+      λ says. ap without_version (one_object stored d (sym h.0 ∙ ap read (texts.0 says) ∙ g.0)),
+      λ same. texts.1 (ap compact_text (sym (version_back stored h) ∙ ap₂ with_version version same ∙ version_back d g)),
     )

@@ -18,6 +18,7 @@ pub mod Expectations
 pub mod FinalizerLaws
 pub mod Frames
 pub mod GeneratedNames
+pub mod GrammarLaws
 pub mod History
 pub mod HistoryCodes
 pub mod Kinds
@@ -51,6 +52,7 @@ pub mod SelectorCodes
 pub mod SelectorExamples
 pub mod SelectorFields
 pub mod SelectorForms
+pub mod SelectorGrammar
 pub mod SelectorLaws
 pub mod SelectorTexts
 pub mod SelectorValues

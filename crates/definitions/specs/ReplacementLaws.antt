@@ -12,12 +12,12 @@ use Rattle.definitions.specs.Values.{without}
 abbrev pub without_version : Data → Data
 without_version d = with_metadata (without (codes "resourceVersion") (metadata_of d)) d
 
--- an object with metadata that is read from its own text, as those that are stored are
+-- an object with metadata, which is what its own text is read as
 abbrev pub IsReadBack : Data → Type 0
 IsReadBack d = (read (compact_text d) ≡ Some d) × (meta : Members) × (get (codes "metadata") d ≡ Some (object meta))
 
 -- two objects at one version say the same exactly if they are the same but for it
 abbrev pub SameButForTheVersion : Type 0
 SameButForTheVersion =
-    (held d : Data) → IsReadBack held → IsReadBack d → metadata (codes "resourceVersion") held ≡ metadata (codes "resourceVersion") d
-    → (says_the_same held d ≡ true) ↔ (without_version held ≡ without_version d)
+    (stored d : Data) → IsReadBack stored → IsReadBack d → metadata (codes "resourceVersion") stored ≡ metadata (codes "resourceVersion") d
+    → (says_the_same stored d ≡ true) ↔ (without_version stored ≡ without_version d)

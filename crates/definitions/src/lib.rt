@@ -14,6 +14,7 @@ pub mod examples;
 pub mod expectation_laws;
 pub mod finalizer_laws;
 pub mod frames;
+pub mod grammar_laws;
 pub mod kinds;
 pub mod laws;
 pub mod lifecycle_laws;
