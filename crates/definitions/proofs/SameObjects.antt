@@ -1,5 +1,5 @@
 -- Objects at one version that are the same but for it.
-use Rattle.std.proofs.Common.{◌≡◌, ℕ, List, IfSome, Option, Some, None, codes, Ordering, Less, Equal, Greater, nat_cmp, is_eq, cond, refl, sym, subst, ap, ap₂, ◌∙◌}
+use Rattle.std.proofs.Common.{◌≡◌, ℕ, List, [], ◌∷◌, IfSome, Option, Some, None, codes, Ordering, Less, Equal, Greater, nat_cmp, is_eq, cond, refl, sym, subst, ap, ap₂, ◌∙◌}
 use Rattle.std.proofs.lemmas.Slice.Eq.{bytes_eq-Decides}
 use Rattle.std.specs.Cmp.Lexicographic.{slice_cmp}
 use Rattle.std.specs.Ordering.{match_ordering}
@@ -8,12 +8,15 @@ use Rattle.serde_json.specs.Find.{get, get_member}
 use Rattle.serde_json.specs.Read.{read}
 use Rattle.serde_json.specs.Written.{compact_text}
 use Rattle.definitions.specs.Metadata.{metadata, metadata_of, with_metadata}
-use Rattle.definitions.specs.ReplacementLaws.{without_version, IsReadBack, SameButForTheVersion}
+use Rattle.definitions.specs.ReplacementLaws.{without_version, IsReadBack, SameButForTheVersion, UpdatesAreAtTheVersion}
+use Rattle.definitions.specs.Replacements.{as_held, keeping, kept, kept_of, said_status}
 use Rattle.definitions.specs.Values.{members_of, inner_of, without}
+use Rattle.serde_json.proofs.Views.{get_member-put}
 use Rattle.definitions.proofs.JsonMembers.{metadata_of-with}
 use Rattle.definitions.proofs.JsonOrder.{IsOrdered, put_back}
 use Rattle.definitions.proofs.NestedOrder.{AreOrdered-get, HasOrders, orders_read}
 use Rattle.definitions.proofs.TextLengths.{put_same, put_twice}
+use Rattle.definitions.proofs.VerbLaws.{metadata_of-status}
 
 none_at : (o : Ordering) (k l : List ℕ) (e : Data) (ms : Members) → match_ordering o (get_member k ms) (Some e) (get_member k ms) ≡ None → (get_member k ms ≡ None → without k ms ≡ ms)
     → cond (is_eq o) ms (member l e (without k ms)) ≡ member l e ms
@@ -77,4 +80,24 @@ same_objects stored d h g version =
     let texts = bytes_eq-Decides (compact_text stored) (compact_text d) in (
       λ says. ap without_version (one_object stored d (sym h.0 ∙ ap read (texts.0 says) ∙ g.0)),
       λ same. texts.1 (ap compact_text (sym (version_back stored h) ∙ ap₂ with_version version same ∙ version_back d g)),
+    )
+
+-- ---- updates
+
+first_kept : List (List ℕ)
+first_kept = codes "namespace" ∷ codes "uid" ∷ codes "creationTimestamp" ∷ codes "deletionTimestamp" ∷ codes "generation" ∷ []
+
+last_kept : (was ms : Members) (v : Data) → get_member (codes "resourceVersion") was ≡ Some v → get_member (codes "resourceVersion") (keeping kept was ms) ≡ Some v
+unfolding first_kept
+last_kept was ms v h =
+    let k = codes "resourceVersion" in
+    let before = keeping first_kept was ms in
+    ap (λ o. get_member k (as_held k o before)) h ∙ get_member-put k v before
+
+pub at_the_version : UpdatesAreAtTheVersion
+at_the_version k stored o v h =
+    let rv = codes "resourceVersion" in
+    let said = keeping kept (metadata_of stored) (metadata_of o) in (
+      ap (get_member rv) (metadata_of-with said (object (keeping (kept_of k) (members_of stored) (members_of o)))) ∙ last_kept (metadata_of stored) (metadata_of o) v h,
+      ap (get_member rv) (metadata_of-status (said_status k (get (codes "status") o)) stored) ∙ h,
     )

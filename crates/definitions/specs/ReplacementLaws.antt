@@ -4,8 +4,9 @@ use Rattle.serde_json.specs.Data.{Data, object, Members}
 use Rattle.serde_json.specs.Find.{get}
 use Rattle.serde_json.specs.Read.{read}
 use Rattle.serde_json.specs.Written.{compact_text}
+use Rattle.definitions.specs.declared.kinds.Kind.{Kind}
 use Rattle.definitions.specs.Metadata.{metadata, metadata_of, with_metadata}
-use Rattle.definitions.specs.Replacements.{says_the_same}
+use Rattle.definitions.specs.Replacements.{in_place, says_the_same, with_said_status}
 use Rattle.definitions.specs.Values.{without}
 
 -- an object without its version
@@ -21,3 +22,9 @@ abbrev pub SameButForTheVersion : Type 0
 SameButForTheVersion =
     (stored d : Data) → IsReadBack stored → IsReadBack d → metadata (codes "resourceVersion") stored ≡ metadata (codes "resourceVersion") d
     → (says_the_same stored d ≡ true) ↔ (without_version stored ≡ without_version d)
+
+-- and at one version they are: whatever version an update names, what it says is taken at the version that is stored (Kubernetes API Conventions, Metadata)
+abbrev pub UpdatesAreAtTheVersion : Type 0
+UpdatesAreAtTheVersion =
+    (k : Kind) (stored o v : Data) → metadata (codes "resourceVersion") stored ≡ Some v
+    → (metadata (codes "resourceVersion") (in_place k stored o) ≡ Some v) × (metadata (codes "resourceVersion") (with_said_status k stored o) ≡ Some v)
