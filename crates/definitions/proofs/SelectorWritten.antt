@@ -4,7 +4,7 @@ use Rattle.std.proofs.lemmas.Bool.Decides.{nat_tests}
 use Rattle.std.specs.List.{list_all, list_any, before_first, after_first, slice_split}
 use Rattle.definitions.specs.declared.selectors.Operator.{Operator}
 use Rattle.definitions.specs.declared.selectors.Operator.TheVariants.{In, NotIn, Exists, DoesNotExist}
-use Rattle.definitions.specs.GrammarLaws.{WrittenTextsAreRead}
+use Rattle.definitions.specs.GrammarLaws.{WrittenTextsAreRead, TextsAreClear}
 use Rattle.definitions.specs.SelectorGrammar.{AreBlanks, IsValueText, AreValuesText, IsWord, IsListedText, IsRequirementText, alone, negated, compared, listed, IsSelectorText}
 use Rattle.definitions.specs.Selectors.{Requirement, label_key, label_value, each_read, put_first, requiring}
 use Rattle.definitions.specs.SelectorTexts.{is_blank, is_comma, is_opening, trimmed, parts, before_last, set_operator, value_in, listed_values, set_requirement, plain_requirement, unblanked_requirement, requirement, said_by_text}
@@ -155,3 +155,9 @@ some-read r (s ∷ rs) t w = subst (λ x. 0 < length x) (sym w.2) (some-text w.0
 pub written : WrittenTextsAreRead
 written t [] h = ap said_by_text h
 written t (r ∷ rs) h = said t (some-read r rs t h) ∙ parts-read r rs t h
+
+one-list : (rs ss : List Requirement) → Some rs ≡ Some ss → rs ≡ ss
+one-list rs ss h = cc
+
+pub clear : TextsAreClear
+clear t rs ss h g = one-list rs ss (sym (written t rs h) ∙ written t ss g)

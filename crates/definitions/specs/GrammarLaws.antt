@@ -11,3 +11,7 @@ WrittenTextsAreRead = (t : List ℕ) (rs : List Requirement) → IsSelectorText 
 -- and no other text says them
 abbrev pub ReadTextsAreWritten : Type 0
 ReadTextsAreWritten = (t : List ℕ) (rs : List Requirement) → said_by_text t ≡ Some rs → IsSelectorText t rs
+
+-- so no text can be read in two ways
+abbrev pub TextsAreClear : Type 0
+TextsAreClear = (t : List ℕ) (rs ss : List Requirement) → IsSelectorText t rs → IsSelectorText t ss → rs ≡ ss

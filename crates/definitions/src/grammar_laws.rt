@@ -1,5 +1,5 @@
 //! Laws of the texts of selectors, by how they are written.
-ghost use Rattle.definitions.specs.GrammarLaws.{WrittenTextsAreRead, ReadTextsAreWritten};
+ghost use Rattle.definitions.specs.GrammarLaws.{WrittenTextsAreRead, ReadTextsAreWritten, TextsAreClear};
 
 /// A text in the forms of the API, with blanks anywhere between its parts, is read as the requirements that it writes.
 pub fn written_texts_are_read()
@@ -9,4 +9,9 @@ pub fn written_texts_are_read()
 /// No other text is read: whatever is read was written in these forms.
 pub fn read_texts_are_written()
     ensures { ReadTextsAreWritten }
+{}
+
+/// No text can be read in two ways.
+pub fn texts_are_clear()
+    ensures { TextsAreClear }
 {}
