@@ -172,7 +172,7 @@ put_front R k v [] x h = refl
 put_front R k v (y ∷ ks) x h = ap (λ o. by_order o ((k, v) ∷ (y, x y) ∷ map (λ y. (y, x y)) ks) ((y, v) ∷ map (λ y. (y, x y)) ks) ((y, x y) ∷ put R k v (map (λ y. (y, x y)) ks))) h.0
 
 -- a list as entries with nothing at each key
-abbrev marked : {K : Type 0} → List K → List (K × Unit {0})
+abbrev pub marked : {K : Type 0} → List K → List (K × Unit {0})
 marked ks = map (λ y. (y, tt)) ks
 
 no_entries : {K X : Type 0} (es : List (K × X)) → length es ≡ 0 → es ≡ []
@@ -188,10 +188,10 @@ firsts : {K : Type 0} (ks : List K) → map (λ (e : K × Unit {0}). e.0) (marke
 firsts [] = refl
 firsts (k ∷ ks) = ap (λ r. k ∷ r) (firsts ks)
 
-abbrev mark : Bool → Option (Unit {0})
+abbrev pub mark : Bool → Option (Unit {0})
 mark b = cond b (Some tt) None
 
-find_mark : (q : Alarm) (ks : List Alarm) → find alarm_cmp q (marked ks) ≡ mark (list_any (eq_by_cmp alarm_cmp q) ks)
+pub find_mark : (q : Alarm) (ks : List Alarm) → find alarm_cmp q (marked ks) ≡ mark (list_any (eq_by_cmp alarm_cmp q) ks)
 find_mark q [] = refl
 find_mark q (k ∷ ks) = ap (λ r. cond (eq_by_cmp alarm_cmp q k) (Some tt) r) (find_mark q ks) ∙ by (eq_by_cmp alarm_cmp q k)
   where
@@ -199,7 +199,7 @@ find_mark q (k ∷ ks) = ap (λ r. cond (eq_by_cmp alarm_cmp q k) (Some tt) r) (
     by true = refl
     by false = refl
 
-marked_entries : (es : List (Task × ℕ)) → map {B = Alarm × Unit {0}} (λ (e : Task × ℕ). (alarm_of e, tt)) es ≡ marked (map alarm_of es)
+pub marked_entries : (es : List (Task × ℕ)) → map {B = Alarm × Unit {0}} (λ (e : Task × ℕ). (alarm_of e, tt)) es ≡ marked (map alarm_of es)
 marked_entries [] = refl
 marked_entries (e ∷ es) = ap (λ r. (alarm_of e, tt) ∷ r) (marked_entries es)
 

@@ -71,7 +71,7 @@ module _ (m : Delays) (a : Alarm) (ks : List Alarm) (h : AreAlarms m (a ∷ ks))
       ∙ ap (λ b. map (λ (a : Alarm). a.task) (cond b (a ∷ filter (comes now) ks) (filter (comes now) ks))) e
       ∙ ap (λ l. a.task ∷ l) (sym (due_is now (map_of.remove m a.task) ks rest_are))
 
-get-still : (now : ℕ) (m : Delays) (q : Task) → map_of.get (still_delayed now m) q ≡ cond (not (has_come now (map_of.get m q))) (map_of.get m q) None
+pub get-still : (now : ℕ) (m : Delays) (q : Task) → map_of.get (still_delayed now m) q ≡ cond (not (has_come now (map_of.get m q))) (map_of.get m q) None
 get-still now m q = get-retain_keys m (λ k. not (has_come now (map_of.get m k))) q (λ x t. ap (λ o. not (has_come now o)) (get_tied task_total m q x t))
 
 -- to take out a key that is due changes nothing of what is left afterwards

@@ -8,5 +8,5 @@ pub mod Uids
 pub mod GeneratedNames
 pub mod Selectors
 pub mod SelectorTexts
+pub mod SelectorGrammar
 pub mod SelectorFields
-pub mod SelectorForms

@@ -11,7 +11,7 @@ use Rattle.definitions.specs.declared.schemas.Shape.TheVariants.{Object, Text}
 use Rattle.definitions.specs.declared.schemas.Schema.TheVariants.{Expression}
 use Rattle.definitions.specs.Labels.{is_label_key, is_label_value}
 use Rattle.definitions.specs.Reading.{fits, items_fit, tidied, tidied_items}
-use Rattle.definitions.specs.SelectorForms.{is_sound, text_items, operator_name, expression_value, expression_items, selector_value, pair_value}
+use Rattle.laws.specs.SelectorForms.{is_sound, text_items, operator_name, expression_value, expression_items, selector_value, pair_value}
 use Rattle.definitions.specs.SelectorValues.{mistyped, operator_named, item_values, fitting, operated, expression_requirement, expression_requirements, both, or_unfit, said_by_value}
 use Rattle.definitions.specs.Selectors.{Requirement, label_key, label_value, each_read, put_first, requiring}
 

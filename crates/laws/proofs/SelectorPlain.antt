@@ -140,7 +140,7 @@ none-passes p (x ∷ t) h =
     let here : p x ≡ false = h 0 (omega arith) in
     rw here (none-passes p t (λ k l. h (suc k) (omega (arith, l))))
 
-some-place : (p : ℕ → Bool) (t : List ℕ) → list_any p t ≡ true → position_or_len p t < length t
+pub some-place : (p : ℕ → Bool) (t : List ℕ) → list_any p t ≡ true → position_or_len p t < length t
 some-place p t h = by (nat_lt (position_or_len p t) (length t)) refl
   where
     by : (v : Bool) → nat_lt (position_or_len p t) (length t) ≡ v → position_or_len p t < length t
@@ -172,7 +172,7 @@ cut-at p t x u h g =
     let e = position p t x u h g in
     (any-here p t x u g, ap (λ n. take n (t ++ x ∷ u)) e ∙ take-append_seam t (x ∷ u), ap (λ n. drop (n + 1) (t ++ x ∷ u)) e ∙ drop-append-add t (x ∷ u) 1)
 
-split-nowhere : (p : ℕ → Bool) (t : List ℕ) → list_any p t ≡ false → slice_split p t ≡ t ∷ []
+pub split-nowhere : (p : ℕ → Bool) (t : List ℕ) → list_any p t ≡ false → slice_split p t ≡ t ∷ []
 split-nowhere p [] h = refl
 split-nowhere p (x ∷ t) h = by (p x) (λ k. split-nowhere p t k) refl
   where
@@ -180,7 +180,7 @@ split-nowhere p (x ∷ t) h = by (p x) (λ k. split-nowhere p t k) refl
     by true step e = let a : true ≡ false = rw e at h in cc
     by false step e = let a : list_any p t ≡ false = rw e at h in rw e (ap (onto_first x) (step a))
 
-split-here : (p : ℕ → Bool) (t : List ℕ) (x : ℕ) (u : List ℕ) → list_any p t ≡ false → p x ≡ true → slice_split p (t ++ x ∷ u) ≡ t ∷ slice_split p u
+pub split-here : (p : ℕ → Bool) (t : List ℕ) (x : ℕ) (u : List ℕ) → list_any p t ≡ false → p x ≡ true → slice_split p (t ++ x ∷ u) ≡ t ∷ slice_split p u
 split-here p [] x u h g = rw g refl
 split-here p (b ∷ t) x u h g = by (p b) (λ k. split-here p t x u k g) refl
   where
@@ -223,7 +223,7 @@ not-false : (u : Bool) → not u ≡ true → u ≡ false
 not-false true h = cc
 not-false false h = refl
 
-no-blank-first : (t : List ℕ) → begins t ≡ true → without_first_blanks t ≡ t
+pub no-blank-first : (t : List ℕ) → begins t ≡ true → without_first_blanks t ≡ t
 no-blank-first [] h = refl
 no-blank-first (b ∷ t) h = rw (not-false (is_blank b) h) refl
 

@@ -10,7 +10,7 @@ use Rattle.definitions.specs.Reading.{fits, tidied}
 use Rattle.definitions.specs.declared.selectors.Operator.{Operator}
 use Rattle.definitions.specs.declared.selectors.Operator.TheVariants.{In, NotIn, Exists, DoesNotExist}
 use Rattle.definitions.specs.Labels.{is_label_key, is_label_value}
-use Rattle.definitions.specs.SelectorForms.{is_sound}
+use Rattle.laws.specs.SelectorForms.{is_sound}
 use Rattle.definitions.specs.SelectorTexts.{is_blank, is_comma, is_equals, is_opening, trimmed, without_equals, parts, before_last, compared, comparison, compared_requirement, set_operator, value_in, listed_values, set_requirement, in_requirement, plain_requirement, unblanked_requirement, requirement, said_by_text}
 use Rattle.definitions.specs.SelectorValues.{Flaw, mistyped, selector_shape, requirements_in, text_in, items_in, label_requirements, operator_named, item_values, fitting, operated, expression_requirement, expression_requirements, both, or_unfit, said_by_value}
 use Rattle.definitions.specs.Values.{inner_of}

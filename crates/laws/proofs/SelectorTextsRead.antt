@@ -8,7 +8,7 @@ use Rattle.std.specs.List.{list_all, list_any, before_first, after_first, onto_f
 use Rattle.definitions.specs.declared.selectors.Operator.{Operator}
 use Rattle.definitions.specs.declared.selectors.Operator.TheVariants.{In, NotIn, Exists, DoesNotExist}
 use Rattle.definitions.specs.Labels.{is_label_key, is_label_value}
-use Rattle.definitions.specs.SelectorForms.{is_sound, text_with, requirement_text, selector_text}
+use Rattle.laws.specs.SelectorForms.{is_sound, text_with, requirement_text, selector_text}
 use Rattle.definitions.specs.SelectorTexts.{is_blank, is_comma, is_equals, is_opening, trimmed, still_inside, parts_from, parts, before_last, compared, compared_requirement, without_equals, set_operator, value_in, listed_values, set_requirement, in_requirement, plain_requirement, unblanked_requirement, requirement, said_by_text}
 use Rattle.definitions.specs.SelectorValues.{fitting}
 use Rattle.definitions.specs.Selectors.{Requirement, label_key, label_value, each_read, only_if, put_first, requiring}
@@ -134,10 +134,10 @@ last-here t b =
 
 -- ---- requirements
 
-no-key : is_label_key [] ≡ true → ⊥
+pub no-key : is_label_key [] ≡ true → ⊥
 no-key h = cc
 
-not-marked : (b : ℕ) (t : List ℕ) → is_plain b ≡ true → unblanked_requirement (b ∷ t) ≡ plain_requirement (b ∷ t)
+pub not-marked : (b : ℕ) (t : List ℕ) → is_plain b ≡ true → unblanked_requirement (b ∷ t) ≡ plain_requirement (b ∷ t)
 not-marked b t h =
     let e : (b == 33) ≡ false = plain-no-mark b h in
     rw e refl
@@ -169,7 +169,7 @@ absent-read k h =
     ∙ ap (λ x. requiring (label_key x) DoesNotExist (Some [])) (trimmed-plain k p)
     ∙ ap (λ x. requiring x DoesNotExist (Some [])) (own-key k h)
 
-compares : (t left right : List ℕ) → list_any is_opening t ≡ false → list_any is_equals t ≡ true → before_first is_equals t ≡ left → after_first is_equals t ≡ right
+pub compares : (t left right : List ℕ) → list_any is_opening t ≡ false → list_any is_equals t ≡ true → before_first is_equals t ≡ left → after_first is_equals t ≡ right
     → plain_requirement t ≡ compared_requirement (compared (before_last 33 left) left right)
 compares t left right o e bl ar = rw (o, e) (ap₂ (λ l r. compared_requirement (compared (before_last 33 l) l r)) bl ar)
 
@@ -262,7 +262,7 @@ listed-read v w vs h =
     ∙ ap (each_read value_in) (joined-split v (w ∷ vs) p)
     ∙ values-read (v ∷ w ∷ vs) h
 
-lists : (t head list : List ℕ) → list_any is_opening t ≡ true → before_first is_opening t ≡ head → after_first is_opening t ≡ list → plain_requirement t ≡ in_requirement head list
+pub lists : (t head list : List ℕ) → list_any is_opening t ≡ true → before_first is_opening t ≡ head → after_first is_opening t ≡ list → plain_requirement t ≡ in_requirement head list
 lists t head list o bh al = rw o (ap₂ in_requirement bh al)
 
 -- `k`, a blank, a word and a blank, and the values in parentheses
@@ -368,7 +368,7 @@ parts-read r (s ∷ rs) h =
     ap (each_read requirement) (more-parts (requirement_text r) u t.0)
     ∙ ap₂ put_first t.1 (parts-read s rs (second (is_sound r) (list_all is_sound (s ∷ rs)) h))
 
-said : (t : List ℕ) → 0 < length t → said_by_text t ≡ each_read requirement (parts t)
+pub said : (t : List ℕ) → 0 < length t → said_by_text t ≡ each_read requirement (parts t)
 said [] l = absurd (no-length l)
   where
     no-length : 0 < length {A = ℕ} [] → ⊥

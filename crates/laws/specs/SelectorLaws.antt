@@ -4,7 +4,7 @@ use Rattle.std.specs.List.{list_all}
 use Rattle.serde_json.specs.Data.{Data, Members}
 use Rattle.definitions.specs.declared.selectors.Operator.TheVariants.{In, NotIn}
 use Rattle.definitions.specs.Labels.{label_at, is_label_key, is_label_value}
-use Rattle.definitions.specs.SelectorForms.{is_sound, pair_value, selector_text, selector_value}
+use Rattle.laws.specs.SelectorForms.{is_sound, pair_value, selector_text, selector_value}
 use Rattle.definitions.specs.SelectorTexts.{said_by_text}
 use Rattle.definitions.specs.SelectorValues.{said_by_value}
 use Rattle.definitions.specs.Selectors.{Requirement, meets, meets_all}

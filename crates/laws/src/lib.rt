@@ -3,16 +3,22 @@
 
 pub mod board_laws;
 pub mod check_laws;
+pub mod due_laws;
 pub mod expectation_laws;
+pub mod finalizer_laws;
+pub mod grammar_laws;
 pub mod history_laws;
 pub mod identity_laws;
 pub mod lifecycle_laws;
 pub mod page_laws;
 pub mod parsed_laws;
 pub mod reached_laws;
+pub mod replacement_laws;
 pub mod selector_laws;
 pub mod sent_laws;
 pub mod server_laws;
 pub mod snapshot_laws;
+pub mod uid_laws;
+pub mod version_laws;
 pub mod watch_laws;
 pub mod window_laws;

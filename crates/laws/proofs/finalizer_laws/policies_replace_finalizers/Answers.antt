@@ -1,0 +1,5 @@
+use Rattle.laws.proofs.FinalizerSets.{policies_replace}
+use Rattle.laws.proofs.finalizer_laws.policies_replace_finalizers.Goals as goal
+
+pub returns : goal.returns
+returns c = policies_replace

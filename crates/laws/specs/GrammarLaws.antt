@@ -1,0 +1,17 @@
+-- What the text of a selector says, by how it is written.
+use Rattle.std.specs.Prelude.{◌≡◌, ℕ, List, Some}
+use Rattle.definitions.specs.SelectorGrammar.{IsSelectorText}
+use Rattle.definitions.specs.SelectorTexts.{said_by_text}
+use Rattle.definitions.specs.Selectors.{Requirement}
+
+-- a text that is written so says these requirements
+abbrev pub WrittenTextsAreRead : Type 0
+WrittenTextsAreRead = (t : List ℕ) (rs : List Requirement) → IsSelectorText t rs → said_by_text t ≡ Some rs
+
+-- and no other text says them
+abbrev pub ReadTextsAreWritten : Type 0
+ReadTextsAreWritten = (t : List ℕ) (rs : List Requirement) → said_by_text t ≡ Some rs → IsSelectorText t rs
+
+-- so no text can be read in two ways
+abbrev pub TextsAreClear : Type 0
+TextsAreClear = (t : List ℕ) (rs ss : List Requirement) → IsSelectorText t rs → IsSelectorText t ss → rs ≡ ss
