@@ -7,6 +7,7 @@ pub mod DefaultsRead
 pub mod Due
 pub mod Expected
 pub mod Falling
+pub mod Floors
 pub mod FollowedWindows
 pub mod Generations
 pub mod Guards
@@ -18,6 +19,7 @@ pub mod JsonOrder
 pub mod KeptWrites
 pub mod LeftFinalizers
 pub mod Limits
+pub mod Looks
 pub mod MarkedObjects
 pub mod NamedVersions
 pub mod NeatMembers

@@ -136,7 +136,7 @@ watches_stand size h v a n w is =
 writes_past : (h more : History) (r : ℕ) → r ≤ present h → up_to r (h ++ more) ≡ up_to r h
 writes_past h more r le = ap (take (r - 1)) (writes-append h more) ∙ take-append-le (r - 1) (writes h) (writes more) (omega arith)
 
-changes_past : (h more : History) (v : View) (a b : ℕ) → a ≤ b → b ≤ present h → changes (h ++ more) v a b ≡ changes h v a b
+pub changes_past : (h more : History) (v : View) (a b : ℕ) → a ≤ b → b ≤ present h → changes (h ++ more) v a b ≡ changes h v a b
 changes_past h more v a b le lt = ap₂ (λ before ws. changes_after v before (drop (a - 1) ws)) (writes_past h more a (omega (arith, le, lt))) (writes_past h more b lt)
 
 pub watches_go_on : WatchesGoOn

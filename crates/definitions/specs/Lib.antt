@@ -14,6 +14,7 @@ pub mod DeletionExamples
 pub mod Examples
 pub mod ExpectationLaws
 pub mod Expectations
+pub mod FloorLaws
 pub mod Frames
 pub mod GeneratedNames
 pub mod History
@@ -24,6 +25,8 @@ pub mod Laws
 pub mod LifecycleLaws
 pub mod Lines
 pub mod Lists
+pub mod LookExamples
+pub mod LookLaws
 pub mod Metadata
 pub mod Moments
 pub mod Names
