@@ -22,7 +22,7 @@ owner_tells o p e =
     let u = slice_cmp-IsAntisymmetric nat_cmp-IsAntisymmetric o.uid p.uid parts.1 in
     λ i. record { key = k i; uid = u i }
 
-tied : (o p : Owner) → is_eq (owner_cmp o p) ≡ true → owner_cmp o p ≡ Equal
+pub tied : (o p : Owner) → is_eq (owner_cmp o p) ≡ true → owner_cmp o p ≡ Equal
 tied o p e = (Equal-is (owner_cmp o p)).0 e
 
 -- to put what stands there changes nothing
@@ -73,7 +73,7 @@ alike x y is = subst (λ z. Fewer z y) (sym is) (as_before y)
 put_elsewhere : (t : Table) (o p : Owner) (e : Expectation) → is_eq (owner_cmp o p) ≡ false → Fewer (map.get (map.insert t p e) o) (map.get t o)
 put_elsewhere t o p e h = alike _ _ (get-insert owner_total t p e o ∙ ap (λ b. cond b (Some e) (map.get t o)) h)
 
-fewer_deletions : (s : Uids) (u : List ℕ) → set.len (set.remove s u) ≤ set.len s
+pub fewer_deletions : (s : Uids) (u : List ℕ) → set.len (set.remove s u) ≤ set.len s
 fewer_deletions s u = let is = len-remove nat_list_cmp_total s u in by (set.contains s u) _ _ is
   where
     by : (b : Bool) (m n : ℕ) → m ≡ cond b (n - 1) n → m ≤ n

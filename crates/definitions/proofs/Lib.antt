@@ -1,4 +1,5 @@
 pub mod Alarms
+pub mod Awaited
 pub mod BoardRuns
 pub mod Cases
 pub mod CheckLaws

@@ -1,3 +1,4 @@
+pub mod AwaitedLaws
 pub mod Board
 pub mod BoardLaws
 pub mod Changes

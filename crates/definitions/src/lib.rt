@@ -3,6 +3,7 @@
 #![tactic(auto)]
 
 pub mod amounts;
+pub mod awaited_laws;
 pub mod board_laws;
 pub mod check_examples;
 pub mod check_laws;

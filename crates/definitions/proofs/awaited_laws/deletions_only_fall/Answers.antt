@@ -1,0 +1,5 @@
+use Rattle.definitions.proofs.Awaited.{deletions_fall}
+use Rattle.definitions.proofs.awaited_laws.deletions_only_fall.Goals as goal
+
+pub returns : goal.returns
+returns c = deletions_fall

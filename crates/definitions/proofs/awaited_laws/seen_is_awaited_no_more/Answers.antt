@@ -1,0 +1,5 @@
+use Rattle.definitions.proofs.Awaited.{seen_no_more}
+use Rattle.definitions.proofs.awaited_laws.seen_is_awaited_no_more.Goals as goal
+
+pub returns : goal.returns
+returns c = seen_no_more
