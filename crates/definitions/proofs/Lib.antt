@@ -1,6 +1,7 @@
 pub mod Alarms
 pub mod Awaited
 pub mod BoardRuns
+pub mod BoardWorked
 pub mod Cases
 pub mod CheckLaws
 pub mod Compacted

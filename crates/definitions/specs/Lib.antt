@@ -1,5 +1,6 @@
 pub mod AwaitedLaws
 pub mod Board
+pub mod BoardExamples
 pub mod BoardLaws
 pub mod Changes
 pub mod CheckExamples

@@ -4,6 +4,7 @@
 
 pub mod amounts;
 pub mod awaited_laws;
+pub mod board_examples;
 pub mod board_laws;
 pub mod check_examples;
 pub mod check_laws;

@@ -1,0 +1,5 @@
+use Rattle.definitions.proofs.BoardWorked.{come_due}
+use Rattle.definitions.proofs.board_examples.keys_come_due.Goals as goal
+
+pub returns : goal.returns
+returns c = come_due
