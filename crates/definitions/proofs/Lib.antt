@@ -21,6 +21,7 @@ pub mod JsonOrder
 pub mod KeptWrites
 pub mod LeftFinalizers
 pub mod Limits
+pub mod LongLines
 pub mod Looks
 pub mod MarkedObjects
 pub mod NamedVersions

@@ -9,6 +9,7 @@ pub mod Checks
 pub mod Codes
 pub mod CollectionExamples
 pub mod Collections
+pub mod CutExamples
 pub mod Defaults
 pub mod DeleteOptions
 pub mod Deletion

@@ -10,6 +10,7 @@ pub mod check_examples;
 pub mod check_laws;
 pub mod collection_examples;
 pub mod controllers;
+pub mod cut_examples;
 pub mod deletion_examples;
 pub mod examples;
 pub mod expectation_laws;
