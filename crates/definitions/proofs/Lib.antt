@@ -30,6 +30,7 @@ pub mod NestedOrder
 pub mod NoFloatsRead
 pub mod OnLiterals
 pub mod PageLists
+pub mod PageReplies
 pub mod Past
 pub mod PastWindows
 pub mod Paths
@@ -37,6 +38,7 @@ pub mod Played
 pub mod PutLaws
 pub mod ReadAgain
 pub mod Removals
+pub mod RepliesRead
 pub mod RevisionTexts
 pub mod Runs
 pub mod SelectorForms

@@ -47,6 +47,7 @@ pub mod ReflectorExamples
 pub mod Reflectors
 pub mod Refusals
 pub mod Replacements
+pub mod ReplyLaws
 pub mod RequestQueries
 pub mod Revisions
 pub mod Schemas

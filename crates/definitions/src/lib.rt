@@ -28,6 +28,7 @@ pub mod policies;
 pub mod reflector_examples;
 pub mod reflectors;
 pub mod refusals;
+pub mod reply_laws;
 pub mod schemas;
 pub mod selector_examples;
 pub mod selector_laws;
