@@ -54,6 +54,7 @@ pub mod SentVerbs
 pub mod ServedWindows
 pub mod ShownWatches
 pub mod SnapshotSteps
+pub mod SoundData
 pub mod StandingWatches
 pub mod Streamed
 pub mod TaskOrder

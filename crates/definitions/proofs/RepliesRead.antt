@@ -1,8 +1,8 @@
 -- What a list is answered is the list, and is read as it.
-use Rattle.std.proofs.Common.{◌≡◌, ◌≤◌, ℕ, List, None, Some, refl, sym, ap, ◌∙◌, arith}
-use Rattle.serde_json.specs.Data.{Data}
-use Rattle.serde_json.specs.Read.{read}
-use Rattle.serde_json.specs.Written.{compact_text}
+use Rattle.std.proofs.Common.{◌≡◌, ◌≤◌, ℕ, List, false, None, Some, refl, sym, ap, ◌∙◌, arith}
+use Rattle.serde_json.specs.Data.{Data, depth}
+use Rattle.serde_json.specs.Read.{read, max_depth}
+use Rattle.serde_json.specs.Written.{compact_text, has_float}
 use Rattle.definitions.specs.declared.kinds.Kind.{Kind}
 use Rattle.definitions.specs.History.{History, View, present, list}
 use Rattle.definitions.specs.Lines.{history_of}
@@ -13,6 +13,7 @@ use Rattle.definitions.specs.Verbs.{answered, list_body, list_objects, accept}
 use Rattle.definitions.specs.Versions.{listed_as}
 use Rattle.definitions.proofs.PageLists.{all_after}
 use Rattle.definitions.proofs.SentLists.{lists_read}
+use Rattle.definitions.proofs.SoundData.{Sound, read_back}
 
 as_listed : (size : ℕ) (h : History) (v : View) (moment : List ℕ) → list_outcome size h v newest ≡ accept (list_objects v) h moment
 as_listed size h v moment =
@@ -30,3 +31,8 @@ replies_read lines size k readable =
     let h = history_of lines in
     lists_read lines k (present h) (compact_text (list_reply size h k))
     (record { reached = omega arith; utf8 = readable.utf8; says = readable.reads ∙ ap Some (reply_is size h k) })
+
+-- ---- read back
+
+probe : (size : ℕ) (h : History) (k : Kind) → Sound (list_reply size h k) → has_float (list_reply size h k) ≡ false → depth (list_reply size h k) ≤ max_depth → read (compact_text (list_reply size h k)) ≡ Some (list_reply size h k)
+probe size h k s w n = read_back (list_reply size h k) s w n
