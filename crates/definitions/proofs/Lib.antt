@@ -55,6 +55,7 @@ pub mod ServedWindows
 pub mod ShownWatches
 pub mod SnapshotSteps
 pub mod SoundData
+pub mod SoundMembers
 pub mod StandingWatches
 pub mod Streamed
 pub mod TaskOrder

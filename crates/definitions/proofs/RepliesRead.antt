@@ -9,11 +9,13 @@ use Rattle.definitions.specs.Lines.{history_of}
 use Rattle.definitions.specs.Lists.{list_outcome, told_count, page_body}
 use Rattle.definitions.specs.ReplyLaws.{newest, ListsAreOnePage, list_reply, RepliesAreRead}
 use Rattle.definitions.specs.SentLaws.{whole, listed_at}
+use Rattle.definitions.specs.Values.{merged}
 use Rattle.definitions.specs.Verbs.{answered, list_body, list_objects, accept}
 use Rattle.definitions.specs.Versions.{listed_as}
 use Rattle.definitions.proofs.PageLists.{all_after}
 use Rattle.definitions.proofs.SentLists.{lists_read}
 use Rattle.definitions.proofs.SoundData.{Sound, read_back}
+use Rattle.definitions.proofs.SoundMembers.{sound_merged}
 
 as_listed : (size : ℕ) (h : History) (v : View) (moment : List ℕ) → list_outcome size h v newest ≡ accept (list_objects v) h moment
 as_listed size h v moment =
@@ -36,3 +38,6 @@ replies_read lines size k readable =
 
 probe : (size : ℕ) (h : History) (k : Kind) → Sound (list_reply size h k) → has_float (list_reply size h k) ≡ false → depth (list_reply size h k) ≤ max_depth → read (compact_text (list_reply size h k)) ≡ Some (list_reply size h k)
 probe size h k s w n = read_back (list_reply size h k) s w n
+
+probe_two : (t d : Data) → Sound t → Sound d → Sound (merged t d)
+probe_two t d s w = sound_merged t d s w
