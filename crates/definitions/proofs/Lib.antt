@@ -56,6 +56,8 @@ pub mod ShownWatches
 pub mod SnapshotSteps
 pub mod SoundData
 pub mod SoundMembers
+pub mod SoundRuns
+pub mod SoundVerbs
 pub mod StandingWatches
 pub mod Streamed
 pub mod TaskOrder

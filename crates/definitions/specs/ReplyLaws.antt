@@ -4,7 +4,6 @@ use Rattle.std.specs.List.{AllByRecursion}
 use Rattle.std.specs.Str.{IsUtf8, is_utf8}
 use Rattle.serde_json.specs.Data.{Data, Items, no_items, item}
 use Rattle.serde_json.specs.Find.{get, as_array}
-use Rattle.serde_json.specs.Read.{read}
 use Rattle.serde_json.specs.View.{items_of}
 use Rattle.serde_json.specs.Written.{compact_text}
 use Rattle.definitions.specs.declared.kinds.Kind.{Kind}
@@ -36,16 +35,11 @@ pub record ListsAreOnePage : Type 0 where
 abbrev pub list_reply : ℕ → History → Kind → Data
 list_reply size h k = outcome_body (list_outcome size h (whole k) newest)
 
--- the text of a value is one that a reader takes: it is UTF-8, and reads as the value
-pub record IsReadable (d : Data) : Type 0 where
-  pub utf8 : is_utf8 (compact_text d) ≡ true
-  pub reads : read (compact_text d) ≡ Some d
-
--- whatever lines are read, what a list of a kind is answered is read by a reflector as the present revision and the objects there,
--- and who puts them in place of what it held holds them all
+-- whatever lines are read, what a list of a kind is answered, a text in UTF-8, is read by a reflector as the present revision and the
+-- objects there, and who puts them in place of what it held holds them all
 abbrev pub RepliesAreRead : Type 0
 RepliesAreRead =
-    (lines : List (List ℕ)) (size : ℕ) (k : Kind) → IsReadable (list_reply size (history_of lines) k)
+    (lines : List (List ℕ)) (size : ℕ) (k : Kind) → is_utf8 (compact_text (list_reply size (history_of lines) k)) ≡ true
     → (list_of k (compact_text (list_reply size (history_of lines) k)) ≡ Some (listed_at (history_of lines) k (present (history_of lines))))
     × (put_all [] (objects_in k (list (history_of lines) (whole k) (present (history_of lines)))) ≡ list (history_of lines) (whole k) (present (history_of lines)))
 
