@@ -1,12 +1,12 @@
 -- The pods that are still to be seen deleted.
-use Rattle.std.proofs.Common.{◌≡◌, refl, sym, ap, subst, ◌∙◌, ℕ, ◌-◌, ◌+◌, ◌≤◌, ◌==◌, ◌&&◌, ◌||◌, Bool, true, false, not, cond, List, [], ◌∷◌, Option, Some, None, nat_lt, arith}
-use Rattle.std.proofs.lemmas.Bool.{both_ways, cases_Bool, le-ltb, ne_eqb}
+use Rattle.std.proofs.Common.{◌≡◌, refl, sym, ap, subst, ◌∙◌, ℕ, ◌-◌, ◌≤◌, ◌==◌, ◌&&◌, ◌||◌, Bool, true, false, not, cond, List, [], ◌∷◌, Option, Some, None, nat_lt, arith}
+use Rattle.std.proofs.lemmas.Bool.{le-ltb, ne_eqb}
 use Rattle.std.proofs.lemmas.Map.Text.{is_eq-slice_cmp}
 use mathlib.Core.Bool.{true≢false}
 use Rattle.std.specs.Cmp.{Equal-is, tied_itself}
 use Rattle.std.specs.Ordering.{nat_cmp, eq_by_cmp, is_eq}
 use Rattle.std.specs.Cmp.Lexicographic.{slice_cmp, nat_list_cmp_total}
-use Rattle.std.specs.List.{list_any, list_all}
+use Rattle.std.specs.List.{list_any}
 use Rattle.std.specs.Str.{bytes_eq}
 use Rattle.std.specs.FinMap as map
 use Rattle.std.specs.FinMap.{get-insert, get-retain_keys, get_tied}
@@ -157,7 +157,7 @@ some_left : (uids pods : List (List ℕ)) → are_among pods uids ≡ false → 
 some_left uids pods none =
     let one = one_of uids pods none in
     let there : set.contains (left_of uids pods) one.0 ≡ true =
-        contains-left uids pods one.0 ∙ ap (λ b. not b && is_among uids one.0) one.2 ∙ one.1 in
+    contains-left uids pods one.0 ∙ ap (λ b. not b && is_among uids one.0) one.2 ∙ one.1 in
     ne_eqb (set.len (left_of uids pods)) 0
     (λ z. true≢false (sym there ∙ ap (λ s. set.contains s one.0) (empty_of_len (left_of uids pods) z) ∙ contains-empty (slice_cmp nat_cmp) one.0))
 
@@ -165,7 +165,7 @@ pub waits : WaitsForEach
 waits = record {
   is_over = λ o t uids pods then now all. satisfied_is o t uids pods then now ∙ ap (λ n. (n == 0) || nat_lt 300000 (now - then)) (none_left uids pods all);
   lasts = λ o t uids pods then now none l.
-    satisfied_is o t uids pods then now ∙ ap (λ b. b || nat_lt 300000 (now - then)) (some_left uids pods none) ∙ le-ltb 300000 (now - then) (omega (arith, l));
+      satisfied_is o t uids pods then now ∙ ap (λ b. b || nat_lt 300000 (now - then)) (some_left uids pods none) ∙ le-ltb 300000 (now - then) (omega (arith, l));
 }
 
 -- ---- whatever is called

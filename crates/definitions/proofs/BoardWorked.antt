@@ -1,5 +1,5 @@
 -- The queue, delays and expectations on given keys, computed.
-use Rattle.std.proofs.Common.{zero, suc, ◌≡◌, refl, sym, ap, ◌∙◌, ℕ, ◌+◌, ◌-◌, ◌*◌, ◌^◌, ◌≤◌, min, length, nat_le, List, [], ◌∷◌, Bool, true, false, cond, Option, Some, None, arith, map as list_map}
+use Rattle.std.proofs.Common.{zero, suc, ◌≡◌, refl, sym, ap, ◌∙◌, ℕ, ◌+◌, ◌-◌, ◌≤◌, min, length, nat_le, List, [], ◌∷◌, cond, Some, arith, map as list_map}
 use Rattle.std.proofs.Math.Pow.{pow_mono}
 use Rattle.std.specs.Prelude.{unwrap_or}
 use Rattle.std.specs.Cmp.{tied_itself}
@@ -8,11 +8,10 @@ use Rattle.std.specs.Ordering.{is_eq}
 use Rattle.std.specs.declared.cmp.Ordering.{Ordering}
 use Rattle.std.specs.FinMap as map
 use Rattle.std.specs.FinMap.{find, put, get-entries, get-insert, get-empty, entries-insert, len-entries, len-empty}
-use Rattle.std.specs.FinSet as set
 use Rattle.std.specs.FinSet.{contains-empty, contains-insert, contains-remove}
-use Rattle.definitions.specs.Board.{Task, task_cmp, Alarm, alarm_cmp, alarms, due, Failures, failures, failed, delay_after, Delays, delayed, earlier}
-use Rattle.definitions.specs.BoardExamples.{task_x, task_y, task_d, failing, delay_of, both_delayed, KeysWaitOnce, DelaysDouble, KeysComeDue, CreationsAreAwaited}
-use Rattle.definitions.specs.Expectations.{Owner, Table, Expectation, creations_expected, is_met, satisfied}
+use Rattle.definitions.specs.Board.{Task, task_cmp, Alarm, alarm_cmp, due, failures, delay_after, Delays, delayed, earlier}
+use Rattle.definitions.specs.BoardExamples.{task_x, task_y, task_d, failing, both_delayed, KeysWaitOnce, DelaysDouble, KeysComeDue, CreationsAreAwaited}
+use Rattle.definitions.specs.Expectations.{Owner, Table, creations_expected, is_met, satisfied}
 use Rattle.definitions.proofs.Alarms.{alarm_total}
 use Rattle.definitions.proofs.Expected.{get_put, expecting, after_one, after_both}
 use Rattle.definitions.proofs.TaskOrder.{task_total}

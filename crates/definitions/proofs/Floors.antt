@@ -1,6 +1,6 @@
 -- How far back a window answers, by how many writes are above a revision.
-use Rattle.std.proofs.Common.{zero, suc, ◌≡◌, ◌≤◌, ◌<◌, ℕ, ◌+◌, ◌-◌, List, [], ◌∷◌, length, take, drop, max, Bool, true, false, cond, refl, sym, ap, ◌∙◌, arith, length-drop}
-use Rattle.std.specs.Prelude.{◌↔◌, nat_lt, IsOk}
+use Rattle.std.proofs.Common.{zero, suc, ◌≡◌, ◌≤◌, ℕ, ◌+◌, ◌-◌, List, [], ◌∷◌, length, take, drop, Bool, true, false, cond, refl, ap, arith, length-drop}
+use Rattle.std.specs.Prelude.{nat_lt}
 use Rattle.std.proofs.lemmas.Bool.{ltb-true, ltb-false, lt-ltb}
 use Rattle.definitions.specs.FloorLaws.{NonePassed, IsRemembered, RememberedAreServed}
 use Rattle.definitions.specs.History.{History, write, compaction, View, writes, present}

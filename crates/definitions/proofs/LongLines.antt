@@ -1,11 +1,9 @@
 -- Lines that are as long as a frame may be, and longer.
-use Rattle.std.proofs.Common.{◌≡◌, ◌≤◌, ◌<◌, ◌==◌, ℕ, List, [], ◌∷◌, ◌++◌, length, true, false, refl, arith}
+use Rattle.std.proofs.Common.{◌≡◌, ◌==◌, ℕ, List, [], ◌∷◌, ◌++◌, length, true, false, refl, arith}
 use Rattle.std.proofs.lemmas.Bool.{lt-ltb, le-ltb}
 use Rattle.std.proofs.lemmas.List.Splits.{slice_split_none, slice_split_at}
-use Rattle.definitions.specs.declared.frames.FrameFault.TheVariants.{TooLong}
-use Rattle.definitions.specs.CutExamples.{at_three, holds, ends, has_no_newline, LongLinesEnd}
-use Rattle.definitions.specs.Frames.{cut_at_newlines, has_room, holding, failed, reading, read_lines, longest_frame}
-use Rattle.definitions.specs.Reflectors.{fed, watched}
+use Rattle.definitions.specs.CutExamples.{has_no_newline, LongLinesEnd}
+use Rattle.definitions.specs.Frames.{cut_at_newlines, has_room, longest_frame}
 
 alone : (line : List ℕ) → has_no_newline line → cut_at_newlines line ≡ line ∷ []
 alone line none = slice_split_none (λ b. b == 10) line none

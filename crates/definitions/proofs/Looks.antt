@@ -1,16 +1,15 @@
 -- Looks of a watch, one after another, are one stream.
-use Rattle.std.proofs.Common.{zero, suc, ◌≡◌, ◌≤◌, ◌<◌, ℕ, ◌+◌, ◌-◌, List, [], ◌∷◌, ◌++◌, map, length, take, drop, Bool, true, false, cond, Option, Some, None, refl, sym, ap, ap₂, ◌∙◌, subst, arith, append_assoc, append-nil}
-use Rattle.std.specs.Prelude.{◌↔◌, nat_lt, nat_le, unwrap_or, Ok, IsOk}
+use Rattle.std.proofs.Common.{zero, suc, ◌≡◌, ◌≤◌, ◌<◌, ℕ, ◌+◌, ◌-◌, List, [], ◌∷◌, ◌++◌, map, length, take, Bool, true, false, Some, None, refl, sym, ap, ◌∙◌, subst, arith, append_assoc, append-nil}
+use Rattle.std.specs.Prelude.{nat_lt, nat_le, IsOk}
 use Rattle.std.specs.Result.{result_map_both}
-use Rattle.std.proofs.lemmas.Bool.{ltb-false, leb-true, leb-false, le-leb, le-ltb}
+use Rattle.std.proofs.lemmas.Bool.{ltb-false, le-leb}
 use Rattle.std.proofs.lemmas.List.{drop_all, length-take}
 use Rattle.definitions.specs.declared.frames.FrameKind.TheVariants.{Added}
 use Rattle.definitions.specs.Changes.{Change, changes, changes_after}
-use Rattle.definitions.specs.Frames.{Event}
 use Rattle.definitions.specs.History.{History, View, Members, up_to, present, writes, list}
 use Rattle.definitions.specs.LookLaws.{Look, AreLooks, last_history, last_stand, look_lines, LooksAskForAnyNumber, LooksAreOneStream, WatchesBeginWithTheList}
 use Rattle.definitions.specs.Streams.{Line, change, bookmark, initial, initial_end, event_of, Goes, IsStream, play_lines}
-use Rattle.definitions.specs.Versions.{Watched, last_change, watched, watched_from, lines_from}
+use Rattle.definitions.specs.Versions.{watched, lines_from}
 use Rattle.definitions.specs.WatchLaws.{AreBetween}
 use Rattle.definitions.specs.WatchReplies.{added_lines}
 use Rattle.definitions.specs.Windows.{floor, within}
@@ -86,7 +85,7 @@ looks_stream size h v a (l ∷ ls) is =
     let later = rest.0 in (
       omega (arith, first, later),
       streams_join (last_history l.history ls) v a l.given.stands (last_stand l.given.stands ls) (lines_from a l.given) (look_lines l.given.stands ls) s.0 rest.0
-      (subst (λ z. IsStream z v a l.given.stands (lines_from a l.given)) (sym far.1) here) rest.1,
+          (subst (λ z. IsStream z v a l.given.stands (lines_from a l.given)) (sym far.1) here) rest.1,
     )
 
 pub looks_are_one_stream : LooksAreOneStream
@@ -118,12 +117,12 @@ looks_ask_for_any_number size h v a n = (
     λ p. rw (within_is (floor v.kind size h) (present h) a (take (n + 1) (changes h v a (present h))) p.0 p.1) refl,
   ),
   λ w is.
-    let given = given_stands size h v a n w is in
-    let cs = changes h v a (present h) in (
-      subst (λ z. length z.changes ≤ n) given.2 (no_more n cs),
-      lines_stream h v a w given.3,
-      subst (λ z. length z.changes < n → z.stands ≡ present h) given.2 (few_stand (present h) a n cs),
-    ),
+      let given = given_stands size h v a n w is in
+      let cs = changes h v a (present h) in (
+        subst (λ z. length z.changes ≤ n) given.2 (no_more n cs),
+        lines_stream h v a w given.3,
+        subst (λ z. length z.changes < n → z.stands ≡ present h) given.2 (few_stand (present h) a n cs),
+      ),
 )
 
 -- ---- the list first

@@ -1,28 +1,27 @@
 -- Pages that are asked one after another are one list.
-use Rattle.std.proofs.Common.{zero, suc, ◌≡◌, ◌≤◌, ◌<◌, ℕ, ◌+◌, ◌==◌, nat_le, List, [], ◌∷◌, ◌++◌, map, take, filter, length, Bool, true, false, cond, Option, Some, None, refl, sym, ap, ap₂, ◌∙◌, subst, arith, append_assoc, append-nil, nat_eq, codes, decimal}
-use Rattle.std.specs.Prelude.{nat_lt, Result, Ok, Err}
+use Rattle.std.proofs.Common.{zero, suc, ◌≡◌, ◌≤◌, ℕ, nat_le, List, [], ◌∷◌, ◌++◌, map, take, length, Bool, true, false, cond, Option, Some, None, refl, sym, ap, ap₂, ◌∙◌, subst, arith, append_assoc, append-nil, nat_eq, codes, decimal}
+use Rattle.std.specs.Prelude.{nat_lt, Ok}
 use Rattle.std.proofs.lemmas.Bool.{ltb-false}
-use Rattle.std.specs.List.{AllByRecursion}
 use Rattle.std.specs.Str.{IsUtf8}
-use Rattle.serde_json.specs.Data.{Data, Items, no_items, item}
+use Rattle.serde_json.specs.Data.{Data, Items, item}
 use Rattle.serde_json.specs.View.{items_of}
 use Rattle.definitions.specs.declared.kinds.Kind.{Kind}
 use Rattle.definitions.specs.declared.versions.At.{At}
 use Rattle.definitions.specs.declared.versions.At.TheVariants.{Present, NotOlder, Exact}
 use Rattle.definitions.specs.Collections.{ListOptions, going_on}
 use Rattle.definitions.specs.History.{History, View, Members, present, viewed, list}
-use Rattle.definitions.specs.Lists.{list_answer, list_outcome, page_answer, page_body, told_count, token_after}
+use Rattle.definitions.specs.Lists.{list_answer, page_body, told_count, token_after}
 use Rattle.definitions.specs.Metadata.{metadata_text}
 use Rattle.definitions.specs.Names.{Name}
-use Rattle.definitions.specs.Pages.{Place, Page, place_of, is_after, after_place, last_place, first_of, page_of, ArePages, joined}
-use Rattle.definitions.specs.PageTokens.{Token, token_place, token_text, IsToken}
+use Rattle.definitions.specs.Pages.{Place, Page, place_of, is_after, after_place, last_place, page_of, ArePages, joined}
+use Rattle.definitions.specs.PageTokens.{Token, token_place, token_text}
 use Rattle.definitions.specs.ReadTokens.{token_of}
 use Rattle.definitions.specs.Refusals.{Refusal, bad_request, not_found, no_such_path, method_not_allowed, already_exists, conflict, expired, length_required, too_large, unsupported_media_type, invalid, no_memory, too_new, storage_full, code}
-use Rattle.definitions.specs.ReplyLaws.{Asked, body_of, IsAnswered, continue_in, IsAskedBy, GoOn, items_in, then_items, all_items, revision_at, revision_of, HasTexts, AreAt, PageRepliesAreLists}
+use Rattle.definitions.specs.ReplyLaws.{Asked, body_of, IsAnswered, continue_in, GoOn, items_in, then_items, all_items, revision_at, revision_of, HasTexts, AreAt, PageRepliesAreLists}
 use Rattle.definitions.specs.Revisions.{greatest_revision}
-use Rattle.definitions.specs.Verbs.{Outcome, refused, as_item, outcome_code, outcome_body}
-use Rattle.definitions.specs.Versions.{Listed, listed_as, list_for}
-use Rattle.definitions.specs.Windows.{floor, within}
+use Rattle.definitions.specs.Verbs.{as_item, outcome_code, outcome_body}
+use Rattle.definitions.specs.Versions.{listed_as, list_for}
+use Rattle.definitions.specs.Windows.{floor}
 use Rattle.definitions.proofs.Past.{past}
 use Rattle.definitions.proofs.PageLists.{pages_are_lists, has_next}
 use Rattle.definitions.proofs.TokensRead.{token_is_read}
@@ -174,23 +173,29 @@ module _ (size : ℕ) (v : View) (h : History) (r : ℕ) (reached : r ≤ presen
       let same : list b.history v r ≡ all = ap (λ z. list z v r) further ∙ ap (viewed v) (past h (is.0.0 ++ more.0) r reached) in
       ((is.0.0 ++ more.0, further), ap (list_for size b.history v) exact ∙ here.1 ∙ ap (λ ms. Ok (listed_as r ms)) same)
 
+  last_items : (a : Asked) → IsAt a → items_in (body_of size v a) ≡ items_of (map (λ m. as_item m.1) ((page a).items ++ []))
+  last_items a is = items_are a is ∙ ap (λ ms. items_of (map (λ m. as_item m.1) ms)) (sym (append-nil (page a).items))
+
+  more_items : (a : Asked) (others : Items) (ms : Members) → IsAt a → others ≡ items_of (map (λ m. as_item m.1) ms) → then_items (items_in (body_of size v a)) others ≡ items_of (map (λ m. as_item m.1) ((page a).items ++ ms))
+  more_items a others ms is same = ap₂ then_items (items_are a is) same ∙ sym (items_append (page a).items ms)
+
   follows : (a : Asked) (bs : List Asked) → IsAt a → GoOn size v a bs → Follows a bs
   follows a [] is on =
       let none : (page a).next ≡ None = no_next (page a).next v.kind r (count a) (page a).items (ap continue_in (sym (body a is)) ∙ on.1) in
-      (page a ∷ [], ((a.options.limit, refl), none), items_are a is ∙ ap (λ ms. items_of (map (λ m. as_item m.1) ms)) (sym (append-nil (page a).items)), revision_is a is)
+      (page a ∷ [], ((a.options.limit, refl), none), last_items a is, revision_is a is)
   follows a (b ∷ bs) is on =
       let asked = on.2 in
       let next = a_next (page a).next v.kind r (count a) (page a).items asked.0 (ap continue_in (sym (body a is)) ∙ asked.2) in
       let q = next.0 in
       let text = end_text all a.options.limit a.options.after q texts next.1 in
       let token : token_of asked.0 ≡ Some (token_after r q) =
-          token_is_read asked.0 (token_after r q) (record { written = next.2; revision = low; name = text.1; namespace = text.0 }) in
+      token_is_read asked.0 (token_after r q) (record { written = next.2; revision = low; name = text.1; namespace = text.0 }) in
       let options = by_token asked.1 (token_after r q) asked.0 b.options token asked.3 in
       let after : b.options.after ≡ Some q = ap (λ o. o.after) options in
       let later = follows b bs (next_at a b q asked.1 is on.1 options (answered_first size v b bs on.3)) on.3 in (
         page a ∷ later.0,
         one_more all a.options.limit a.options.after q later.0 next.1 (subst (λ p. ArePages all p later.0) after later.1),
-        ap₂ then_items (items_are a is) later.2 ∙ sym (items_append (page a).items (joined later.0)),
+        more_items a (all_items size v b bs) (joined later.0) is later.2,
         (revision_is a is, later.3),
       )
 

@@ -1,5 +1,5 @@
 -- What a list is answered is the list, and is read as it.
-use Rattle.std.proofs.Common.{◌≡◌, ◌≤◌, ◌||◌, ℕ, List, [], ◌∷◌, map, Bool, true, false, cond, None, Some, codes, is_eq, refl, sym, ap, ◌∙◌, arith}
+use Rattle.std.proofs.Common.{◌≡◌, ℕ, List, [], ◌∷◌, map, Bool, true, false, cond, None, Some, codes, is_eq, refl, ap, ◌∙◌, arith}
 use Rattle.std.specs.List.{AllByRecursion}
 use Rattle.std.specs.Ordering.{nat_cmp}
 use Rattle.std.specs.Cmp.Lexicographic.{slice_cmp}
@@ -14,7 +14,7 @@ use Rattle.definitions.specs.Lines.{history_of}
 use Rattle.definitions.specs.Lists.{list_outcome}
 use Rattle.definitions.specs.Names.{Name}
 use Rattle.definitions.specs.ReplyLaws.{newest, ListsAreOnePage, list_reply, RepliesAreRead}
-use Rattle.definitions.specs.SentLaws.{whole, listed_at}
+use Rattle.definitions.specs.SentLaws.{whole}
 use Rattle.definitions.specs.Values.{members_of, without}
 use Rattle.definitions.specs.Verbs.{answered, as_item, list_body, list_objects, accept}
 use Rattle.definitions.proofs.NoFloatsRead.{first_false, second_false, has_float-is_body}

@@ -1,6 +1,6 @@
 -- What is read, put, taken out, merged and filled in of sound data is sound.
-use Rattle.std.proofs.Common.{zero, suc, ◌≡◌, ◌≤◌, ◌<◌, ◌^◌, ◌+◌, ◌&&◌, ◌==◌, ℕ, ℤ, List, [], ◌∷◌, Bool, true, false, cond, not, Option, Some, None, IfSome, option_map, option_and_then, unwrap_or, Float, Ok, Err, Ordering, Less, Equal, Greater, refl, codes, is_eq, is_some, sym, ap, ◌∙◌, subst, arith, decimal}
-use Rattle.std.specs.Prelude.{Result, nat_lt, nat_le, pos, negsuc}
+use Rattle.std.proofs.Common.{zero, suc, ◌≡◌, ◌≤◌, ◌^◌, ◌&&◌, ℕ, List, Bool, true, false, cond, not, Option, Some, None, IfSome, option_map, option_and_then, unwrap_or, Float, Ok, Err, Ordering, Less, Equal, Greater, refl, codes, is_eq, is_some, arith, decimal}
+use Rattle.std.specs.Prelude.{Result, nat_lt, nat_le, pos}
 use Rattle.std.proofs.Math.IntN.{neg_ℤ}
 use Rattle.std.proofs.lemmas.Bool.{ltb-true, leb-true}
 use Rattle.std.specs.Ordering.{nat_cmp, match_ordering}
@@ -8,21 +8,21 @@ use Rattle.std.specs.Cmp.Lexicographic.{slice_cmp}
 use Rattle.json.specs.Lex.{tokens}
 use Rattle.json.specs.Json as json
 use Rattle.serde_json.specs.Data.{Num, unsigned, negative, float, Data, null, boolean, number, string, array, object, Items, no_items, item, Members, no_members, member, put}
-use Rattle.serde_json.specs.Find.{get, get_member, as_number, as_u64}
-use Rattle.serde_json.specs.Read.{read, of_json, of_items, of_members, number_of, number_from, float_of, is_integer, max_depth}
+use Rattle.serde_json.specs.Find.{get, get_member}
+use Rattle.serde_json.specs.Read.{read, of_json, of_items, of_members, number_of, max_depth}
 use Rattle.definitions.specs.declared.kinds.Kind.{Kind}
 use Rattle.definitions.specs.declared.kinds.Kind.TheVariants.{ConfigMap, Pod, ReplicaSet, Deployment}
 use Rattle.definitions.specs.declared.refusals.Part.{Part}
 use Rattle.definitions.specs.declared.schemas.Shape.{Shape}
 use Rattle.definitions.specs.declared.schemas.Schema.{Schema}
 use Rattle.definitions.specs.Kinds.{api_version, kind_text}
-use Rattle.definitions.specs.Defaults.{with_found, with_changed, rolling_defaults, is_rolling_update, with_rolling, strategy_defaults, replica_set_defaults, deployment_defaults, defaulted, whole}
+use Rattle.definitions.specs.Defaults.{with_found, with_changed, rolling_defaults, is_rolling_update, strategy_defaults, replica_set_defaults, deployment_defaults, defaulted, whole}
 use Rattle.definitions.specs.Metadata.{metadata_of, at_revision, with_metadata}
 use Rattle.definitions.specs.Reading.{reading, is_body, fits, whole_of, is_absent, schema_of, item_of, tidied, tidied_items, tidied_members, empty, with_spec, filled}
 use Rattle.definitions.specs.Schemas.{member_at}
 use Rattle.definitions.specs.Values.{with_member, with_default, members_of, inner_of, without, found_or_null, is_null, merged, merged_members}
 use Rattle.definitions.proofs.JsonOrder.{IsOrdered, IsOrdered-put, IsOrdered-without, IsOrdered-tidied}
-use Rattle.definitions.proofs.SoundData.{FitsInteger, FitsNumber, Sound, ItemsSound, MembersSound}
+use Rattle.definitions.proofs.SoundData.{FitsNumber, Sound, ItemsSound, MembersSound}
 
 -- members of a sound object
 abbrev pub InOrder : Members → Type 0

@@ -1,13 +1,12 @@
 -- Whatever lines are read, what is stored is sound, and so is the list of a kind.
-use Rattle.std.proofs.Common.{zero, suc, ◌-◌, ◌≡◌, ◌≤◌, ◌+◌, ◌==◌, not, ℕ, List, [], ◌∷◌, ◌++◌, length, map, Bool, true, false, cond, Option, Some, None, IfSome, option_and_then, Ordering, Less, Equal, Greater, Ok, Err, refl, sym, subst, ap, codes, take, decimal}
+use Rattle.std.proofs.Common.{zero, suc, ◌-◌, ◌≤◌, ◌==◌, not, ℕ, List, [], ◌∷◌, ◌++◌, length, map, Bool, true, false, cond, Option, Some, None, IfSome, Ordering, Less, Equal, Greater, Ok, Err, refl, sym, subst, codes, take}
 use Rattle.std.specs.Prelude.{Result, nat_lt}
 use Rattle.std.specs.BTreeMap.{insert_entry, is_at}
-use Rattle.std.specs.List.{AllByRecursion, filter}
-use Rattle.std.specs.Map.{remove_entry, lookup}
+use Rattle.std.specs.List.{AllByRecursion}
+use Rattle.std.specs.Map.{remove_entry}
 use Rattle.std.specs.Ordering.{match_ordering}
 use Rattle.std.specs.Str.{is_utf8}
-use Rattle.serde_json.specs.Data as json
-use Rattle.serde_json.specs.Data.{Data, object, string, no_members, member}
+use Rattle.serde_json.specs.Data.{Data}
 use Rattle.serde_json.specs.Read.{read}
 use Rattle.serde_json.specs.View.{items_of}
 use Rattle.definitions.specs.declared.kinds.Kind.{Kind}
@@ -18,7 +17,6 @@ use Rattle.definitions.specs.declared.refusals.Part.TheVariants as part
 use Rattle.definitions.specs.Collections as collections
 use Rattle.definitions.specs.Collections.{Read}
 use Rattle.definitions.specs.DeleteOptions.{Options}
-use Rattle.definitions.specs.History as history
 use Rattle.definitions.specs.History.{History, Write, write, compaction, Members, writes, present, members, up_to, found, put_or_remove, after_all, View, viewed, in_view, list}
 use Rattle.definitions.specs.Lines.{Line, ask, at, compact, unreadable, Session, start, reply_for, history_from, session_after, line_of, next, after_lines, history_of, default_window}
 use Rattle.definitions.specs.Names.{Name, name_cmp}
@@ -26,13 +24,13 @@ use Rattle.definitions.specs.Refusals.{Refusal, bad_request, too_large, method_n
 use Rattle.definitions.specs.RequestQueries.{Query}
 use Rattle.definitions.specs.Targets.{Asked, request, list as lists, watch, Route, collection, object_at, status_of, route, path_of, decoded, query_for, names_namespace, is_allowed, body_or, body_of, asks_with, with_body, delete_options, deletes_with, read_as, selected, asked, asked_with, asked_at, read_request}
 use Rattle.definitions.specs.Values.{members_of, without, data_of}
-use Rattle.definitions.specs.Verbs.{Request, get_object, list_objects, create_object, update_object, update_status, patch_object, delete_object, Outcome, write_of, with_write, accept, as_item, list_body}
+use Rattle.definitions.specs.Verbs.{Request, create_object, update_object, update_status, patch_object, write_of, with_write, accept, as_item, list_body}
 use Rattle.definitions.proofs.Past.{writes-append}
 use Rattle.definitions.proofs.Compacted.{same_writes}
 use Rattle.definitions.proofs.Runs.{kept_asked, kept_watched, by_compaction}
 use Rattle.definitions.proofs.SoundData.{Sound, ItemsSound}
-use Rattle.definitions.proofs.SoundMembers.{InOrder, InOrder-without, in_order, sound_read}
-use Rattle.definitions.proofs.SoundVerbs.{AsksSound, WritesSound, sound_write}
+use Rattle.definitions.proofs.SoundMembers.{InOrder-without, in_order, sound_read}
+use Rattle.definitions.proofs.SoundVerbs.{AsksSound, sound_write}
 
 -- ---- members
 

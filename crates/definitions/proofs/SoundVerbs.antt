@@ -1,9 +1,9 @@
 -- What each verb writes is sound, where what is there and what is asked is.
-use Rattle.std.proofs.Common.{zero, suc, ◌≡◌, ◌≤◌, ◌<◌, ◌^◌, ◌+◌, ◌||◌, ◌&&◌, ◌==◌, not, ℕ, List, [], ◌∷◌, Bool, true, false, cond, Option, Some, None, IfSome, Ok, Err, refl, codes, is_some, length, arith, unwrap_or, option_and_then, nat_le}
+use Rattle.std.proofs.Common.{◌≡◌, ◌<◌, ◌^◌, ◌+◌, ◌||◌, ◌&&◌, ◌==◌, not, ℕ, List, [], ◌∷◌, Bool, true, false, cond, Option, Some, None, IfSome, Ok, Err, refl, codes, is_some, length, arith, unwrap_or, option_and_then, nat_le}
 use Rattle.std.specs.Prelude.{Result, nat_lt}
 use Rattle.std.proofs.lemmas.Bool.{ltb-true}
-use Rattle.serde_json.specs.Data.{Num, unsigned, negative, float, Data, null, boolean, number, string, array, object, Items, no_items, item, Members, no_members, member, put}
-use Rattle.serde_json.specs.Find.{get, get_member, as_number, as_u64, as_array}
+use Rattle.serde_json.specs.Data.{Num, unsigned, negative, float, Data, null, boolean, number, string, array, object, Items, no_items, item, Members, put}
+use Rattle.serde_json.specs.Find.{get, get_member, as_number, as_u64}
 use Rattle.serde_json.specs.Events.{items_len}
 use Rattle.definitions.specs.declared.kinds.Kind.{Kind}
 use Rattle.definitions.specs.declared.kinds.Kind.TheVariants.{ConfigMap, Pod, ReplicaSet, Deployment}
@@ -14,7 +14,6 @@ use Rattle.definitions.specs.declared.refusals.Part.TheVariants as part
 use Rattle.definitions.specs.declared.refusals.Mismatch.TheVariants as mismatch
 use Rattle.definitions.specs.declared.refusals.Field.TheVariants as field
 use Rattle.definitions.specs.declared.refusals.Field.{Field}
-use Rattle.definitions.specs.declared.refusals.Mismatch.{Mismatch}
 use Rattle.definitions.specs.Checks.{finalizers, create_fault, update_fault, is_status_valid}
 use Rattle.definitions.specs.SelectorValues.{items_in}
 use Rattle.definitions.specs.Deletion.{leaves, of_policy, others_then, are_of, is_of_policy, left_by, with_deletion, marked, Fate, remove, mark, keep, fate, decided, kept_code, removal_of}
@@ -29,8 +28,8 @@ use Rattle.definitions.specs.Reading.{reading, is_body}
 use Rattle.definitions.specs.Refusals.{Refusal, bad_request, not_found, already_exists, conflict, invalid, too_large, storage_full}
 use Rattle.definitions.specs.Replacements.{as_held, keeping, kept, kept_of, in_place, said_status, with_said_status, next_generation, generation, is_new_generation, with_next_generation, updated, is_let_go, says_the_same}
 use Rattle.definitions.specs.Values.{members_of, without, merged}
-use Rattle.definitions.specs.Verbs.{is_too_large, is_past_greatest, most_objects, new_name, names_path, removed, Request, get_object, list_objects, create_object, update_object, update_status, patch_object, delete_object, Outcome, answered, refused, write_of, refuse_if, refuse_field, said, with_defaults, or_absent, create_as, create_checked, create_read, put_in_place, let_go, replace_changed, replace_with, if_same, replace, update_read, restate, restate_with, status_read, patch_read, patch, put_mark, by_fate, by_decision, delete, accept_at, stored, shown}
-use Rattle.definitions.proofs.SoundData.{Sound, ItemsSound, MembersSound}
+use Rattle.definitions.specs.Verbs.{is_too_large, is_past_greatest, most_objects, new_name, names_path, removed, Request, get_object, list_objects, create_object, update_object, update_status, patch_object, delete_object, Outcome, refused, write_of, refuse_field, said, with_defaults, or_absent, create_as, create_checked, create_read, put_in_place, let_go, replace_changed, replace_with, if_same, replace, update_read, restate, restate_with, status_read, patch_read, patch, by_fate, by_decision, delete, accept_at, stored, shown}
+use Rattle.definitions.proofs.SoundData.{Sound, ItemsSound}
 use Rattle.definitions.proofs.SoundMembers.{InOrder, InOrder-put, InOrder-without, sound_member, sound_get, in_order, sound_metadata, sound_with_metadata, sound_at, sound_defaulted, sound_reading, SoundIfRead, sound_merged, in_order_either}
 
 -- what is written is sound
@@ -116,7 +115,7 @@ sound_created k r ns name moment o s =
     let a : InOrder meta = InOrder-without (codes "deletionTimestamp") (metadata_of o) (sound_metadata o s) in
     let b : InOrder (with_generation k meta) = in_order_either (has_generation k) (put (codes "generation") (number (unsigned 1)) meta) meta (InOrder-put (codes "generation") (number (unsigned 1)) meta (omega arith) a) a in
     let m : InOrder (new_metadata k r ns name moment (metadata_of o)) =
-        InOrder-put (codes "uid") _ _ tt (InOrder-put (codes "creationTimestamp") _ _ tt (InOrder-put (codes "namespace") _ _ tt (InOrder-put (codes "name") _ _ tt b))) in
+    InOrder-put (codes "uid") _ _ tt (InOrder-put (codes "creationTimestamp") _ _ tt (InOrder-put (codes "namespace") _ _ tt (InOrder-put (codes "name") _ _ tt b))) in
     sound_at r (new_metadata k r ns name moment (metadata_of o)) (object (with_status (first_status k) (members_of o))) m
     (in_order_status (first_status k) (members_of o) (first_sound k) (in_order o s))
 
@@ -254,8 +253,8 @@ sound_marked k moment left held l s =
     let next = with_next_generation (has_generation k) held (metadata_of held) in
     let m = sound_metadata held s in
     let a : InOrder (with_deletion k moment held) =
-        in_order_either (is_being_deleted held) (metadata_of held) (put (codes "deletionTimestamp") (string moment) next) m
-        (InOrder-put (codes "deletionTimestamp") (string moment) next tt (in_order_next (has_generation k) held (metadata_of held) s m)) in
+    in_order_either (is_being_deleted held) (metadata_of held) (put (codes "deletionTimestamp") (string moment) next) m
+    (InOrder-put (codes "deletionTimestamp") (string moment) next tt (in_order_next (has_generation k) held (metadata_of held) s m)) in
     sound_with_metadata (put (codes "finalizers") (array left) (with_deletion k moment held)) held (InOrder-put (codes "finalizers") (array left) (with_deletion k moment held) l a) s
 
 by_fated : (k : Name) (code : ℕ) (held : Data) (r : ℕ) (none known : Bool) (d : Data) → Sound d → WritesSound (by_fate k code held r (cond none remove (cond known keep (mark d))))

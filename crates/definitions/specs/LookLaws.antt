@@ -1,7 +1,6 @@
 -- What follows for a watch that looks again and again, and for one that begins with what is there.
 use Rattle.std.specs.Prelude.{◌≡◌, ◌≤◌, ◌<◌, ◌↔◌, ℕ, Bool, List, [], ◌∷◌, ◌++◌, length, map, Option, unwrap_or, Ok, IsOk}
 use Rattle.definitions.specs.declared.frames.FrameKind.TheVariants.{Added}
-use Rattle.definitions.specs.Frames.{Event}
 use Rattle.definitions.specs.History.{History, View, present, list}
 use Rattle.definitions.specs.Collections.{watch_from}
 use Rattle.definitions.specs.Streams.{Line, event_of, IsStream, play_lines}
@@ -52,7 +51,7 @@ LooksAskForAnyNumber =
     (size : ℕ) (h : History) (v : View) (a n : ℕ)
     → (IsOk (watched_from size h v a n) ↔ ((floor v.kind size h ≤ a) × (a ≤ present h)))
     × ((w : Watched) → watched_from size h v a n ≡ Ok w
-      → (length w.changes ≤ n) × IsStream h v a w.stands (lines_from a w) × (length w.changes < n → w.stands ≡ present h))
+    → (length w.changes ≤ n) × IsStream h v a w.stands (lines_from a w) × (length w.changes < n → w.stands ≡ present h))
 
 -- a watch from no revision, or from 0, is shown the list as it is at present: each of its objects in order as added, and these alone
 abbrev pub WatchesBeginWithTheList : Type 0

@@ -4,4 +4,4 @@ use Rattle.definitions.proofs.cut_examples.bookmarks_are_reached.Goals as goal
 
 pub returns : goal.returns
 unfolding on_literals
-returns c = record { equal = refl; later = refl; lower = refl; other_kind = refl; no_revision = refl; }
+returns c = record { equal = refl; later = refl; lower = refl; other_kind = refl; no_revision = refl }
