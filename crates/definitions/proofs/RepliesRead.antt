@@ -1,5 +1,5 @@
 -- What a list is answered is the list, and is read as it.
-use Rattle.std.proofs.Common.{◌≡◌, ℕ, List, [], ◌∷◌, map, Bool, true, false, cond, None, Some, codes, is_eq, refl, ap, ◌∙◌, arith}
+use Rattle.std.proofs.Common.{◌≡◌, ℕ, List, [], ◌∷◌, map, Bool, true, false, cond, Option, IfSome, ◌+◌, None, Some, codes, is_eq, refl, ap, ◌∙◌, arith}
 use Rattle.std.specs.List.{AllByRecursion}
 use Rattle.std.specs.Ordering.{nat_cmp}
 use Rattle.std.specs.Cmp.Lexicographic.{slice_cmp}
@@ -9,21 +9,22 @@ use Rattle.serde_json.specs.View.{items_of}
 use Rattle.serde_json.specs.Written.{compact_text, has_float, items_have_float, members_have_float}
 use Rattle.definitions.specs.declared.kinds.Kind.{Kind}
 use Rattle.definitions.specs.History as history
-use Rattle.definitions.specs.History.{History, View, present, list}
+use Rattle.definitions.specs.History.{History, Write, View, writes, present, list}
 use Rattle.definitions.specs.Lines.{history_of}
 use Rattle.definitions.specs.Lists.{list_outcome}
 use Rattle.definitions.specs.Names.{Name}
-use Rattle.definitions.specs.ReplyLaws.{newest, ListsAreOnePage, list_reply, RepliesAreRead}
-use Rattle.definitions.specs.SentLaws.{whole}
+use Rattle.definitions.specs.ReplyLaws.{newest, ListsAreOnePage, list_reply, RepliesAreRead, ObjectsAreReadBack}
+use Rattle.definitions.specs.SentLaws.{IsKept, AreKept, whole}
 use Rattle.definitions.specs.Values.{members_of, without}
 use Rattle.definitions.specs.Verbs.{answered, as_item, list_body, list_objects, accept}
 use Rattle.definitions.proofs.NoFloatsRead.{first_false, second_false, has_float-is_body}
 use Rattle.definitions.proofs.PageLists.{all_after}
-use Rattle.definitions.proofs.SentChanges.{read_body}
+use Rattle.definitions.proofs.SentChanges.{read_body, nests}
 use Rattle.definitions.proofs.SentLists.{all_listed, lists_nest, lists_read}
 use Rattle.definitions.proofs.SentObjects.{IsHeld}
-use Rattle.definitions.proofs.SoundData.{read_back}
-use Rattle.definitions.proofs.SoundRuns.{list_sound}
+use Rattle.definitions.proofs.SentRuns.{runs_keep}
+use Rattle.definitions.proofs.SoundData.{Sound, read_back}
+use Rattle.definitions.proofs.SoundRuns.{PutSound, runs_sound, list_sound}
 
 as_listed : (size : ℕ) (h : History) (v : View) (moment : List ℕ) → list_outcome size h v newest ≡ accept (list_objects v) h moment
 as_listed size h v moment =
@@ -79,3 +80,22 @@ replies_read lines size k utf8 =
     let d = list_body k (present h) (list h (whole k) (present h)) in
     let text : read (compact_text (list_reply size h k)) ≡ Some d = ap (λ z. read (compact_text z)) (reply_is size h k) ∙ reads_back lines k (present h) in
     lists_read lines k (present h) (compact_text (list_reply size h k)) (record { reached = omega arith; utf8 = utf8; says = text })
+
+-- ---- objects are read back
+
+object_back : (k : Name) (r : ℕ) (d : Data) → IsKept k r d → Sound d → read (compact_text d) ≡ Some d
+object_back k r d kept sound =
+    let body = read_body k.kind d d kept.reads in
+    let low = nests d body in
+    read_back d sound (has_float-is_body d body) (omega (arith, low))
+
+some_back : (k : Name) (r : ℕ) (o : Option Data) → IfSome o (IsKept k r) → IfSome o Sound → IfSome o (λ d. read (compact_text d) ≡ Some d)
+some_back k r None kept sound = tt
+some_back k r (Some d) kept sound = object_back k r d kept sound
+
+all_back : (r : ℕ) (ws : List Write) → AreKept r ws → PutSound ws → AllByRecursion (λ w. IfSome w.put (λ d. read (compact_text d) ≡ Some d)) ws
+all_back r [] kept sound = tt
+all_back r (w ∷ ws) kept sound = (some_back w.key r w.put kept.0 sound.0, all_back (r + 1) ws kept.1 sound.1)
+
+pub objects_back : ObjectsAreReadBack
+objects_back lines = all_back 2 (writes (history_of lines)) (runs_keep lines) (runs_sound lines)

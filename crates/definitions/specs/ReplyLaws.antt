@@ -1,16 +1,17 @@
 -- What lists and their pages are answered, and what a reader makes of it.
-use Rattle.std.specs.Prelude.{◌≡◌, ◌≤◌, ℕ, List, [], ◌∷◌, ◌++◌, map, true, Option, Some, None, option_and_then, unwrap_or, Ok, decimal, codes}
+use Rattle.std.specs.Prelude.{◌≡◌, ◌≤◌, ℕ, List, [], ◌∷◌, ◌++◌, map, true, Option, Some, None, option_and_then, unwrap_or, IfSome, Ok, decimal, codes}
 use Rattle.std.specs.List.{AllByRecursion}
 use Rattle.std.specs.Str.{IsUtf8, is_utf8}
 use Rattle.serde_json.specs.Data.{Data, Items, no_items, item}
 use Rattle.serde_json.specs.Find.{get, as_array}
+use Rattle.serde_json.specs.Read.{read}
 use Rattle.serde_json.specs.View.{items_of}
 use Rattle.serde_json.specs.Written.{compact_text}
 use Rattle.definitions.specs.declared.kinds.Kind.{Kind}
 use Rattle.definitions.specs.declared.versions.At.{At}
 use Rattle.definitions.specs.declared.versions.At.TheVariants.{Present, NotOlder, Exact}
 use Rattle.definitions.specs.Collections.{ListOptions, going_on}
-use Rattle.definitions.specs.History.{History, View, Members, present, list}
+use Rattle.definitions.specs.History.{History, View, Members, writes, present, list}
 use Rattle.definitions.specs.Lines.{history_of}
 use Rattle.definitions.specs.Lists.{list_outcome, page_body}
 use Rattle.definitions.specs.Metadata.{metadata_text}
@@ -42,6 +43,10 @@ RepliesAreRead =
     (lines : List (List ℕ)) (size : ℕ) (k : Kind) → is_utf8 (compact_text (list_reply size (history_of lines) k)) ≡ true
     → (list_of k (compact_text (list_reply size (history_of lines) k)) ≡ Some (listed_at (history_of lines) k (present (history_of lines))))
     × (put_all [] (objects_in k (list (history_of lines) (whole k) (present (history_of lines)))) ≡ list (history_of lines) (whole k) (present (history_of lines)))
+
+-- whatever lines are read, the text of each object that was ever stored reads as the object
+abbrev pub ObjectsAreReadBack : Type 0
+ObjectsAreReadBack = (lines : List (List ℕ)) → AllByRecursion (λ w. IfSome w.put (λ d. read (compact_text d) ≡ Some d)) (writes (history_of lines))
 
 -- ---- pages
 
