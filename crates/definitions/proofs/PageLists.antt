@@ -83,7 +83,7 @@ no_next ms n p false false h l e =
 abbrev Next : Members → ℕ → Option Place → Place → Type 0
 Next ms n p q = ((page_of ms n p).items ≡ take n (after_place p ms)) × (last_place (take n (after_place p ms)) ≡ Some q)
 
-has_next : (ms : Members) (n : ℕ) (p : Option Place) (q : Place) (b c : Bool) → nat_eq n 0 ≡ b → nat_le (length (after_place p ms)) n ≡ c → (page_of ms n p).next ≡ Some q → Next ms n p q
+pub has_next : (ms : Members) (n : ℕ) (p : Option Place) (q : Place) (b c : Bool) → nat_eq n 0 ≡ b → nat_le (length (after_place p ms)) n ≡ c → (page_of ms n p).next ≡ Some q → Next ms n p q
 has_next ms n p q true c h l e = let is : (page_of ms n p).next ≡ None = rw h refl in absurd (no_some q (sym is ∙ e))
 has_next ms n p q false true h l e = let is : (page_of ms n p).next ≡ None = rw (h, l) refl in absurd (no_some q (sym is ∙ e))
 has_next ms n p q false false h l e =

@@ -1,6 +1,9 @@
+pub mod BoardExamples
 pub mod CheckExamples
 pub mod CollectionExamples
+pub mod CutExamples
 pub mod DeletionExamples
+pub mod LookExamples
 pub mod PageExamples
 pub mod ReflectorExamples
 pub mod RequestExamples

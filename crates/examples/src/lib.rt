@@ -2,9 +2,12 @@
 //! No crate stands on this one.
 #![tactic(auto)]
 
+pub mod board_examples;
 pub mod check_examples;
 pub mod collection_examples;
+pub mod cut_examples;
 pub mod deletion_examples;
+pub mod look_examples;
 pub mod page_examples;
 pub mod reflector_examples;
 pub mod request_examples;

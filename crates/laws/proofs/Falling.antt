@@ -14,7 +14,7 @@ use Rattle.definitions.specs.Expectations.{Owner, owner_cmp, Expectation, Table,
 use Rattle.laws.specs.ExpectationLaws.{Change, expect_creations, expect_deletions, see_created, see_deleted, forget, after, after_all, sets, sets_none, creations_of, creations_left}
 use Rattle.definitions.proofs.Expected.{owner_total, owner_tells, keys_tied}
 
-tied : (o p : Owner) → is_eq (owner_cmp o p) ≡ true → owner_cmp o p ≡ Equal
+pub tied : (o p : Owner) → is_eq (owner_cmp o p) ≡ true → owner_cmp o p ≡ Equal
 tied o p e = (Equal-is (owner_cmp o p)).0 e
 
 -- to put what stands there changes nothing
@@ -65,7 +65,7 @@ alike x y is = subst (λ z. Fewer z y) (sym is) (as_before y)
 put_elsewhere : (t : Table) (o p : Owner) (e : Expectation) → is_eq (owner_cmp o p) ≡ false → Fewer (map.get (map.insert t p e) o) (map.get t o)
 put_elsewhere t o p e h = alike _ _ (get-insert owner_total t p e o ∙ ap (λ b. cond b (Some e) (map.get t o)) h)
 
-fewer_deletions : (s : Uids) (u : List ℕ) → set.len (set.remove s u) ≤ set.len s
+pub fewer_deletions : (s : Uids) (u : List ℕ) → set.len (set.remove s u) ≤ set.len s
 fewer_deletions s u = let is = len-remove nat_list_cmp_total s u in by (set.contains s u) _ _ is
   where
     by : (b : Bool) (m n : ℕ) → m ≡ cond b (n - 1) n → m ≤ n

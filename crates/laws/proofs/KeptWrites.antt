@@ -34,7 +34,7 @@ none_above r a (k ∷ ks) s l =
     let least = rising_least k.revision ks s.1 in
     rw (le-ltb a k.revision (omega (arith, least, l))) (none_above k.revision a ks s.1 l)
 
-above_dropped : (n a : ℕ) (ks : List Kept) → IsRising 1 ks → last_revision 1 (take n ks) ≤ a → above a (drop n ks) ≡ above a ks
+pub above_dropped : (n a : ℕ) (ks : List Kept) → IsRising 1 ks → last_revision 1 (take n ks) ≤ a → above a (drop n ks) ≡ above a ks
 above_dropped n a ks s l =
     sym (ap (above a) (sym (take-append-drop n ks)) ∙ filter-append (λ k. nat_lt a k.revision) (take n ks) (drop n ks)
     ∙ ap (λ z. z ++ above a (drop n ks)) (none_above 1 a (take n ks) (rising_take n 1 ks s) l))

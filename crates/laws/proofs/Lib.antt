@@ -1,4 +1,5 @@
 pub mod Asked
+pub mod Awaited
 pub mod BoardRuns
 pub mod Cases
 pub mod CheckLaws
@@ -9,6 +10,7 @@ pub mod EachWrite
 pub mod Falling
 pub mod FinalizerSets
 pub mod FirstChanges
+pub mod Floors
 pub mod FollowedWindows
 pub mod FutureUids
 pub mod Generations
@@ -22,11 +24,14 @@ pub mod KnownOwners
 pub mod LeftFinalizers
 pub mod Limited
 pub mod Limits
+pub mod Looks
 pub mod MarkedObjects
 pub mod NamedVersions
 pub mod NeatMembers
 pub mod NestedOrder
 pub mod NoFloatsRead
+pub mod OnePage
+pub mod PageReplies
 pub mod Parsed
 pub mod ParsedEdits
 pub mod ParsedVerbs

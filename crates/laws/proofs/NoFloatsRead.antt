@@ -16,11 +16,11 @@ use Rattle.definitions.specs.Schemas.{member_at}
 use Rattle.definitions.specs.Values.{with_member, with_default}
 use Rattle.definitions.specs.Reading.{tidied, tidied_items, tidied_members, is_absent, item_of, schema_of, filled, with_spec, is_body, empty}
 
-first_false : (a b : Bool) → (a || b) ≡ false → a ≡ false
+pub first_false : (a b : Bool) → (a || b) ≡ false → a ≡ false
 first_false true b h = h
 first_false false b h = refl
 
-second_false : (a b : Bool) → (a || b) ≡ false → b ≡ false
+pub second_false : (a b : Bool) → (a || b) ≡ false → b ≡ false
 second_false true b h = cc
 second_false false b h = h
 

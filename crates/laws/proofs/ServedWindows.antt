@@ -50,7 +50,7 @@ served_at false true floor now r x l m ok = let none = rw (l, m) at ok in cc
 served_at false false floor now r x l m ok = (ltb-false r floor l, ltb-false now r m)
 
 -- what is served from the floor up to the present
-within_is : {X : Type 0} (floor now r : ℕ) (x : X) → floor ≤ r → r ≤ now → within floor now r x ≡ Ok x
+pub within_is : {X : Type 0} (floor now r : ℕ) (x : X) → floor ≤ r → r ≤ now → within floor now r x ≡ Ok x
 within_is floor now r x l m = rw (le-ltb r floor l, le-ltb now r m) refl
 
 within_served : {X : Type 0} (floor now r : ℕ) (x : X) → IsOk (within floor now r x) ↔ ((floor ≤ r) × (r ≤ now))

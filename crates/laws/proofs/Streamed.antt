@@ -38,7 +38,7 @@ put_last (f ∷ es) e more a =
     let above : name_cmp e.0 f.0 ≡ Greater = name_cmp_total.antisymm e.0 f.0 ∙ ap ordering_reverse (in_middle f.0 es e more a.0) in
     rw above (ap (λ z. f ∷ z) (put_last es e more a.1))
 
-all_put : (ms es : Members) (ls : List Line) → IsAscending name_cmp (es ++ ms) → play_lines es (map (λ m. initial m.0 m.1) ms ++ ls) ≡ play_lines (es ++ ms) ls
+pub all_put : (ms es : Members) (ls : List Line) → IsAscending name_cmp (es ++ ms) → play_lines es (map (λ m. initial m.0 m.1) ms ++ ls) ≡ play_lines (es ++ ms) ls
 all_put [] es ls a = ap (λ z. play_lines z ls) (sym (append-nil es))
 all_put (e ∷ ms) es ls a =
     ap (λ z. play_lines z (map (λ m. initial m.0 m.1) ms ++ ls)) (put_last es e ms a) ∙ all_put ms (es ++ e ∷ []) ls (subst (IsAscending name_cmp) (sym (append_assoc es (e ∷ []) ms)) a)

@@ -1,19 +1,23 @@
 //! What follows from the definitions, whatever code meets them: each function is a law, and its contract is proved.
 #![tactic(auto)]
 
+pub mod awaited_laws;
 pub mod board_laws;
 pub mod check_laws;
 pub mod due_laws;
 pub mod expectation_laws;
 pub mod finalizer_laws;
+pub mod floor_laws;
 pub mod grammar_laws;
 pub mod history_laws;
 pub mod identity_laws;
 pub mod lifecycle_laws;
+pub mod look_laws;
 pub mod page_laws;
 pub mod parsed_laws;
 pub mod reached_laws;
 pub mod replacement_laws;
+pub mod reply_laws;
 pub mod selector_laws;
 pub mod sent_laws;
 pub mod server_laws;

@@ -1,10 +1,8 @@
 -- What a list is answered: a page of it, and what it says of itself (Kubernetes API Concepts, Collections; Retrieving large results sets in chunks).
-use Rattle.std.specs.Prelude.{ℕ, List, [], ◌∷◌, ◌++◌, Bool, true, false, not, ◌&&◌, map, Option, Some, None, Result, Ok, Err, codes, decimal, if◌then◌else◌}
+use Rattle.std.specs.Prelude.{ℕ, List, [], ◌∷◌, Bool, true, false, not, ◌&&◌, Option, Some, None, Result, Ok, Err, codes, decimal, if◌then◌else◌}
 use Rattle.serde_json.specs.Data as json
-use Rattle.serde_json.specs.Data.{Data, string, number, unsigned, array, object, no_members, member}
-use Rattle.serde_json.specs.View.{items_of}
+use Rattle.serde_json.specs.Data.{Data, string, number, unsigned, no_members, member}
 use Rattle.definitions.specs.declared.kinds.Kind.{Kind}
-use Rattle.definitions.specs.Texts.Kinds.{api_version, kind_text}
 use Rattle.definitions.specs.State.History.{History, View}
 use Rattle.definitions.specs.Requests.Collections.{ListOptions}
 use Rattle.definitions.specs.State.Pages.{Place, Page, page_of, remaining}
@@ -12,7 +10,7 @@ use Rattle.definitions.specs.Requests.PageTokens.{Token, token_text}
 use Rattle.definitions.specs.Answers.Refusals.{Refusal}
 use Rattle.definitions.specs.Answers.Servers as servers
 use Rattle.definitions.specs.Answers.Servers.{Server}
-use Rattle.definitions.specs.Answers.Verbs.{Outcome, answered, refused, as_item}
+use Rattle.definitions.specs.Answers.Verbs.{Outcome, answered, refused, list_with}
 use Rattle.definitions.specs.Answers.Versions.{Listed, list_for}
 
 -- the token that asks for what comes after a place, in the list at revision r
@@ -34,11 +32,7 @@ page_metadata r count (Some p) = member (codes "continue") (string (token_text (
 
 -- a page at revision r (Kubernetes API Concepts, Collections)
 abbrev pub page_body : Kind → ℕ → Option ℕ → Page → Data
-page_body k r count page =
-    object
-    (member (codes "apiVersion") (string (api_version k))
-    (member (codes "items") (array (items_of (map (λ m. as_item m.1) page.items)))
-    (member (codes "kind") (string (kind_text k ++ codes "List")) (member (codes "metadata") (object (page_metadata r count page.next)) no_members))))
+page_body k r count page = list_with k (page_metadata r count page.next) page.items
 
 abbrev is_empty : {X : Type 0} → List X → Bool
 is_empty [] = true

@@ -1,6 +1,6 @@
 -- What each request is answered, and what it writes, by cases over what is there at the present revision.
 use Rattle.std.specs.Prelude.{ℕ, ◌+◌, List, [], ◌∷◌, ◌++◌, Bool, not, ◌||◌, length, map, Option, Some, None, Result, Ok, Err, codes, decimal, nat_le, nat_lt, is_some, ◌&&◌, if◌then◌else◌}
-use Rattle.serde_json.specs.Data.{Data, string, array, object, no_members, member}
+use Rattle.serde_json.specs.Data.{Data, string, array, object, Members, no_members, member}
 use Rattle.serde_json.specs.View.{items_of}
 use Rattle.serde_json.specs.Written.{compact_text}
 use Rattle.definitions.specs.declared.kinds.Kind.{Kind}
@@ -128,13 +128,17 @@ shown d = answered (record { code = 200; body = d; write = None })
 abbrev pub as_item : Data → Data
 as_item d = object (without (codes "kind") (without (codes "apiVersion") (members_of d)))
 
--- a list at a revision (Kubernetes API Concepts, Collections)
-abbrev pub list_body : Kind → ℕ → history.Members → Data
-list_body k r ms =
+-- a list, with what it says of itself (Kubernetes API Concepts, Collections)
+abbrev pub list_with : Kind → Members → history.Members → Data
+list_with k metadata ms =
     object
     (member (codes "apiVersion") (string (api_version k))
     (member (codes "items") (array (items_of (map (λ m. as_item m.1) ms)))
-    (member (codes "kind") (string (kind_text k ++ codes "List")) (member (codes "metadata") (object (member (codes "resourceVersion") (string (decimal r)) no_members)) no_members))))
+    (member (codes "kind") (string (kind_text k ++ codes "List")) (member (codes "metadata") (object metadata) no_members))))
+
+-- a list at a revision
+abbrev pub list_body : Kind → ℕ → history.Members → Data
+list_body k r ms = list_with k (member (codes "resourceVersion") (string (decimal r)) no_members) ms
 
 abbrev pub listed : View → history.Members → ℕ → Outcome
 listed v ms r = answered (record { code = 200; body = list_body v.kind r (viewed v ms); write = None })

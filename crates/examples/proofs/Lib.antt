@@ -1,0 +1,2 @@
+pub mod BoardWorked
+pub mod LongLines

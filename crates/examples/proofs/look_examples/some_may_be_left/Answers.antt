@@ -1,0 +1,7 @@
+use Rattle.std.proofs.Common.{refl}
+use Rattle.definitions.proofs.OnLiterals.{on_literals}
+use Rattle.examples.proofs.look_examples.some_may_be_left.Goals as goal
+
+pub returns : goal.returns
+unfolding on_literals
+returns c = (refl, refl, refl, refl)

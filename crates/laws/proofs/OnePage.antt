@@ -1,0 +1,14 @@
+-- A list without options is one page.
+use Rattle.std.proofs.Common.{◌≡◌, ℕ, List, None, refl, ap}
+use Rattle.definitions.specs.History.{History, View, present, list}
+use Rattle.definitions.specs.Lists.{list_outcome}
+use Rattle.definitions.specs.Verbs.{answered, list_body, list_objects, accept}
+use Rattle.definitions.proofs.PageLists.{all_after}
+use Rattle.laws.specs.ReplyLaws.{newest, ListsAreOnePage}
+
+as_listed : (size : ℕ) (h : History) (v : View) (moment : List ℕ) → list_outcome size h v newest ≡ accept (list_objects v) h moment
+as_listed size h v moment =
+    ap (λ ms. answered (record { code = 200; body = list_body v.kind (present h) ms; write = None })) (all_after (list h v (present h)))
+
+pub one_page : ListsAreOnePage
+one_page = record { body = λ k r count ms. refl; outcome = as_listed }

@@ -1,0 +1,5 @@
+use Rattle.laws.proofs.Awaited.{strangers}
+use Rattle.laws.proofs.awaited_laws.strangers_change_nothing.Goals as goal
+
+pub returns : goal.returns
+returns c = strangers

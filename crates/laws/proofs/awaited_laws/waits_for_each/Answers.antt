@@ -1,0 +1,5 @@
+use Rattle.laws.proofs.Awaited.{waits}
+use Rattle.laws.proofs.awaited_laws.waits_for_each.Goals as goal
+
+pub returns : goal.returns
+returns c = waits

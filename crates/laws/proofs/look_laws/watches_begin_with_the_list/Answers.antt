@@ -1,0 +1,5 @@
+use Rattle.laws.proofs.Looks.{list_comes_first}
+use Rattle.laws.proofs.look_laws.watches_begin_with_the_list.Goals as goal
+
+pub returns : goal.returns
+returns c = list_comes_first

@@ -1,0 +1,100 @@
+-- What lists and their pages are answered, and what a reader makes of it.
+use Rattle.std.specs.Prelude.{◌≡◌, ◌≤◌, ℕ, List, [], ◌∷◌, ◌++◌, map, Option, Some, None, option_and_then, unwrap_or, Ok, decimal, codes}
+use Rattle.std.specs.List.{AllByRecursion}
+use Rattle.std.specs.Str.{IsUtf8}
+use Rattle.serde_json.specs.Data.{Data, Items, no_items, item}
+use Rattle.serde_json.specs.Find.{get, as_array}
+use Rattle.serde_json.specs.View.{items_of}
+use Rattle.definitions.specs.declared.kinds.Kind.{Kind}
+use Rattle.definitions.specs.declared.versions.At.{At}
+use Rattle.definitions.specs.declared.versions.At.TheVariants.{Present, NotOlder, Exact}
+use Rattle.definitions.specs.Collections.{ListOptions, going_on}
+use Rattle.definitions.specs.History.{History, View, Members, present, list}
+use Rattle.definitions.specs.Lists.{list_outcome, page_body}
+use Rattle.definitions.specs.Metadata.{metadata_text}
+use Rattle.definitions.specs.ReadTokens.{token_of}
+use Rattle.definitions.specs.Revisions.{greatest_revision}
+use Rattle.definitions.specs.Verbs.{as_item, list_body, list_objects, accept, outcome_code, outcome_body}
+
+-- ---- one list
+
+-- a list without limit, at the present revision
+abbrev pub newest : ListOptions
+newest = record { at = Present; limit = 0; after = None }
+
+-- a page of all there is, however many follow, is the list; and a list without options is what the verb answers
+pub record ListsAreOnePage : Type 0 where
+  pub body : (k : Kind) (r : ℕ) (count : Option ℕ) (ms : Members) → page_body k r count (record { items = ms; next = None }) ≡ list_body k r ms
+  pub outcome : (size : ℕ) (h : History) (v : View) (moment : List ℕ) → list_outcome size h v newest ≡ accept (list_objects v) h moment
+
+-- ---- pages
+
+-- a list that was asked: what had happened by then, and what was asked
+pub record Asked : Type 0 where
+  pub history : History
+  pub options : ListOptions
+
+-- its reply
+abbrev pub body_of : ℕ → View → Asked → Data
+body_of size v a = outcome_body (list_outcome size a.history v a.options)
+
+abbrev pub IsAnswered : ℕ → View → Asked → Type 0
+IsAnswered size v a = outcome_code (list_outcome size a.history v a.options) ≡ 200
+
+-- the text by which a reply says how to go on, if it does
+abbrev pub continue_in : Data → Option (List ℕ)
+continue_in body = metadata_text (codes "continue") body
+
+-- it is asked by that text, with a limit
+abbrev pub IsAskedBy : Data → ListOptions → Type 0
+IsAskedBy body o = (text : List ℕ) × (limit : ℕ) × (continue_in body ≡ Some text) × (going_on limit (token_of text) ≡ Ok o)
+
+-- all are answered, each but the first is asked by what the reply before it says, when that much and maybe more has happened; the last
+-- reply says nothing of how to go on
+abbrev pub GoOn : ℕ → View → Asked → List Asked → Type 0
+GoOn size v a [] = IsAnswered size v a × (continue_in (body_of size v a) ≡ None)
+GoOn size v a (b ∷ bs) =
+    IsAnswered size v a × ((more : History) × (b.history ≡ a.history ++ more)) × IsAskedBy (body_of size v a) b.options × GoOn size v b bs
+
+-- the items of a reply
+abbrev pub items_in : Data → Items
+items_in body = unwrap_or (option_and_then as_array (get (codes "items") body)) no_items
+
+-- items, and then others
+abbrev pub then_items : Items → Items → Items
+then_items no_items others = others
+then_items (item d ds) others = item d (then_items ds others)
+
+-- the items of all replies, one after another
+abbrev pub all_items : ℕ → View → Asked → List Asked → Items
+all_items size v a [] = items_in (body_of size v a)
+all_items size v a (b ∷ bs) = then_items (items_in (body_of size v a)) (all_items size v b bs)
+
+-- the revision of the first page's list
+abbrev pub revision_at : History → At → ℕ
+revision_at h Present = present h
+revision_at h (NotOlder r) = present h
+revision_at h (Exact r) = r
+
+abbrev pub revision_of : Asked → ℕ
+revision_of a = revision_at a.history a.options.at
+
+-- names of which a token can be made
+abbrev pub HasTexts : Members → Type 0
+HasTexts ms = AllByRecursion (λ m. IsUtf8 m.0.namespace × IsUtf8 m.0.name) ms
+
+-- each reply says that it is at the revision of the first
+abbrev pub AreAt : ℕ → View → ℕ → Asked → List Asked → Type 0
+AreAt size v r a [] = metadata_text (codes "resourceVersion") (body_of size v a) ≡ Some (decimal r)
+AreAt size v r a (b ∷ bs) = (metadata_text (codes "resourceVersion") (body_of size v a) ≡ Some (decimal r)) × AreAt size v r b bs
+
+-- pages that are asked one after another, with whatever limits and whatever happens between them, joined, are the list at the revision
+-- of the first one, and each says that revision
+abbrev pub PageRepliesAreLists : Type 0
+PageRepliesAreLists =
+    (size : ℕ) (v : View) (a : Asked) (bs : List Asked)
+    → a.options.after ≡ None
+    → revision_of a ≤ greatest_revision
+    → HasTexts (list a.history v (revision_of a))
+    → GoOn size v a bs
+    → (all_items size v a bs ≡ items_of (map (λ m. as_item m.1) (list a.history v (revision_of a)))) × AreAt size v (revision_of a) a bs

@@ -1,0 +1,13 @@
+//! Laws of what lists and their pages are answered.
+ghost use Rattle.laws.specs.ReplyLaws.{ListsAreOnePage, PageRepliesAreLists};
+
+/// A list that is asked without options is answered as the one page of all there is.
+pub fn lists_are_one_page()
+    ensures { ListsAreOnePage }
+{}
+
+/// Who asks for page after page, each by what the reply before says, sees the list as it was at the first page: each object
+/// once, in order, whatever the limits are and whatever is written meanwhile.
+pub fn page_replies_are_lists()
+    ensures { PageRepliesAreLists }
+{}
