@@ -1,4 +1,4 @@
-//! What a controller's author may rely on, whatever is called.
+//! What a controller's author may rely on, whatever calls are made of a work queue, in whatever order.
 ghost use Rattle.laws.specs.BoardLaws.{QueuesOnce, HandsApart, NothingIsLost, QueuedIsDirty, AddedIsServed, ShutAddsNothing};
 
 /// A key stands in the queue at most once, however often it was added.
@@ -6,7 +6,8 @@ pub fn queues_once()
     ensures { QueuesOnce }
 {}
 
-/// The key that is handed out is in no other worker's hands: none is handed out twice before its `done`.
+/// The key that is handed out is not being processed: none is handed out twice before a `done` of it, so as long as only the worker
+/// that has a key calls `done` with it, no key is in two workers' hands.
 pub fn hands_apart()
     ensures { HandsApart }
 {}
