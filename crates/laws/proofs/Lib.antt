@@ -7,6 +7,7 @@ pub mod Compacted
 pub mod DefaultsRead
 pub mod DueKeys
 pub mod EachWrite
+pub mod EditedReferences
 pub mod Falling
 pub mod FinalizerSets
 pub mod FirstChanges

@@ -1,14 +1,15 @@
 -- What is there may be asked again: it is as a parser gives it, and stays so where a member of it is changed.
-use Rattle.std.specs.Prelude.{◌≡◌, ℕ, List, [], ◌∷◌, true, Some, codes, unwrap_or}
+use Rattle.std.specs.Prelude.{◌≡◌, ◌⊎◌, ℕ, List, [], ◌∷◌, Bool, true, Some, Ok, codes, unwrap_or}
 use Rattle.std.specs.List.{AllByRecursion}
-use Rattle.serde_json.specs.Data.{Data, string, array, object, Items, no_members, member, put}
+use Rattle.serde_json.specs.Data.{Data, boolean, string, array, object, Items, no_items, item, no_members, member, put}
 use Rattle.serde_json.specs.Find.{get}
+use Rattle.definitions.specs.declared.kinds.Kind.{Kind}
 use Rattle.definitions.specs.Checks.{in_spec}
 use Rattle.definitions.specs.History.{History, View, state, list}
-use Rattle.definitions.specs.Metadata.{metadata_of, with_metadata}
+use Rattle.definitions.specs.Metadata.{metadata, metadata_of, with_metadata}
 use Rattle.definitions.specs.Names.{Name, is_namespace, is_subdomain}
 use Rattle.definitions.specs.Reached.{IsParsed, AreParsed, IsReached}
-use Rattle.definitions.specs.Reading.{empty}
+use Rattle.definitions.specs.Reading.{empty, reading}
 use Rattle.definitions.specs.Replacements.{as_held, keeping}
 use Rattle.definitions.specs.Values.{members_of, inner_of, without}
 
@@ -41,6 +42,27 @@ MembersStayParsed = (d e : Data) (q : List ℕ) → IsParsed d → IsParsed e �
 -- and with a member set in one of its members, as the replicas in its spec
 abbrev pub InnerEditsStayParsed : Type 0
 InnerEditsStayParsed = (d e : Data) (p q : List ℕ) → IsParsed d → IsParsed e → IsParsed (object (put p (object (put q e (inner_of (get p d)))) (members_of d)))
+
+-- of owner references, a truth value
+abbrev pub IsFlag : List ℕ → Type 0
+IsFlag q = (q ≡ codes "controller") ⊎ (q ≡ codes "blockOwnerDeletion")
+
+-- owner references of which each is left out, is as it was, or has a truth value set
+pub data AreEdited : Items → Items → Type 0 where
+  none : AreEdited no_items no_items
+  left_out : (r : Data) (rs ss : Items) → AreEdited rs ss → AreEdited (item r rs) ss
+  as_it_was : (r : Data) (rs ss : Items) → AreEdited rs ss → AreEdited (item r rs) (item r ss)
+  set : (q : List ℕ) (b : Bool) (r : Data) (rs ss : Items) → IsFlag q → AreEdited rs ss → AreEdited (item r rs) (item (object (put q (boolean b) (members_of r))) ss)
+
+-- such references are as a parser gives them, where they were so
+abbrev pub ReferencesStayParsed : Type 0
+ReferencesStayParsed = (rs ss : Items) → AreEdited rs ss → AreParsed rs → AreParsed ss
+
+-- and an object that reads as itself does so with such references, if any are left
+abbrev pub ReferencesReadAgain : Type 0
+ReferencesReadAgain =
+    (k : Kind) (d s : Data) (rs ss : Items) → reading k d ≡ Ok d → metadata (codes "ownerReferences") d ≡ Some (array rs) → AreEdited rs (item s ss)
+    → (let e = with_metadata (put (codes "ownerReferences") (array (item s ss)) (metadata_of d)) d in reading k e ≡ Ok e)
 
 -- what a pod has of its template's metadata
 abbrev pub copied : List (List ℕ)

@@ -26,7 +26,7 @@ pub fn deletions_stand()
     ensures { DeletionsStand }
 {}
 
-/// An object names as its owners only what was created before it was written, or what no uid of this server names.
+/// No object that is there at a revision names as its owner one that was created at that revision or after it.
 pub fn owners_are_known()
     ensures { OwnersAreKnown }
 {}

@@ -1,5 +1,5 @@
 //! Laws of what may be sent again, for who reads objects and writes them changed.
-ghost use Rattle.laws.specs.ParsedLaws.{StoredAreParsed, ListedAreParsed, NamesAreValid, MetadataEditsStayParsed, MembersStayParsed, InnerEditsStayParsed, MadePodsAreParsed};
+ghost use Rattle.laws.specs.ParsedLaws.{StoredAreParsed, ListedAreParsed, NamesAreValid, MetadataEditsStayParsed, MembersStayParsed, InnerEditsStayParsed, ReferencesStayParsed, ReferencesReadAgain, MadePodsAreParsed};
 
 /// An object that is there is as a parser gives it, so who read it may send it again.
 pub fn stored_are_parsed()
@@ -16,22 +16,34 @@ pub fn names_are_valid()
     ensures { NamesAreValid }
 {}
 
-/// An object with a member of its metadata changed or taken out may be sent, where what was put there may be.
+/// What is as a parser gives it stays so where a member of its metadata is set to what is so, or taken out.
 pub fn metadata_edits_stay_parsed()
     ensures { MetadataEditsStayParsed }
 {}
 
-/// An object with another member, as its status, may be sent.
+/// What is as a parser gives it stays so where another member is set to what is so, as its status.
 pub fn members_stay_parsed()
     ensures { MembersStayParsed }
 {}
 
-/// An object with a member of one of its members changed, as the replicas in its spec, may be sent.
+/// What is as a parser gives it stays so where a member of one of its members is set to what is so, as the replicas in its
+/// spec.
 pub fn inner_edits_stay_parsed()
     ensures { InnerEditsStayParsed }
 {}
 
-/// The pod that is made of a template may be sent.
+/// Owner references are as a parser gives them where some are left out, or have a truth value set.
+pub fn references_stay_parsed()
+    ensures { ReferencesStayParsed }
+{}
+
+/// An object that reads as itself does so where some of its owner references, not all, are left out, or have a truth value
+/// set.
+pub fn references_read_again()
+    ensures { ReferencesReadAgain }
+{}
+
+/// The pod that is made of an object's template is as a parser gives it, where the object and the references are.
 pub fn made_pods_are_parsed()
     ensures { MadePodsAreParsed }
 {}
