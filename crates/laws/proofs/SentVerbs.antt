@@ -20,12 +20,12 @@ use Rattle.definitions.specs.Names.{Name}
 use Rattle.definitions.specs.History as history
 use Rattle.definitions.specs.History.{History, members, found, present}
 use Rattle.definitions.specs.Metadata.{is_other, differs, metadata_of, name, namespace, uid, version, at_revision, is_being_deleted}
-use Rattle.definitions.specs.NewObjects.{created, first_status, new_metadata, with_first_status, with_status}
+use Rattle.definitions.specs.NewObjects.{first_status, new_metadata, with_status}
 use Rattle.definitions.specs.Reading.{reading, is_body}
-use Rattle.definitions.specs.Refusals.{bad_request, not_found, already_exists, invalid, too_large, storage_full}
+use Rattle.definitions.specs.Refusals.{bad_request, not_found, invalid, storage_full}
 use Rattle.definitions.specs.Replacements.{generation, in_place, is_let_go, is_new_generation, next_generation, said_status, says_the_same, updated, with_next_generation, with_said_status}
 use Rattle.definitions.specs.Values.{inner_of, members_of, merged}
-use Rattle.definitions.specs.Verbs.{Request, get_object, list_objects, create_object, update_object, update_status, patch_object, delete_object, accept, by_decision, by_fate, delete, removed, stored, shown, said, create_read, create_checked, create_as, new_name, update_read, replace, replace_with, replace_changed, let_go, put_in_place, status_read, restate, restate_with, patch, patch_read, names_path, is_too_large, is_past_greatest, most_objects, status_put}
+use Rattle.definitions.specs.Verbs.{Request, get_object, list_objects, create_object, update_object, update_status, patch_object, delete_object, accept, by_decision, by_fate, delete, removed, stored, shown, said, create_read, new_name, update_read, replace, replace_with, replace_changed, let_go, put_in_place, status_read, restate, restate_with, patch, patch_read, names_path, is_past_greatest, most_objects, status_put}
 use Rattle.laws.proofs.Cases.{of_create}
 use Rattle.laws.proofs.Guards.{there, either}
 use Rattle.laws.proofs.HeldMembers.{name-new_metadata, namespace-new_metadata, uid-new_metadata, name-in_place, namespace-in_place, uid-in_place, text-with_next_generation}

@@ -8,19 +8,18 @@ use Rattle.definitions.specs.declared.refusals.Part.{Part}
 use Rattle.definitions.specs.declared.schemas.Schema.TheVariants.{Root, Metadata}
 use Rattle.definitions.specs.Defaults.{defaulted, deployment_defaults, replica_set_defaults, strategy_defaults, whole, with_found}
 use Rattle.definitions.specs.Metadata.{metadata_of, at_revision}
-use Rattle.definitions.specs.NewObjects.{first_status, with_first_status, with_status}
+use Rattle.definitions.specs.NewObjects.{first_status, with_status}
 use Rattle.definitions.specs.Reading.{empty, reading}
 use Rattle.definitions.specs.Replacements.{as_held, in_place, keeping, kept, kept_of, said_status, with_said_status}
 use Rattle.definitions.specs.Values.{members_of, inner_of, without, with_default, with_member, is_null, found_or_null, merged, merged_members}
 use Rattle.definitions.specs.Verbs.{said, with_defaults}
 use Rattle.laws.proofs.DefaultsRead.{defaults_read}
 use Rattle.definitions.proofs.FirstStatus.{get-members_of}
-use Rattle.definitions.proofs.JsonMembers.{get_member-without_other, apart}
+use Rattle.definitions.proofs.JsonMembers.{get_member-without_other}
 use Rattle.laws.proofs.JsonOrder.{IsOrdered, IsOrdered-put, IsOrdered-without, IsOrdered-tidied, IsOrdered-filled}
 use Rattle.laws.proofs.NeatMembers.{One, Neat, Neat-good, Neat-get, Neat-keeping, Neat-metadata, Neat-put, Neat-without, Neat-whole, Filled-put, IsFilled, Opened, one_metadata, one_text, opens}
 use Rattle.laws.proofs.NestedOrder.{AreOrdered, AreOrdered-put, AreOrdered-without, AreOrdered-get, AreOrdered-tidied, AreOrdered-filled, HasOrders, ordered_found_or_null}
 use Rattle.laws.proofs.ReadAgain.{Filled, Filled-filled, Has, HasSpec, filled_members, reads_again, settled}
-use Rattle.serde_json.proofs.Views.{get_member-put_other}
 
 -- members that fit their kind, with nothing to be left out or filled in, in the order of their names, as are the members of each
 pub record AreWhole (k : Kind) (ms : Members) : Type 0 where
