@@ -1,4 +1,3 @@
-pub mod Asked
 pub mod Awaited
 pub mod BoardRuns
 pub mod Cases
@@ -29,13 +28,12 @@ pub mod Looks
 pub mod MarkedObjects
 pub mod NamedVersions
 pub mod NeatMembers
-pub mod NestedOrder
 pub mod NoFloatsRead
 pub mod OnePage
 pub mod PageReplies
 pub mod Parsed
 pub mod ParsedEdits
-pub mod ParsedVerbs
+pub mod ParsedObjects
 pub mod Past
 pub mod PastWindows
 pub mod Paths

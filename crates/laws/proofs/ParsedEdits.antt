@@ -1,34 +1,37 @@
 -- What is stored is as a parser gives it, and stays so by edits.
-use Rattle.std.proofs.Common.{ℕ, List, codes, IfSome, Option, Some, None, option_and_then, unwrap_or}
+use Rattle.std.proofs.Common.{ℕ, ◌+◌, [], ◌∷◌, List, codes, IfSome, Option, Some, None, option_and_then, unwrap_or}
 use Rattle.serde_json.specs.Data.{Data, string, array, object, no_members, member, put}
 use Rattle.serde_json.specs.Find.{get}
-use Rattle.definitions.specs.History.{History, writes, present}
+use Rattle.definitions.specs.History.{History, Write, writes}
 use Rattle.definitions.specs.Checks.{in_spec}
 use Rattle.definitions.specs.Metadata.{metadata_of}
 use Rattle.definitions.specs.Reading.{empty}
 use Rattle.definitions.specs.Replacements.{as_held, keeping}
 use Rattle.definitions.specs.Names.{Name}
 use Rattle.definitions.specs.Values.{members_of, inner_of, without}
-use Rattle.definitions.specs.Verbs.{accept, write_of}
-use Rattle.laws.proofs.Compacted.{same_writes}
-use Rattle.laws.proofs.EachWrite.{AllPut, put_write, there_put, listed_put}
+use Rattle.laws.proofs.EachWrite.{AllPut, there_put, listed_put}
 use Rattle.definitions.specs.Reached.{IsParsed, IsReached}
 use Rattle.laws.specs.ParsedLaws.{StoredAreParsed, ListedAreParsed, MetadataEditsStayParsed, MembersStayParsed, InnerEditsStayParsed, MadePodsAreParsed, copied}
-use Rattle.laws.proofs.Asked.{Both, joined, inside}
-use Rattle.laws.proofs.ParsedVerbs.{meta, with_meta, held_put, keeps, parsed_by}
-use Rattle.laws.proofs.Parsed.{Both-put, Both-without, found, inner}
-use Rattle.laws.proofs.Reaching.{by_asked}
+use Rattle.laws.proofs.SentObjects.{IsStored}
+use Rattle.laws.proofs.Stored.{AreStored, all_stored}
+use Rattle.laws.proofs.ParsedObjects.{meta, with_meta, held_put, keeps}
+use Rattle.laws.proofs.Parsed.{Both, joined, inside, Both-put, Both-without, found, inner}
 
 -- ---- what is written
 
 abbrev IsParsedAt : Name → Data → Type 0
 IsParsedAt k d = IsParsed d
 
+one_parsed : (k : Name) (r : ℕ) (o : Option Data) → IfSome o (IsStored k r) → IfSome o IsParsed
+one_parsed k r None a = tt
+one_parsed k r (Some d) a = a.parsed
+
+each_parsed : (r : ℕ) (ws : List Write) → AreStored r ws → AllPut IsParsedAt ws
+each_parsed r [] a = tt
+each_parsed r (w ∷ ws) a = (one_parsed w.key r w.put a.0, each_parsed (r + 1) ws a.1)
+
 all_put : (h : History) → IsReached h → AllPut IsParsedAt (writes h)
-all_put h reached =
-    by_asked (λ h. AllPut IsParsedAt (writes h))
-    (λ q h moment asked a. put_write IsParsedAt h (write_of (accept q h moment)) (parsed_by h moment (λ k d is. there_put IsParsedAt h (present h) k d a is) q asked) a)
-    (same_writes (AllPut IsParsedAt)) h reached tt
+all_put h reached = each_parsed 2 (writes h) (all_stored h reached)
 
 pub stored_parsed : StoredAreParsed
 stored_parsed h r k d reached is = there_put IsParsedAt h r k d (all_put h reached) is

@@ -2,25 +2,15 @@
 use Rattle.std.proofs.Common.{◌≡◌, ◌≤◌, ℕ, List, [], ◌∷◌, ◌++◌, Option, Some, None, refl, ap, subst, ◌∙◌, append-nil, ◌⊎◌, inl, inr}
 use Rattle.definitions.specs.History.{History, Entry, Write, write, compaction, present}
 use Rattle.definitions.specs.Verbs.{Request, accept, with_write, write_of}
-use Rattle.laws.proofs.SentObjects as below
-use Rattle.laws.proofs.SentVerbs as time
-use Rattle.definitions.specs.Reached.{IsAsked, IsReached, opened, asks, compacts}
+use Rattle.definitions.specs.Reached.{IsAsked, IsTime, IsReached, opened, asks, compacts}
 use Rattle.laws.specs.ReachedLaws.{PastsAreReached}
-use Rattle.laws.proofs.Asked.{asked_to, time_to}
 
 -- a property of histories that a request leaves, and a compaction
-module _ (P : History → Type 0) (each : (q : Request) (h : History) (moment : List ℕ) → below.IsAsked q → time.IsTime moment → P h → P (with_write h (write_of (accept q h moment)))) (still : (h : History) (r : ℕ) → r ≤ present h → P h → P (h ++ compaction r ∷ [])) where
+module _ (P : History → Type 0) (each : (q : Request) (h : History) (moment : List ℕ) → IsAsked q → IsTime moment → P h → P (with_write h (write_of (accept q h moment)))) (still : (h : History) (r : ℕ) → r ≤ present h → P h → P (h ++ compaction r ∷ [])) where
   pub by_reached : (h : History) → IsReached h → P [] → P h
   by_reached h opened p = p
-  by_reached h (asks g q moment r a t) p = each q g moment (asked_to q a) (time_to moment t) (by_reached g r p)
+  by_reached h (asks g q moment r a t) p = each q g moment a t (by_reached g r p)
   by_reached h (compacts g r before le) p = still g r le (by_reached g before p)
-
--- the same, with what was asked as it was asked
-module _ (P : History → Type 0) (each : (q : Request) (h : History) (moment : List ℕ) → IsAsked q → P h → P (with_write h (write_of (accept q h moment)))) (still : (h : History) (r : ℕ) → r ≤ present h → P h → P (h ++ compaction r ∷ [])) where
-  pub by_asked : (h : History) → IsReached h → P [] → P h
-  by_asked h opened p = p
-  by_asked h (asks g q moment r a t) p = each q g moment a (by_asked g r p)
-  by_asked h (compacts g r before le) p = still g r le (by_asked g before p)
 
 -- ---- what had happened before
 

@@ -25,11 +25,8 @@ use Rattle.definitions.specs.History as history
 use Rattle.laws.proofs.Parsed.{parsed_read}
 use Rattle.laws.proofs.NoFloatsRead.{both_true}
 use Rattle.laws.proofs.Runs.{kept_asked, kept_watched, by_compaction}
-use Rattle.laws.proofs.SentObjects.{filled_long}
-use Rattle.laws.proofs.SentVerbs.{IsTime}
-use Rattle.definitions.specs.Reached.{IsParsed, IsAsked, IsReached, opened, asks, compacts}
+use Rattle.definitions.specs.Reached.{IsParsed, IsAsked, IsTime, IsReached, opened, asks, compacts}
 use Rattle.laws.specs.ReachedLaws.{RunsAreReached, RequestsAreAsked, MomentsAreTimes}
-use Rattle.laws.proofs.Asked.{time_from}
 
 abbrev AsksWell : Result Asked Refusal → Type 0
 AsksWell (Err f) = Unit {0}
@@ -135,7 +132,7 @@ has_moment_form t h =
 timed_moment : (t : List ℕ) → is_moment t ≡ true → IsTime t
 timed_moment t h =
     let long : length t ≡ 20 = as_long (codes "0000-00-00T00:00:00Z") t (has_moment_form t h) in
-    (filled_long t (omega arith), omega arith)
+    (omega arith, omega arith)
 
 timed_either : (b : Bool) (x y : Line) → IsTimed x → IsTimed y → IsTimed (cond b x y)
 timed_either true x y p q = p
@@ -200,7 +197,7 @@ module _ (P : History → Type 0) (each : (q : Request) (h : History) (moment : 
   by_session s (t ∷ ts) p = by_session (next s t) ts (by_text (length t == 0) s t p)
 
   by_asked : (lines : List (List ℕ)) → P [] → P (history_of lines)
-  by_asked lines p = (by_session (start default_window) lines ((refl, omega arith), p)).1
+  by_asked lines p = (by_session (start default_window) lines ((omega arith, omega arith), p)).1
 
 asks_of : (q : Request) (r : Result Asked Refusal) → r ≡ Ok (request q) → AsksWell r → IsAsked q
 asks_of q r is well = subst AsksWell is well
@@ -209,7 +206,7 @@ pub requests_asked : RequestsAreAsked
 requests_asked method target body q is = asks_of q (read_request method target body) is (well_request method target body)
 
 pub moments_timed : MomentsAreTimes
-moments_timed t h = time_from t (timed_moment t h)
+moments_timed t h = timed_moment t h
 
 pub runs_reached : RunsAreReached
-runs_reached lines = by_asked IsReached (λ q h moment a t r. asks h q moment r a (time_from moment t)) (λ h r le before. compacts h r before le) lines opened
+runs_reached lines = by_asked IsReached (λ q h moment a t r. asks h q moment r a t) (λ h r le before. compacts h r before le) lines opened

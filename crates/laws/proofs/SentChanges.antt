@@ -28,7 +28,7 @@ use Rattle.definitions.proofs.RevisionTexts.{revision_is}
 use Rattle.laws.proofs.SentObjects.{IsStored, IsHeld, filled_decimal, whole_stored}
 use Rattle.laws.proofs.Stored.{AreStored, AreStored-split, AreStored-up_to, last_held, all_stored}
 use Rattle.laws.proofs.TextLengths.{fits_at}
-use Rattle.laws.proofs.WholeObjects.{neat_metadata, ordered_metadata, reads_whole, whole_at}
+use Rattle.laws.proofs.WholeObjects.{neat_metadata, reads_whole, whole_at}
 
 -- ---- an object that is gone
 
@@ -40,7 +40,7 @@ gone_kept : (k : Name) (s r : ℕ) (d : Data) → IsStored k s d → r ≤ 90071
 gone_kept k s r d was low =
     let w = whole_stored k s d was in
     record {
-      reads = reads_whole k.kind (members_of (gone_at r d)) (whole_at k.kind r (metadata_of d) d (filled_decimal r low) (neat_metadata k.kind d w) (ordered_metadata k.kind d w) w);
+      reads = reads_whole k.kind (members_of (gone_at r d)) (whole_at k.kind r (metadata_of d) d (filled_decimal r low) (neat_metadata k.kind d w) w);
       name = gone_text (codes "name") r d refl ∙ was.kept.name;
       namespace = gone_text (codes "namespace") r d refl ∙ was.kept.namespace;
       uid = ap is_some (gone_text (codes "uid") r d refl) ∙ was.kept.uid;

@@ -31,6 +31,7 @@ use Rattle.laws.proofs.JsonOrder.{IsOrdered, IsOrdered-without, put_back, gone}
 use Rattle.laws.proofs.Limited.{limited}
 use Rattle.laws.proofs.NeatMembers.{Neat, Neat-get, Neat-without, Neat-depth, Neat-whole, Neat-fits, Neat-tidy, opens}
 use Rattle.definitions.proofs.PutLaws.{name_cmp_total, IsAbove, IsAscending}
+use Rattle.laws.proofs.Parsed.{inside}
 use Rattle.laws.proofs.ReadAgain.{Has, HasSpec, Filled, Filled-filled, defaulted, spec_members, filled_members, filled-object, closed, tidied_members-MembersTidy}
 use Rattle.definitions.proofs.RevisionTexts.{revision_is}
 use Rattle.laws.proofs.SentChanges.{shown_is, name_is, same_kind, nests, read_body}
@@ -146,7 +147,7 @@ item_shown : (k : Kind) (n : Name) (d : Data) → k ≡ n.kind → (held : IsHel
 item_shown k n d same held =
     let stored = held.1 in
     let read : reading k d ≡ Ok d = ap (λ x. reading x d) same ∙ stored.kept.reads in
-    ap (shown_read k) (as_item_reads k d read stored.ordered ∙ sym read) ∙ shown_is k n held.0 d same stored.kept stored.low
+    ap (shown_read k) (as_item_reads k d read (inside d stored.parsed).0 ∙ sym read) ∙ shown_is k n held.0 d same stored.kept stored.low
 
 -- ---- the members of a list
 
@@ -232,7 +233,7 @@ items_nest : (k : Kind) (ms : Members) → AllByRecursion (Lists k) ms → items
 items_nest k [] a = omega arith
 items_nest k (m ∷ ms) a =
     let stored = a.0.1.1 in
-    let here : depth (as_item m.1) ≤ 100 = nests (as_item m.1) (read_body m.0.kind (as_item m.1) m.1 (as_item_reads m.0.kind m.1 stored.kept.reads stored.ordered)) in
+    let here : depth (as_item m.1) ≤ 100 = nests (as_item m.1) (read_body m.0.kind (as_item m.1) m.1 (as_item_reads m.0.kind m.1 stored.kept.reads (inside m.1 stored.parsed).0)) in
     let more = items_nest k ms a.1 in omega (arith, here, more)
 
 pub lists_nest : ListsNest

@@ -24,15 +24,16 @@ use Rattle.definitions.specs.Refusals.{Refusal, conflict, too_large, storage_ful
 use Rattle.laws.specs.SentLaws.{IsKept}
 use Rattle.definitions.specs.Uids.{uid_text, cluster_word}
 use Rattle.definitions.specs.Values.{members_of, without}
-use Rattle.definitions.specs.Verbs.{Request, get_object, list_objects, create_object, update_object, update_status, patch_object, delete_object, Outcome, refused, refuse_field, stored, new_name, is_free, put_in_place, if_same, is_too_large, is_past_greatest}
+use Rattle.definitions.specs.Verbs.{Outcome, refused, refuse_field, stored, new_name, is_free, put_in_place, if_same, is_too_large, is_past_greatest}
 use Rattle.laws.proofs.Guards.{guard, guard_field}
 use Rattle.laws.proofs.HeldMembers.{at_most, version-at_revision, text-at_revision}
 use Rattle.definitions.proofs.JsonMembers.{text_in, metadata_of-with}
-use Rattle.laws.proofs.JsonOrder.{IsOrdered, IsOrdered-put, IsOrdered-without}
 use Rattle.laws.proofs.MarkedObjects.{HasRoom, room_written}
 use Rattle.laws.proofs.NeatMembers.{Neat, Neat-put, Neat-without, IsFilled, One, one_text}
-use Rattle.laws.proofs.NestedOrder.{AreOrdered, HasOrders}
 use Rattle.laws.proofs.NoFloatsRead.{both_true}
+use Rattle.definitions.specs.Reached.{IsParsed}
+use Rattle.laws.proofs.Parsed.{Both}
+use Rattle.laws.proofs.ParsedObjects.{at}
 use Rattle.laws.proofs.TextLengths.{put_twice}
 use Rattle.definitions.proofs.FirstStatus.{metadata_of-first}
 use Rattle.laws.proofs.WholeObjects.{AreWhole, reads_whole, whole_at, whole_read}
@@ -44,22 +45,11 @@ pub record IsStored (k : Name) (r : ℕ) (d : Data) : Type 0 where
   pub stands : at_revision r (metadata_of d) d ≡ d
   pub fits : length (compact_text d) ≤ 1574400
   pub room : HasRoom d
-  pub ordered : IsOrdered (members_of d)
-  pub nested : AreOrdered (members_of d)
+  pub parsed : IsParsed d
 
 -- an object under this name
 abbrev pub IsHeld : Name → Data → Type 0
 IsHeld k d = (s : ℕ) × IsStored k s d
-
--- what a request says that is read of a path and a body
-abbrev pub IsAsked : Request → Type 0
-IsAsked (get_object k) = Unit {0}
-IsAsked (list_objects v) = Unit {0}
-IsAsked (create_object kind ns d) = IsFilled ns × HasOrders d
-IsAsked (update_object k d) = HasOrders d
-IsAsked (update_status k d) = HasOrders d
-IsAsked (patch_object k d) = HasOrders d
-IsAsked (delete_object k o) = Unit {0}
 
 -- ---- at a revision
 
@@ -83,11 +73,11 @@ pub record Says (k : Name) (meta : Members) : Type 0 where
   pub uid : is_some (text_in (codes "uid") meta) ≡ true
 
 -- whole members with such metadata, at a revision, are stored as they should be, where they have room
-pub stored_in : (k : Name) (r : ℕ) (meta : Members) (d : Data) → AreWhole k.kind (members_of d) → Neat 98 Metadata meta → IsOrdered meta → Says k meta → r ≤ 9007199254740991
+pub stored_in : (k : Name) (r : ℕ) (meta : Members) (d : Data) → AreWhole k.kind (members_of d) → Neat 98 Metadata meta → IsParsed d → Both meta → Says k meta → r ≤ 9007199254740991
     → length (compact_text (at_revision r meta d)) ≤ 1574400 → HasRoom (at_revision r meta d) → IsStored k r (at_revision r meta d)
-stored_in k r meta d w m a says low fits room =
+stored_in k r meta d w m p a says low fits room =
     let new = at_revision r meta d in
-    let made : AreWhole k.kind (members_of new) = whole_at k.kind r meta d (filled_decimal r low) m a w in
+    let made : AreWhole k.kind (members_of new) = whole_at k.kind r meta d (filled_decimal r low) m w in
     record {
       kept = record {
         reads = reads_whole k.kind (members_of new) made;
@@ -100,18 +90,17 @@ stored_in k r meta d w m a says low fits room =
       stands = stands_at r meta d;
       fits = fits;
       room = room;
-      ordered = made.ordered;
-      nested = made.nested;
+      parsed = at r meta d a p;
     }
 
-pub stored_at : (k : Name) (r : ℕ) (meta : Members) (d : Data) → AreWhole k.kind (members_of d) → Neat 98 Metadata meta → IsOrdered meta → Says k meta → r ≤ 9007199254740991
+pub stored_at : (k : Name) (r : ℕ) (meta : Members) (d : Data) → AreWhole k.kind (members_of d) → Neat 98 Metadata meta → IsParsed d → Both meta → Says k meta → r ≤ 9007199254740991
     → is_too_large (at_revision r meta d) ≡ false → IsStored k r (at_revision r meta d)
-stored_at k r meta d w m a says low fits =
+stored_at k r meta d w m p a says low fits =
     let short : length (compact_text (at_revision r meta d)) ≤ 1572864 = at_most 1572864 (length (compact_text (at_revision r meta d))) fits in
-    stored_in k r meta d w m a says low (omega arith) (room_written r meta d a short)
+    stored_in k r meta d w m p a says low (omega arith) (room_written r meta d a.0 short)
 
 pub whole_stored : (k : Name) (s : ℕ) (held : Data) → IsStored k s held → AreWhole k.kind (members_of held)
-whole_stored k s held was = whole_read k.kind held held was.kept.reads (was.ordered, was.nested)
+whole_stored k s held was = whole_read k.kind held held was.kept.reads
 
 -- ---- the metadata of a new object
 
@@ -165,18 +154,6 @@ neat_new k r ns named moment meta space full now m =
     (Neat-put 98 Metadata (codes "namespace") (string ns) _ (one_text ns space).0
     (Neat-put 98 Metadata (codes "name") (string named) _ (one_name named full)
     (neat_generation (has_generation k) 1 (without (codes "deletionTimestamp") meta) (Neat-without 98 Metadata (codes "deletionTimestamp") meta m)))))
-
-pub ordered_generation : (b : Bool) (n : ℕ) (meta : Members) → IsOrdered meta → IsOrdered (cond b (put (codes "generation") (whole n) meta) meta)
-ordered_generation true n meta a = IsOrdered-put (codes "generation") (whole n) meta a
-ordered_generation false n meta a = a
-
-pub ordered_new : (k : Kind) (r : ℕ) (ns named moment : List ℕ) (meta : Members) → IsOrdered meta → IsOrdered (new_metadata k r ns named moment meta)
-ordered_new k r ns named moment meta a =
-    IsOrdered-put (codes "uid") (string (uid_text cluster_word r)) _
-    (IsOrdered-put (codes "creationTimestamp") (string moment) _
-    (IsOrdered-put (codes "namespace") (string ns) _
-    (IsOrdered-put (codes "name") (string named) _
-    (ordered_generation (has_generation k) 1 (without (codes "deletionTimestamp") meta) (IsOrdered-without (codes "deletionTimestamp") meta a)))))
 
 -- ---- what holds of every outcome
 

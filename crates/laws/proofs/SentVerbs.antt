@@ -1,5 +1,5 @@
 -- What each verb stores is stored as it should be.
-use Rattle.std.proofs.Common.{◌≡◌, ◌≤◌, ◌+◌, ◌&&◌, ◌==◌, ℕ, List, length, Bool, true, false, cond, not, nat_le, codes, decimal, bytes_eq, is_some, IfSome, Option, Some, None, Result, Ok, Err, refl, sym, ap, ◌∙◌, subst, arith}
+use Rattle.std.proofs.Common.{[], ◌∷◌, ◌≡◌, ◌≤◌, ◌+◌, ◌&&◌, ◌==◌, ℕ, List, length, Bool, true, false, cond, not, nat_le, codes, decimal, bytes_eq, is_some, IfSome, Option, Some, None, Result, Ok, Err, refl, sym, ap, ◌∙◌, subst, arith}
 use Rattle.std.proofs.lemmas.Slice.Eq.{bytes_eq-Decides}
 use Rattle.serde_json.specs.Data.{Data, string, array, object, Items, put}
 use Rattle.serde_json.specs.Events.{items_len}
@@ -16,7 +16,7 @@ use Rattle.definitions.specs.Checks.{update_fault, is_status_valid, finalizers}
 use Rattle.definitions.specs.DeleteOptions.{Options}
 use Rattle.definitions.specs.Deletion.{Fate, remove, mark, keep, decided, fate, kept_code, leaves, left_by, marked, removal_of, with_deletion}
 use Rattle.definitions.specs.Kinds.{has_generation, has_status}
-use Rattle.definitions.specs.Names.{Name}
+use Rattle.definitions.specs.Names.{Name, is_namespace}
 use Rattle.definitions.specs.History as history
 use Rattle.definitions.specs.History.{History, members, found, present}
 use Rattle.definitions.specs.Metadata.{is_other, differs, metadata_of, name, namespace, uid, version, at_revision, is_being_deleted}
@@ -30,20 +30,26 @@ use Rattle.laws.proofs.Cases.{of_create}
 use Rattle.laws.proofs.Guards.{there, either}
 use Rattle.laws.proofs.HeldMembers.{name-new_metadata, namespace-new_metadata, uid-new_metadata, name-in_place, namespace-in_place, uid-in_place, text-with_next_generation}
 use Rattle.definitions.proofs.JsonMembers.{apart, text_in, text_in-put_other, metadata_of-with}
-use Rattle.laws.proofs.JsonOrder.{IsOrdered, IsOrdered-put}
+use Rattle.laws.proofs.JsonOrder.{IsOrdered}
 use Rattle.laws.proofs.LeftFinalizers.{one_finalizers, texts_held, texts_left}
 use Rattle.laws.proofs.MarkedObjects.{marked_fits, room_marked, with_finalizers}
 use Rattle.laws.proofs.NeatMembers.{Neat, Neat-put, IsFilled, One}
-use Rattle.laws.proofs.NestedOrder.{HasOrders}
+use Rattle.definitions.specs.Reached.{IsParsed, IsAsked, IsTime}
+use Rattle.laws.proofs.Parsed.{parsed_said, parsed_reading, parsed_merged}
+use Rattle.laws.proofs.ParsedObjects.{meta as meta_of, new_meta, new_members, placed, counted, restated, marked_meta}
 use Rattle.laws.proofs.TextLengths.{put_twice}
 use Rattle.laws.proofs.VerbLaws.{text-with_deletion}
 use Rattle.definitions.proofs.FirstStatus.{get-members_of}
-use Rattle.laws.proofs.WholeObjects.{AreWhole, may_first, neat_metadata, ordered_metadata, orders_merged, whole_in_place, whole_read, whole_said, whole_status, whole_with_said}
-use Rattle.laws.proofs.SentObjects.{IsStored, IsHeld, IsAsked, Says, stored_in, stored_at, whole_stored, filled_new, neat_generation, neat_new, ordered_generation, ordered_new, Stores, low_after, either_false, behind, behind_field, by_if_same, by_put}
+use Rattle.laws.proofs.WholeObjects.{AreWhole, may_first, neat_metadata, whole_in_place, whole_read, whole_said, whole_status, whole_with_said}
+use Rattle.laws.proofs.SentObjects.{IsStored, IsHeld, Says, stored_in, stored_at, whole_stored, filled_new, neat_generation, neat_new, filled_long, Stores, low_after, either_false, behind, behind_field, by_if_same, by_put}
+
+filled_namespace : (ns : List ℕ) → is_namespace ns ≡ true → IsFilled ns
+filled_namespace [] h = cc
+filled_namespace (b ∷ bs) h = filled_long (b ∷ bs) (omega arith)
 
 -- ---- create
 
-by_create : (kind : Kind) (ns : List ℕ) (d : Data) (ms : history.Members) (r : ℕ) (moment : List ℕ) → IsFilled ns → IsFilled moment → HasOrders d
+by_create : (kind : Kind) (ns : List ℕ) (d : Data) (ms : history.Members) (r : ℕ) (moment : List ℕ) → IsFilled ns → IsFilled moment → IsParsed d
     → Stores (r + 1) (create_read kind ns (said kind d) ms r moment)
 by_create kind ns d ms r moment space now a =
     of_create (Stores (r + 1)) (λ f. tt) kind ns (said kind d) ms r moment
@@ -51,7 +57,8 @@ by_create kind ns d ms r moment space now a =
     let k = new_name kind ns o ms r in
     let meta = new_metadata kind (r + 1) ns k.name moment (metadata_of o) in
     let new = object (with_status (first_status kind) (members_of o)) in
-    let w : AreWhole kind (members_of o) = whole_said kind d o is a in
+    let w : AreWhole kind (members_of o) = whole_said kind d o is in
+    let p = parsed_said kind d o is a in
     let says : Says k meta =
     record {
       name = name-new_metadata kind (r + 1) ns k.name moment (metadata_of o);
@@ -61,7 +68,7 @@ by_create kind ns d ms r moment space now a =
     let low = low_after (r + 1) (either_false (nat_le most_objects (length ms)) (is_past_greatest (r + 1)) room) in
     stored_at k (r + 1) meta new (whole_status kind (first_status kind) (members_of o) (may_first kind) w)
     (neat_new kind (r + 1) ns k.name moment (metadata_of o) space (filled_new kind ns o ms r r none) now (neat_metadata kind o w))
-    (ordered_new kind (r + 1) ns k.name moment (metadata_of o) (ordered_metadata kind o w)) says low fits)
+    (new_members kind o p) (new_meta kind (r + 1) ns k.name moment (metadata_of o) (meta_of o p)) says low fits)
 
 -- ---- update
 
@@ -95,33 +102,33 @@ says_in_place k s held o is_new was path =
       uid = ap is_some (text-with_next_generation (codes "uid") is_new held (metadata_of d) refl) ∙ kept_some (uid held) (uid d) was.kept.uid (uid-in_place k.kind held o);
     }
 
-by_changed : (k : Name) (o : Data) (r s : ℕ) (held : Data) → AreWhole k.kind (members_of o) → not (names_path k o) ≡ false → IsStored k s held
+by_changed : (k : Name) (o : Data) (r s : ℕ) (held : Data) → AreWhole k.kind (members_of o) → IsParsed o → not (names_path k o) ≡ false → IsStored k s held
     → Stores (r + 1) (replace_changed k held (in_place k.kind held o) r)
-by_changed k o r s held w path was =
+by_changed k o r s held w p path was =
     let d = in_place k.kind held o in
     let is_new = is_new_generation k.kind held d in
     let new = updated k.kind (r + 1) held d in
     let made : AreWhole k.kind (members_of d) = whole_in_place k.kind held o (whole_stored k s held was) w in
     let meta : Neat 98 Metadata (with_next_generation is_new held (metadata_of d)) =
     neat_generation is_new (next_generation (generation held)) (metadata_of d) (neat_metadata k.kind d made) in
-    let order : IsOrdered (with_next_generation is_new held (metadata_of d)) =
-    ordered_generation is_new (next_generation (generation held)) (metadata_of d) (ordered_metadata k.kind d made) in
+    let whole : IsParsed d = placed k.kind held o was.parsed p in
+    let order = counted is_new held (metadata_of d) (meta_of d whole) in
     either (Stores (r + 1)) (says_the_same held d) (shown held) _ (λ _. tt)
     (λ _. either (Stores (r + 1)) (is_let_go held new) (let_go k new r) (put_in_place k new r) (λ _. behind (r + 1) (is_past_greatest (r + 1)) storage_full _ (λ _. tt))
-    (λ _. by_put k new r (λ fits low. stored_at k (r + 1) (with_next_generation is_new held (metadata_of d)) d made meta order (says_in_place k s held o is_new was path) low fits)))
+    (λ _. by_put k new r (λ fits low. stored_at k (r + 1) (with_next_generation is_new held (metadata_of d)) d made meta whole order (says_in_place k s held o is_new was path) low fits)))
 
-by_replace : (k : Name) (o : Data) (r s : ℕ) (held : Data) → AreWhole k.kind (members_of o) → not (names_path k o) ≡ false → IsStored k s held → Stores (r + 1) (replace k o r held)
-by_replace k o r s held w path was =
+by_replace : (k : Name) (o : Data) (r s : ℕ) (held : Data) → AreWhole k.kind (members_of o) → IsParsed o → not (names_path k o) ≡ false → IsStored k s held → Stores (r + 1) (replace k o r held)
+by_replace k o r s held w p path was =
     let d = in_place k.kind held o in
-    by_if_same (r + 1) k o held (replace_with k held d r) (behind_field (r + 1) k (update_fault k.kind k.name r held d) (replace_changed k held d r) (λ _. by_changed k o r s held w path was))
+    by_if_same (r + 1) k o held (replace_with k held d r) (behind_field (r + 1) k (update_fault k.kind k.name r held d) (replace_changed k held d r) (λ _. by_changed k o r s held w p path was))
 
-by_update : (k : Name) (d : Data) (read : Result Data Part) (ms : history.Members) (r : ℕ) → said k.kind d ≡ read → HasOrders d → IfSome (found k ms) (IsHeld k)
+by_update : (k : Name) (d : Data) (read : Result Data Part) (ms : history.Members) (r : ℕ) → said k.kind d ≡ read → IsParsed d → IfSome (found k ms) (IsHeld k)
     → Stores (r + 1) (update_read k read ms r)
 by_update k d (Err p) ms r is a held = tt
 by_update k d (Ok o) ms r is a held =
     behind (r + 1) (not (names_path k o)) (bad_request part.Object) _
     (λ path. there (Stores (r + 1)) (λ f. tt) k (replace k o r) (found k ms)
-    (λ was at. let there_is = subst (λ x. IfSome x (IsHeld k)) at held in by_replace k o r there_is.0 was (whole_said k.kind d o is a) path there_is.1))
+    (λ was at. let there_is = subst (λ x. IfSome x (IsHeld k)) at held in by_replace k o r there_is.0 was (whole_said k.kind d o is) (parsed_said k.kind d o is a) path there_is.1))
 
 -- ---- update of the status
 
@@ -133,16 +140,17 @@ metadata-with_status (Some d) held =
 says_held : (k : Name) (s : ℕ) (held : Data) → IsStored k s held → Says k (metadata_of held)
 says_held k s held was = record { name = was.kept.name; namespace = was.kept.namespace; uid = was.kept.uid }
 
-by_restate : (k : Name) (o : Data) (r s : ℕ) (held : Data) → AreWhole k.kind (members_of o) → IsStored k s held → Stores (r + 1) (restate k held (with_said_status k.kind held o) r)
-by_restate k o r s held w was =
+by_restate : (k : Name) (o : Data) (r s : ℕ) (held : Data) → AreWhole k.kind (members_of o) → IsParsed o → IsStored k s held → Stores (r + 1) (restate k held (with_said_status k.kind held o) r)
+by_restate k o r s held w p was =
     let d = with_said_status k.kind held o in
     let made : AreWhole k.kind (members_of d) = whole_with_said k.kind held o (whole_stored k s held was) w in
+    let whole : IsParsed d = restated k.kind held o was.parsed p in
     let says : Says k (metadata_of d) = subst (Says k) (sym (metadata-with_status (said_status k.kind (get (codes "status") o)) held)) (says_held k s held was) in
     behind (r + 1) (not (is_status_valid k.kind d)) (invalid k field.Status) _
     (λ _. either (Stores (r + 1)) (says_the_same held d) (shown held) _ (λ _. tt)
-    (λ _. by_put k (at_revision (r + 1) (metadata_of d) d) r (λ fits low. stored_at k (r + 1) (metadata_of d) d made (neat_metadata k.kind d made) (ordered_metadata k.kind d made) says low fits)))
+    (λ _. by_put k (at_revision (r + 1) (metadata_of d) d) r (λ fits low. stored_at k (r + 1) (metadata_of d) d made (neat_metadata k.kind d made) whole (meta_of d whole) says low fits)))
 
-by_status_put : (k : Name) (d : Data) (read : Result Data Part) (ms : history.Members) (r : ℕ) → reading k.kind d ≡ read → HasOrders d → IfSome (found k ms) (IsHeld k)
+by_status_put : (k : Name) (d : Data) (read : Result Data Part) (ms : history.Members) (r : ℕ) → reading k.kind d ≡ read → IsParsed d → IfSome (found k ms) (IsHeld k)
     → Stores (r + 1) (status_put k read ms r)
 by_status_put k d (Err p) ms r is a held = tt
 by_status_put k d (Ok o) ms r is a held =
@@ -150,31 +158,27 @@ by_status_put k d (Ok o) ms r is a held =
     (λ path. there (Stores (r + 1)) (λ f. tt) k (restate_with k o r) (found k ms)
     (λ was at.
     let there_is = subst (λ x. IfSome x (IsHeld k)) at held in
-    by_if_same (r + 1) k o was (restate k was (with_said_status k.kind was o) r) (by_restate k o r there_is.0 was (whole_read k.kind d o is a) there_is.1)))
+    by_if_same (r + 1) k o was (restate k was (with_said_status k.kind was o) r) (by_restate k o r there_is.0 was (whole_read k.kind d o is) (parsed_reading k.kind d o is a) there_is.1)))
 
-by_status : (k : Name) (d : Data) (read : Result Data Part) (ms : history.Members) (r : ℕ) → reading k.kind d ≡ read → HasOrders d → IfSome (found k ms) (IsHeld k)
+by_status : (k : Name) (d : Data) (read : Result Data Part) (ms : history.Members) (r : ℕ) → reading k.kind d ≡ read → IsParsed d → IfSome (found k ms) (IsHeld k)
     → Stores (r + 1) (status_read k read ms r)
 by_status k d read ms r is a held = behind (r + 1) (not (has_status k.kind)) (not_found k) (status_put k read ms r) (λ _. by_status_put k d read ms r is a held)
 
 -- ---- patch
 
-by_patched : (k : Name) (d : Data) (read : Result Data Part) (r s : ℕ) (held : Data) → said k.kind (merged held d) ≡ read → IsStored k s held → Stores (r + 1) (patch_read k r held read)
-by_patched k d (Err p) r s held is was = tt
-by_patched k d (Ok o) r s held is was =
+by_patched : (k : Name) (d : Data) (read : Result Data Part) (r s : ℕ) (held : Data) → said k.kind (merged held d) ≡ read → IsParsed d → IsStored k s held → Stores (r + 1) (patch_read k r held read)
+by_patched k d (Err p) r s held is a was = tt
+by_patched k d (Ok o) r s held is a was =
     behind (r + 1) (not (names_path k o)) (bad_request part.Object) (replace k o r held)
-    (λ path. by_replace k o r s held (whole_said k.kind (merged held d) o is (orders_merged held d (was.ordered, was.nested))) path was)
+    (λ path. by_replace k o r s held (whole_said k.kind (merged held d) o is) (parsed_said k.kind (merged held d) o is (parsed_merged held d was.parsed a)) path was)
 
-by_patch : (k : Name) (d : Data) (ms : history.Members) (r : ℕ) → IfSome (found k ms) (IsHeld k) → Stores (r + 1) (patch k d ms r)
-by_patch k d ms r held =
+by_patch : (k : Name) (d : Data) (ms : history.Members) (r : ℕ) → IsParsed d → IfSome (found k ms) (IsHeld k) → Stores (r + 1) (patch k d ms r)
+by_patch k d ms r a held =
     behind (r + 1) (not (is_body d)) (bad_request part.Body) _
     (λ _. there (Stores (r + 1)) (λ f. tt) k (λ was. patch_read k r was (said k.kind (merged was d))) (found k ms)
-    (λ was at. let there_is = subst (λ x. IfSome x (IsHeld k)) at held in by_patched k d (said k.kind (merged was d)) r there_is.0 was refl there_is.1))
+    (λ was at. let there_is = subst (λ x. IfSome x (IsHeld k)) at held in by_patched k d (said k.kind (merged was d)) r there_is.0 was refl a there_is.1))
 
 -- ---- delete
-
--- a moment as objects carry it
-abbrev pub IsTime : List ℕ → Type 0
-IsTime moment = IsFilled moment × (length moment ≤ 20)
 
 one_deletion : (moment : List ℕ) → IsFilled moment → One 98 Metadata (codes "deletionTimestamp") (string moment)
 one_deletion moment h = (refl, h, tt, omega arith, refl)
@@ -185,13 +189,6 @@ neat_deletion true is_new moment held now m = m
 neat_deletion false is_new moment held now m =
     Neat-put 98 Metadata (codes "deletionTimestamp") (string moment) (with_next_generation is_new held (metadata_of held)) (one_deletion moment now)
     (neat_generation is_new (next_generation (generation held)) (metadata_of held) m)
-
-ordered_deletion : (is_marked is_new : Bool) (moment : List ℕ) (held : Data) → IsOrdered (metadata_of held)
-    → IsOrdered (cond is_marked (metadata_of held) (put (codes "deletionTimestamp") (string moment) (with_next_generation is_new held (metadata_of held))))
-ordered_deletion true is_new moment held a = a
-ordered_deletion false is_new moment held a =
-    IsOrdered-put (codes "deletionTimestamp") (string moment) (with_next_generation is_new held (metadata_of held))
-    (ordered_generation is_new (next_generation (generation held)) (metadata_of held) a)
 
 -- what is marked says what it said
 text_marked : (q : List ℕ) (k : Kind) (moment : List ℕ) (left : Items) (held : Data) → bytes_eq q (codes "finalizers") ≡ false → bytes_eq q (codes "deletionTimestamp") ≡ false
@@ -223,13 +220,12 @@ by_mark k o r s moment held now was some low =
     let meta = with_finalizers left from in
     let w : AreWhole k.kind (members_of held) = whole_stored k s held was in
     let m : Neat 98 Metadata (metadata_of held) = neat_metadata k.kind held w in
-    let a : IsOrdered (metadata_of held) = ordered_metadata k.kind held w in
+    let a : IsOrdered (metadata_of held) = (meta_of held was.parsed).0 in
     let neat : Neat 98 Metadata meta =
     Neat-put 98 Metadata (codes "finalizers") (array left) from (one_finalizers left (texts_left o (finalizers held) (texts_held (metadata_of held) m)) some)
-    (neat_deletion (is_being_deleted held) (has_generation k.kind) moment held now.0 m) in
-    let order : IsOrdered meta = IsOrdered-put (codes "finalizers") (array left) from (ordered_deletion (is_being_deleted held) (has_generation k.kind) moment held a) in
+    (neat_deletion (is_being_deleted held) (has_generation k.kind) moment held (filled_long moment now.0) m) in
     let stored_so : IsStored k r (at_revision r meta held) =
-    stored_in k r meta held w neat order (says_marked k s moment left held was) low (marked_fits k.kind moment now.1 held a was.room r o low) (room_marked k.kind moment now.1 held a was.room r o) in
+    stored_in k r meta held w neat was.parsed (marked_meta k.kind moment o held was.parsed) (says_marked k s moment left held was) low (marked_fits k.kind moment now.1 held a was.room r o low) (room_marked k.kind moment now.1 held a was.room r o) in
     subst (IsStored k r) (sym (marked_at k.kind r moment left held)) stored_so
 
 by_fated : (k : Name) (code : ℕ) (held : Data) (r : ℕ) (none known : Bool) (d : Data) → (none ≡ false → r + 1 ≤ 9007199254740991 → IsStored k (r + 1) (at_revision (r + 1) (metadata_of d) d))
@@ -261,8 +257,8 @@ by_delete k o ms r moment now held =
 pub stores : (q : Request) (h : History) (moment : List ℕ) → IsAsked q → IsTime moment → ((k : Name) → IfSome (found k (members h (present h))) (IsHeld k)) → Stores (present h + 1) (accept q h moment)
 stores (get_object k) h moment asked now held = there (Stores (present h + 1)) (λ f. tt) k shown (found k (members h (present h))) (λ d is. tt)
 stores (list_objects v) h moment asked now held = tt
-stores (create_object kind ns d) h moment asked now held = by_create kind ns d (members h (present h)) (present h) moment asked.0 now.0 asked.1
+stores (create_object kind ns d) h moment asked now held = by_create kind ns d (members h (present h)) (present h) moment (filled_namespace ns asked.0) (filled_long moment now.0) asked.1
 stores (update_object k d) h moment asked now held = by_update k d (said k.kind d) (members h (present h)) (present h) refl asked (held k)
 stores (update_status k d) h moment asked now held = by_status k d (reading k.kind d) (members h (present h)) (present h) refl asked (held k)
-stores (patch_object k d) h moment asked now held = by_patch k d (members h (present h)) (present h) (held k)
+stores (patch_object k d) h moment asked now held = by_patch k d (members h (present h)) (present h) asked (held k)
 stores (delete_object k o) h moment asked now held = by_delete k o (members h (present h)) (present h) moment now (held k)

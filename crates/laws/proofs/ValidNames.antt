@@ -13,7 +13,7 @@ use Rattle.laws.proofs.EachWrite.{AllPut, put_write, there_put}
 use Rattle.laws.proofs.VerbLaws.{found-state}
 use Rattle.definitions.specs.Reached.{IsAsked}
 use Rattle.laws.specs.ParsedLaws.{NamesAreValid}
-use Rattle.laws.proofs.Reaching.{by_asked}
+use Rattle.laws.proofs.Reaching.{by_reached}
 use Rattle.laws.proofs.SentObjects.{created_valid}
 
 abbrev IsValid : Name → Type 0
@@ -48,6 +48,6 @@ IsValidAt k d = IsValid k
 pub names_valid : NamesAreValid
 names_valid h r k d reached is =
     there_put IsValidAt h r k d
-    (by_asked (λ h. AllPut IsValidAt (writes h))
-    (λ q h moment asked a. put_write IsValidAt h (write_of (accept q h moment)) (valid_by h moment (λ k d is. there_put IsValidAt h (present h) k d a is) q asked) a)
+    (by_reached (λ h. AllPut IsValidAt (writes h))
+    (λ q h moment asked t a. put_write IsValidAt h (write_of (accept q h moment)) (valid_by h moment (λ k d is. there_put IsValidAt h (present h) k d a is) q asked) a)
     (same_writes (AllPut IsValidAt)) h reached tt) is

@@ -1,0 +1,126 @@
+-- What is made of objects as a parser gives them, new, in the place of another or marked, is so too.
+use Rattle.std.proofs.Common.{ℕ, List, [], ◌∷◌, Bool, true, false, cond, codes, decimal, IfSome, Option, Some, None, option_and_then, unwrap_or}
+use Rattle.serde_json.specs.Data.{Data, null, boolean, number, string, array, object, Items, no_items, item, Members, put}
+use Rattle.serde_json.specs.Find.{get, get_member, as_array}
+use Rattle.definitions.specs.declared.kinds.Kind.{Kind}
+use Rattle.definitions.specs.declared.kinds.Kind.TheVariants.{ConfigMap, Pod, ReplicaSet, Deployment}
+use Rattle.definitions.specs.declared.policies.Policy.{Policy}
+use Rattle.definitions.specs.declared.policies.Policy.TheVariants.{Orphan, Foreground, Background}
+use Rattle.definitions.specs.Checks.{finalizers}
+use Rattle.definitions.specs.Defaults.{whole}
+use Rattle.definitions.specs.Deletion.{left_by, with_deletion, others_then, of_policy, are_of, is_of_policy}
+use Rattle.definitions.specs.Kinds.{has_generation}
+use Rattle.definitions.specs.Metadata.{metadata, metadata_of, with_metadata, at_revision, is_being_deleted}
+use Rattle.definitions.specs.NewObjects.{new_metadata, first_status, with_status}
+use Rattle.definitions.specs.Replacements.{as_held, keeping, kept, kept_of, in_place, said_status, with_said_status, with_next_generation, next_generation, generation}
+use Rattle.definitions.specs.Uids.{uid_text, cluster_word}
+use Rattle.definitions.specs.Values.{members_of, without}
+use Rattle.definitions.specs.Reached.{IsParsed, AreParsed}
+use Rattle.laws.proofs.Parsed.{Both, joined, inside, Both-put, Both-without, found as found_at, found_in, inner}
+
+-- ---- objects with other members
+
+pub meta : (d : Data) → IsParsed d → Both (metadata_of d)
+meta d p = inner (get (codes "metadata") d) (found_at (codes "metadata") d p)
+
+pub with_meta : (ms : Members) (d : Data) → Both ms → IsParsed d → IsParsed (with_metadata ms d)
+with_meta ms d b p = joined (put (codes "metadata") (object ms) (members_of d)) (Both-put (codes "metadata") (object ms) (members_of d) (joined ms b) (inside d p))
+
+pub at : (r : ℕ) (ms : Members) (d : Data) → Both ms → IsParsed d → IsParsed (at_revision r ms d)
+at r ms d b p = with_meta (put (codes "resourceVersion") (string (decimal r)) ms) d (Both-put (codes "resourceVersion") (string (decimal r)) ms tt b) p
+
+both_if : (b : Bool) (x y : Members) → Both x → Both y → Both (cond b x y)
+both_if true x y p q = p
+both_if false x y p q = q
+
+-- ---- new objects
+
+first : (k : Kind) → IfSome (first_status k) IsParsed
+first ConfigMap = tt
+first Pod = (tt, tt, tt)
+first ReplicaSet = (tt, tt, tt)
+first Deployment = tt
+
+status_put : (s : Option Data) (ms : Members) → IfSome s IsParsed → Both ms → Both (with_status s ms)
+status_put None ms h b = b
+status_put (Some d) ms h b = Both-put (codes "status") d ms h b
+
+pub new_meta : (k : Kind) (r : ℕ) (ns named moment : List ℕ) (ms : Members) → Both ms → Both (new_metadata k r ns named moment ms)
+new_meta k r ns named moment ms b =
+    let left = without (codes "deletionTimestamp") ms in
+    let c : Both left = Both-without (codes "deletionTimestamp") ms b in
+    Both-put (codes "uid") (string (uid_text cluster_word r)) _ tt
+    (Both-put (codes "creationTimestamp") (string moment) _ tt
+    (Both-put (codes "namespace") (string ns) _ tt
+    (Both-put (codes "name") (string named) _ tt (both_if (has_generation k) (put (codes "generation") (whole 1) left) left (Both-put (codes "generation") (whole 1) left tt c) c))))
+
+pub new_members : (k : Kind) (o : Data) → IsParsed o → IsParsed (object (with_status (first_status k) (members_of o)))
+new_members k o p = joined (with_status (first_status k) (members_of o)) (status_put (first_status k) (members_of o) (first k) (inside o p))
+
+-- ---- in the place of another
+
+pub held_put : (k : List ℕ) (o : Option Data) (ms : Members) → IfSome o IsParsed → Both ms → Both (as_held k o ms)
+held_put k None ms h b = Both-without k ms b
+held_put k (Some d) ms h b = Both-put k d ms h b
+
+pub keeps : (ks : List (List ℕ)) (held ms : Members) → Both held → Both ms → Both (keeping ks held ms)
+keeps [] held ms h b = b
+keeps (k ∷ ks) held ms h b = keeps ks held (as_held k (get_member k held) ms) h (held_put k (get_member k held) ms (found_in k held h) b)
+
+pub placed : (k : Kind) (held o : Data) → IsParsed held → IsParsed o → IsParsed (in_place k held o)
+placed k held o h p =
+    let ms = keeping (kept_of k) (members_of held) (members_of o) in
+    with_meta (keeping kept (metadata_of held) (metadata_of o)) (object ms) (keeps kept (metadata_of held) (metadata_of o) (meta held h) (meta o p))
+    (joined ms (keeps (kept_of k) (members_of held) (members_of o) (inside held h) (inside o p)))
+
+pub counted : (b : Bool) (held : Data) (ms : Members) → Both ms → Both (with_next_generation b held ms)
+counted b held ms m = both_if b (put (codes "generation") (whole (next_generation (generation held))) ms) ms (Both-put (codes "generation") (whole (next_generation (generation held))) ms tt m) m
+
+status_said : (k : Kind) (o : Option Data) → IfSome o IsParsed → IfSome (said_status k o) IsParsed
+status_said k None h = first k
+status_said k (Some d) h = h
+
+pub restated : (k : Kind) (held o : Data) → IsParsed held → IsParsed o → IsParsed (with_said_status k held o)
+restated k held o h p =
+    let s = said_status k (get (codes "status") o) in
+    joined (with_status s (members_of held)) (status_put s (members_of held) (status_said k (get (codes "status") o) (found_at (codes "status") o p)) (inside held h))
+
+-- ---- marks
+
+items_of_some : (o : Option Data) → IfSome o IsParsed → AreParsed (unwrap_or (option_and_then as_array o) no_items)
+items_of_some None h = tt
+items_of_some (Some null) h = tt
+items_of_some (Some (boolean b)) h = tt
+items_of_some (Some (number n)) h = tt
+items_of_some (Some (string s)) h = tt
+items_of_some (Some (array ds)) h = h
+items_of_some (Some (object ms)) h = tt
+
+items_if : (b : Bool) (x y : Items) → AreParsed x → AreParsed y → AreParsed (cond b x y)
+items_if true x y p q = p
+items_if false x y p q = q
+
+others : (last ds : Items) → AreParsed last → AreParsed ds → AreParsed (others_then last ds)
+others last no_items l h = l
+others last (item d ds) l h = items_if (is_of_policy d) (others_then last ds) (item d (others_then last ds)) (others last ds l h.1) (h.0, others last ds l h.1)
+
+policy_items : (p : Policy) → AreParsed (of_policy p)
+policy_items Orphan = (tt, tt)
+policy_items Foreground = (tt, tt)
+policy_items Background = tt
+
+left_items : (o : Option Policy) (ds : Items) → AreParsed ds → AreParsed (left_by o ds)
+left_items None ds h = h
+left_items (Some p) ds h = items_if (are_of p ds) ds (others_then (of_policy p) ds) h (others (of_policy p) ds (policy_items p) h)
+
+-- the metadata of a mark
+pub marked_meta : (k : Kind) (moment : List ℕ) (o : Option Policy) (held : Data) → IsParsed held
+    → Both (put (codes "finalizers") (array (left_by o (finalizers held))) (with_deletion k moment held))
+marked_meta k moment o held h =
+    let left = left_by o (finalizers held) in
+    let ds : AreParsed left = left_items o (finalizers held) (items_of_some (metadata (codes "finalizers") held) (found_in (codes "finalizers") (metadata_of held) (meta held h))) in
+    let rising = with_next_generation (has_generation k) held (metadata_of held) in
+    let deleted : Both (with_deletion k moment held) =
+    both_if (is_being_deleted held) (metadata_of held) (put (codes "deletionTimestamp") (string moment) rising) (meta held h)
+    (Both-put (codes "deletionTimestamp") (string moment) rising tt (counted (has_generation k) held (metadata_of held) (meta held h))) in
+    Both-put (codes "finalizers") (array left) (with_deletion k moment held) ds deleted
