@@ -9,41 +9,37 @@ use Rattle.definitions.specs.declared.kinds.Kind.{Kind}
 use Rattle.definitions.specs.declared.kinds.Kind.TheVariants.{ConfigMap, Pod, ReplicaSet, Deployment}
 use Rattle.definitions.specs.declared.schemas.Schema.{Schema}
 use Rattle.definitions.specs.Kinds.{api_version, kind_text}
+use Rattle.definitions.specs.Reached.{IsBefore}
 use Rattle.definitions.specs.Reading.{is_absent, tidied, tidied_members, empty}
 use Rattle.definitions.specs.Schemas.{member_at}
 use Rattle.definitions.specs.Values.{without}
 use Rattle.laws.proofs.ReadAgain.{same_name, defaulted, spec_members, filled_members}
 
--- a name below each of these
-abbrev pub IsBelow : List ℕ → Members → Type 0
-IsBelow k no_members = Unit {0}
-IsBelow k (member l e ms) = (slice_cmp nat_cmp k l ≡ Less) × IsBelow k ms
-
 abbrev pub IsOrdered : Members → Type 0
 IsOrdered no_members = Unit {0}
-IsOrdered (member k d ms) = IsBelow k ms × IsOrdered ms
+IsOrdered (member k d ms) = IsBefore k ms × IsOrdered ms
 
-below_all : (j k : List ℕ) (ms : Members) → slice_cmp nat_cmp j k ≡ Less → IsBelow k ms → IsBelow j ms
+below_all : (j k : List ℕ) (ms : Members) → slice_cmp nat_cmp j k ≡ Less → IsBefore k ms → IsBefore j ms
 below_all j k no_members h b = tt
 below_all j k (member l e ms) h b = (nat_list_cmp_total.trans j k l h b.0, below_all j k ms h b.1)
 
 -- ---- what is put
 
-below_at : (j k l : List ℕ) (d e : Data) (ms : Members) (o : Ordering) → slice_cmp nat_cmp j k ≡ Less → IsBelow j (member l e ms) → IsBelow j (put k d ms)
-    → IsBelow j (match_ordering o (member k d (member l e ms)) (member l d ms) (member l e (put k d ms)))
+below_at : (j k l : List ℕ) (d e : Data) (ms : Members) (o : Ordering) → slice_cmp nat_cmp j k ≡ Less → IsBefore j (member l e ms) → IsBefore j (put k d ms)
+    → IsBefore j (match_ordering o (member k d (member l e ms)) (member l d ms) (member l e (put k d ms)))
 below_at j k l d e ms Less h b later = (h, b)
 below_at j k l d e ms Equal h b later = b
 below_at j k l d e ms Greater h b later = (b.0, later)
 
-IsBelow-put : (j k : List ℕ) (d : Data) (ms : Members) → slice_cmp nat_cmp j k ≡ Less → IsBelow j ms → IsBelow j (put k d ms)
-IsBelow-put j k d no_members h b = (h, tt)
-IsBelow-put j k d (member l e ms) h b = below_at j k l d e ms (slice_cmp nat_cmp k l) h b (IsBelow-put j k d ms h b.1)
+IsBefore-put : (j k : List ℕ) (d : Data) (ms : Members) → slice_cmp nat_cmp j k ≡ Less → IsBefore j ms → IsBefore j (put k d ms)
+IsBefore-put j k d no_members h b = (h, tt)
+IsBefore-put j k d (member l e ms) h b = below_at j k l d e ms (slice_cmp nat_cmp k l) h b (IsBefore-put j k d ms h b.1)
 
 ordered_at : (k l : List ℕ) (d e : Data) (ms : Members) (o : Ordering) → slice_cmp nat_cmp k l ≡ o → IsOrdered (member l e ms) → IsOrdered (put k d ms)
     → IsOrdered (match_ordering o (member k d (member l e ms)) (member l d ms) (member l e (put k d ms)))
 ordered_at k l d e ms Less is a later = ((is, below_all k l ms is a.0), a)
 ordered_at k l d e ms Equal is a later = a
-ordered_at k l d e ms Greater is a later = (IsBelow-put l k d ms (nat_list_cmp_total.antisymm l k ∙ ap ordering_reverse is) a.0, later)
+ordered_at k l d e ms Greater is a later = (IsBefore-put l k d ms (nat_list_cmp_total.antisymm l k ∙ ap ordering_reverse is) a.0, later)
 
 pub IsOrdered-put : (k : List ℕ) (d : Data) (ms : Members) → IsOrdered ms → IsOrdered (put k d ms)
 IsOrdered-put k d no_members a = (tt, tt)
@@ -51,41 +47,41 @@ IsOrdered-put k d (member l e ms) a = ordered_at k l d e ms (slice_cmp nat_cmp k
 
 -- ---- what is left out
 
-below_cond : (b : Bool) (j l : List ℕ) (e : Data) (ms : Members) → slice_cmp nat_cmp j l ≡ Less → IsBelow j ms → IsBelow j (cond b ms (member l e ms))
+below_cond : (b : Bool) (j l : List ℕ) (e : Data) (ms : Members) → slice_cmp nat_cmp j l ≡ Less → IsBefore j ms → IsBefore j (cond b ms (member l e ms))
 below_cond true j l e ms h a = a
 below_cond false j l e ms h a = (h, a)
 
-ordered_cond : (b : Bool) (l : List ℕ) (e : Data) (ms : Members) → IsBelow l ms → IsOrdered ms → IsOrdered (cond b ms (member l e ms))
+ordered_cond : (b : Bool) (l : List ℕ) (e : Data) (ms : Members) → IsBefore l ms → IsOrdered ms → IsOrdered (cond b ms (member l e ms))
 ordered_cond true l e ms h a = a
 ordered_cond false l e ms h a = (h, a)
 
-IsBelow-tidied : (p : Schema) (j : List ℕ) (ms : Members) → IsBelow j ms → IsBelow j (tidied_members p ms)
-IsBelow-tidied p j no_members a = tt
-IsBelow-tidied p j (member l e ms) a =
+IsBefore-tidied : (p : Schema) (j : List ℕ) (ms : Members) → IsBefore j ms → IsBefore j (tidied_members p ms)
+IsBefore-tidied p j no_members a = tt
+IsBefore-tidied p j (member l e ms) a =
     let left = tidied (member_at p l).shape e in
-    below_cond (is_absent (member_at p l) left) j l left (tidied_members p ms) a.0 (IsBelow-tidied p j ms a.1)
+    below_cond (is_absent (member_at p l) left) j l left (tidied_members p ms) a.0 (IsBefore-tidied p j ms a.1)
 
 pub IsOrdered-tidied : (p : Schema) (ms : Members) → IsOrdered ms → IsOrdered (tidied_members p ms)
 IsOrdered-tidied p no_members a = tt
 IsOrdered-tidied p (member l e ms) a =
     let left = tidied (member_at p l).shape e in
-    ordered_cond (is_absent (member_at p l) left) l left (tidied_members p ms) (IsBelow-tidied p l ms a.0) (IsOrdered-tidied p ms a.1)
+    ordered_cond (is_absent (member_at p l) left) l left (tidied_members p ms) (IsBefore-tidied p l ms a.0) (IsOrdered-tidied p ms a.1)
 
-below_without : (b : Bool) (j l : List ℕ) (e : Data) (ms left : Members) → IsBelow j (member l e ms) → IsBelow j left → IsBelow j (cond b ms (member l e left))
+below_without : (b : Bool) (j l : List ℕ) (e : Data) (ms left : Members) → IsBefore j (member l e ms) → IsBefore j left → IsBefore j (cond b ms (member l e left))
 below_without true j l e ms left a later = a.1
 below_without false j l e ms left a later = (a.0, later)
 
-IsBelow-without : (j k : List ℕ) (ms : Members) → IsBelow j ms → IsBelow j (without k ms)
-IsBelow-without j k no_members a = tt
-IsBelow-without j k (member l e ms) a = below_without (is_eq (slice_cmp nat_cmp k l)) j l e ms (without k ms) a (IsBelow-without j k ms a.1)
+IsBefore-without : (j k : List ℕ) (ms : Members) → IsBefore j ms → IsBefore j (without k ms)
+IsBefore-without j k no_members a = tt
+IsBefore-without j k (member l e ms) a = below_without (is_eq (slice_cmp nat_cmp k l)) j l e ms (without k ms) a (IsBefore-without j k ms a.1)
 
-ordered_without : (b : Bool) (l : List ℕ) (e : Data) (ms left : Members) → IsOrdered (member l e ms) → IsBelow l left → IsOrdered left → IsOrdered (cond b ms (member l e left))
+ordered_without : (b : Bool) (l : List ℕ) (e : Data) (ms left : Members) → IsOrdered (member l e ms) → IsBefore l left → IsOrdered left → IsOrdered (cond b ms (member l e left))
 ordered_without true l e ms left a h later = a.1
 ordered_without false l e ms left a h later = (h, later)
 
 pub IsOrdered-without : (k : List ℕ) (ms : Members) → IsOrdered ms → IsOrdered (without k ms)
 IsOrdered-without k no_members a = tt
-IsOrdered-without k (member l e ms) a = ordered_without (is_eq (slice_cmp nat_cmp k l)) l e ms (without k ms) a (IsBelow-without l k ms a.0) (IsOrdered-without k ms a.1)
+IsOrdered-without k (member l e ms) a = ordered_without (is_eq (slice_cmp nat_cmp k l)) l e ms (without k ms) a (IsBefore-without l k ms a.0) (IsOrdered-without k ms a.1)
 
 -- ---- what is filled in
 
@@ -111,11 +107,11 @@ IsOrdered-filled k ms a =
 
 -- ---- what was taken out and is put back
 
-get_below : (k : List ℕ) (ms : Members) → IsBelow k ms → get_member k ms ≡ None
+get_below : (k : List ℕ) (ms : Members) → IsBefore k ms → get_member k ms ≡ None
 get_below k no_members b = refl
 get_below k (member l e ms) b = rw b.0 (get_below k ms b.1)
 
-put_below : (k : List ℕ) (d : Data) (ms : Members) → IsBelow k ms → put k d ms ≡ member k d ms
+put_below : (k : List ℕ) (d : Data) (ms : Members) → IsBefore k ms → put k d ms ≡ member k d ms
 put_below k d no_members b = refl
 put_below k d (member l e ms) b = rw b.0 refl
 

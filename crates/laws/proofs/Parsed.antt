@@ -20,17 +20,13 @@ use Rattle.definitions.specs.Reading.{is_absent, schema_of, item_of, tidied, tid
 use Rattle.definitions.specs.Schemas.{member_at}
 use Rattle.definitions.specs.Values.{members_of, inner_of, without, found_or_null, is_null, merged, merged_members, with_member, with_default}
 use Rattle.definitions.specs.Verbs.{said, with_defaults}
-use Rattle.laws.proofs.JsonOrder.{IsBelow, IsOrdered, IsOrdered-put, IsOrdered-without, IsOrdered-tidied, IsOrdered-filled}
+use Rattle.laws.proofs.JsonOrder.{IsOrdered, IsOrdered-put, IsOrdered-without, IsOrdered-tidied, IsOrdered-filled}
 use Rattle.laws.proofs.NeatMembers.{opens}
 use Rattle.laws.proofs.ReadAgain.{defaulted, spec_members, filled_members}
 use Rattle.definitions.proofs.FirstStatus.{get-members_of}
-use Rattle.definitions.specs.Reached.{IsBefore, AreInOrder, IsParsed, AreParsed}
+use Rattle.definitions.specs.Reached.{AreInOrder, IsParsed, AreParsed}
 
 -- ---- order, and what stands in it
-
-before_to : (k : List ℕ) (ms : Members) → IsBefore k ms → IsBelow k ms
-before_to k no_members h = tt
-before_to k (member l d ms) h = (h.0, before_to k ms h.1)
 
 abbrev pub All : Members → Type 0
 All no_members = Unit {0}
@@ -39,17 +35,13 @@ All (member k d ms) = IsParsed d × All ms
 abbrev pub Both : Members → Type 0
 Both ms = IsOrdered ms × All ms
 
-before_from : (k : List ℕ) (ms : Members) → IsBelow k ms → IsBefore k ms
-before_from k no_members h = tt
-before_from k (member l d ms) h = (h.0, before_from k ms h.1)
-
 pub parts : (ms : Members) → AreInOrder ms → Both ms
 parts no_members h = (tt, tt)
-parts (member k d ms) h = let more = parts ms h.2 in ((before_to k ms h.0, more.0), (h.1, more.1))
+parts (member k d ms) h = let more = parts ms h.2 in ((h.0, more.0), (h.1, more.1))
 
 pub joined : (ms : Members) → Both ms → AreInOrder ms
 joined no_members b = tt
-joined (member k d ms) b = (before_from k ms b.0.0, b.1.0, joined ms (b.0.1, b.1.1))
+joined (member k d ms) b = (b.0.0, b.1.0, joined ms (b.0.1, b.1.1))
 
 pub inside : (d : Data) → IsParsed d → Both (members_of d)
 inside null h = (tt, tt)
