@@ -38,7 +38,7 @@ use Rattle.definitions.specs.Reached.{IsParsed, IsAsked, IsTime}
 use Rattle.laws.proofs.Parsed.{parsed_said, parsed_reading, parsed_merged}
 use Rattle.laws.proofs.ParsedObjects.{meta as meta_of, new_meta, new_members, placed, counted, restated, marked_meta}
 use Rattle.laws.proofs.TextLengths.{put_twice}
-use Rattle.laws.proofs.VerbLaws.{text-with_deletion}
+use Rattle.laws.proofs.VerbLaws.{kept_is, text-with_deletion}
 use Rattle.definitions.proofs.FirstStatus.{get-members_of}
 use Rattle.laws.proofs.WholeObjects.{AreWhole, may_first, neat_metadata, whole_in_place, whole_read, whole_said, whole_status, whole_with_said}
 use Rattle.laws.proofs.SentObjects.{IsStored, IsHeld, Says, stored_in, stored_at, whole_stored, filled_new, neat_generation, neat_new, filled_long, Stores, low_after, either_false, behind, behind_field, by_if_same, by_put}
@@ -85,10 +85,6 @@ path_named false k (Some t) h = same_at (bytes_eq k t) k t refl h
 kept_some : (o new : Option (List ℕ)) → is_some o ≡ true → IfSome o (λ t. new ≡ Some t) → is_some new ≡ true
 kept_some None new h k = cc
 kept_some (Some t) new h k = ap is_some k
-
-kept_is : (o new : Option (List ℕ)) (t : List ℕ) → o ≡ Some t → IfSome o (λ s. new ≡ Some s) → new ≡ Some t
-kept_is None new t h k = cc
-kept_is (Some s) new t h k = k ∙ h
 
 -- what stands in the place of an object says what it said
 says_in_place : (k : Name) (s : ℕ) (held o : Data) (is_new : Bool) → IsStored k s held → not (names_path k o) ≡ false → Says k (with_next_generation is_new held (metadata_of (in_place k.kind held o)))

@@ -16,7 +16,8 @@ use Rattle.laws.proofs.Past.{last_of-append, whole, writes-append}
 use Rattle.definitions.proofs.PutLaws.{same_name}
 use Rattle.laws.proofs.Removals.{stand as stands_on}
 use Rattle.definitions.proofs.Uids.{held}
-use Rattle.laws.proofs.VerbLaws.{found-state, none_from, identity}
+use Rattle.laws.proofs.UidsOnce.{one_text}
+use Rattle.laws.proofs.VerbLaws.{kept_is, found-state, none_from, identity}
 use Rattle.definitions.specs.Reached.{IsReached}
 use Rattle.laws.specs.IdentityLaws.{UidsTellCreates, UidsAreGivenOnce, DeletionsStand}
 use Rattle.laws.proofs.Limited.{limited}
@@ -124,10 +125,6 @@ stays (Some t) = refl
 kept_twice : (a b c : Option (List ℕ)) → IfSome a (λ t. b ≡ Some t) → IfSome b (λ t. c ≡ Some t) → IfSome a (λ t. c ≡ Some t)
 kept_twice None b c h k = tt
 kept_twice (Some t) b c h k = subst (λ o. IfSome o (λ u. c ≡ Some u)) h k
-
-kept_is : (o new : Option (List ℕ)) (t : List ℕ) → o ≡ Some t → IfSome o (λ s. new ≡ Some s) → new ≡ Some t
-kept_is None new t h k = cc
-kept_is (Some s) new t h k = k ∙ h
 
 -- no later than n, or just after it
 one_of : {r : ℕ} (b : Bool) (s n : ℕ) → nat_le s n ≡ b → s ≤ n + 1 → r ≡ n + 1 → (s ≤ n) ⊎ (s ≡ r)
@@ -237,9 +234,6 @@ same_create : (c b n : ℕ) (u v : Option (List ℕ)) → n ≤ 9007199254740991
 same_create c b n u v low lc lb same is as_well =
     let one : uid_text cluster_word c ≡ uid_text cluster_word b = one_text (uid_text cluster_word c) (uid_text cluster_word b) (sym is ∙ same ∙ as_well) in
     sym (held cluster_word c (omega (arith, lc, low))) ∙ ap uid_revision one ∙ held cluster_word b (omega (arith, lb, low))
-  where
-    one_text : (s t : List ℕ) → Some s ≡ Some t → s ≡ t
-    one_text s t is = cc
 
 pub once : UidsAreGivenOnce
 once h r s k l d e reached lr ls at as_well same =

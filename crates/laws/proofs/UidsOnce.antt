@@ -1,33 +1,35 @@
 -- The uid of a new object is that of no object that was ever there.
-use Rattle.std.proofs.Common.{◌≡◌, ◌≤◌, ◌+◌, ◌-◌, ℕ, List, [], ◌∷◌, ◌++◌, length, Bool, true, false, cond, codes, IfSome, Option, Some, None, arith, refl, sym, subst, ap, ◌∙◌}
+use Rattle.std.proofs.Common.{◌≡◌, ◌≤◌, ◌+◌, ℕ, List, [], ◌∷◌, length, codes, IfSome, Option, Some, None, arith, refl, sym, subst, ap, ◌∙◌}
 use Rattle.serde_json.specs.Data.{Data}
 use Rattle.definitions.specs.Checks.{finalizers}
 use Rattle.definitions.specs.Deletion.{left_by, marked}
-use Rattle.definitions.specs.History.{History, Write, write, writes, found, last_of, members, present, up_to}
+use Rattle.definitions.specs.History.{History, Write, writes, found, members, present}
 use Rattle.laws.specs.HistoryLaws.{OfStored, KeepsText}
 use Rattle.laws.specs.LifecycleLaws.{NoneHas, NewUidsAreUnused}
 use Rattle.definitions.specs.Reached.{IsReached}
 use Rattle.definitions.specs.Metadata.{metadata_of, uid, at_revision}
-use Rattle.definitions.specs.Names.{Name, is_named}
+use Rattle.definitions.specs.Names.{Name}
 use Rattle.definitions.specs.Replacements.{in_place, updated, with_said_status}
 use Rattle.definitions.specs.Uids.{uid_text, uid_revision, cluster_word}
 use Rattle.definitions.specs.Verbs.{Request, accept, new_name, said, with_write, write_of}
 use Rattle.laws.proofs.Cases.{of_accept, of_create}
+use Rattle.laws.proofs.EachWrite.{AllPut, put_write, there_put}
 use Rattle.laws.proofs.HeldMembers.{uid-created}
 use Rattle.laws.proofs.Limited.{limited}
-use Rattle.laws.proofs.Past.{whole, writes-append}
 use Rattle.laws.proofs.Compacted.{same_writes}
 use Rattle.laws.proofs.Reaching.{by_reached}
 use Rattle.definitions.proofs.Uids.{held}
-use Rattle.laws.proofs.VerbLaws.{found-state, kept_in_place, present-write, text-marked, text-restated}
+use Rattle.laws.proofs.VerbLaws.{kept_is, found-state, kept_in_place, present-write, text-marked, text-restated}
 
 -- an object whose uid is that of a create up to a revision
 abbrev IsBorn : ℕ → Data → Type 0
 IsBorn n d = (r : ℕ) × (uid d ≡ Some (uid_text cluster_word r)) × (r ≤ n)
 
+abbrev IsBornAt : ℕ → Name → Data → Type 0
+IsBornAt n k d = IsBorn n d
+
 abbrev AreBorn : ℕ → List Write → Type 0
-AreBorn n [] = Unit {0}
-AreBorn n (w ∷ ws) = IfSome w.put (IsBorn n) × AreBorn n ws
+AreBorn n ws = AllPut (IsBornAt n) ws
 
 later_one : (n m : ℕ) (o : Option Data) → n ≤ m → IfSome o (IsBorn n) → IfSome o (IsBorn m)
 later_one n m None le b = tt
@@ -37,28 +39,9 @@ later_all : (n m : ℕ) (ws : List Write) → n ≤ m → AreBorn n ws → AreBo
 later_all n m [] le b = tt
 later_all n m (w ∷ ws) le b = (later_one n m w.put le b.0, later_all n m ws le b.1)
 
-born_append : (n : ℕ) (ws : List Write) (w : Write) → AreBorn n ws → IfSome w.put (IsBorn n) → AreBorn n (ws ++ w ∷ [])
-born_append n [] w b last = (last, tt)
-born_append n (v ∷ ws) w b last = (b.0, born_append n ws w b.1 last)
-
-either_born : (b : Bool) (n : ℕ) (x y : Option Data) → IfSome x (IsBorn n) → IfSome y (IsBorn n) → IfSome (cond b x y) (IsBorn n)
-either_born true n x y p q = p
-either_born false n x y p q = q
-
-last_born : (n : ℕ) (k : Name) (ws : List Write) (before : Option Data) → IfSome before (IsBorn n) → AreBorn n ws → IfSome (last_of before k ws) (IsBorn n)
-last_born n k [] before h b = h
-last_born n k (w ∷ ws) before h b = last_born n k ws (cond (is_named k w.key) w.put before) (either_born (is_named k w.key) n w.put before b.0 h) b.1
-
 -- what is there was born
 found_born : (h : History) (k : Name) (d : Data) → AreBorn (present h) (writes h) → found k (members h (present h)) ≡ Some d → IsBorn (present h) d
-found_born h k d b at =
-    let all : up_to (present h) h ≡ writes h = whole (present h - 1) (writes h) (omega arith) in
-    let now : last_of None k (writes h) ≡ Some d = ap (last_of None k) (sym all) ∙ sym (found-state h k) ∙ at in
-    subst (λ o. IfSome o (IsBorn (present h))) now (last_born (present h) k (writes h) None tt b)
-
-kept_is : (o new : Option (List ℕ)) (t : List ℕ) → o ≡ Some t → IfSome o (λ s. new ≡ Some s) → new ≡ Some t
-kept_is None new t h k = cc
-kept_is (Some s) new t h k = k ∙ h
+found_born h k d b at = there_put (IsBornAt (present h)) h (present h) k d b (sym (found-state h k) ∙ at)
 
 -- who keeps the uid stays born
 born_kept : (n : ℕ) (was new : Data) → IsBorn n was → KeepsText (codes "uid") was new → IsBorn (n + 1) new
@@ -84,10 +67,13 @@ born_write : (h : History) (o : Option Write) → IfSome o (λ w. IfSome w.put (
 born_write h None v b = b
 born_write h (Some w) v b =
     subst (λ n. AreBorn n (writes (with_write h (Some w)))) (sym (present-write h w))
-    (subst (AreBorn (present h + 1)) (sym (writes-append h (write w ∷ []))) (born_append (present h + 1) (writes h) w (later_all (present h) (present h + 1) (writes h) (omega arith) b) v))
+    (put_write (IsBornAt (present h + 1)) h (Some w) v (later_all (present h) (present h + 1) (writes h) (omega arith) b))
 
 born : (h : History) → IsReached h → AreBorn (present h) (writes h)
 born h reached = by_reached (λ h. AreBorn (present h) (writes h)) (λ q h moment a t b. born_write h (write_of (accept q h moment)) (born_by q h moment b) b) (same_writes (λ ws. AreBorn (length ws + 1) ws)) h reached tt
+
+pub one_text : (s t : List ℕ) → Some s ≡ Some t → s ≡ t
+one_text s t is = cc
 
 -- a uid of an earlier create is another
 not_next : (n r : ℕ) (d : Data) → n ≤ 9007199254740991 → r ≤ n → uid d ≡ Some (uid_text cluster_word r) → uid d ≡ Some (uid_text cluster_word (n + 1)) → ⊥
@@ -95,9 +81,6 @@ not_next n r d low le is next =
     let one : uid_text cluster_word r ≡ uid_text cluster_word (n + 1) = one_text (uid_text cluster_word r) (uid_text cluster_word (n + 1)) (sym is ∙ next) in
     let same : r ≡ n + 1 = sym (held cluster_word r (omega (arith, le, low))) ∙ ap uid_revision one ∙ held cluster_word (n + 1) (omega (arith, low)) in
     absurd (omega (arith, same, le))
-  where
-    one_text : (s t : List ℕ) → Some s ≡ Some t → s ≡ t
-    one_text s t is = cc
 
 one_has_not : (n : ℕ) (o : Option Data) → n ≤ 9007199254740991 → IfSome o (IsBorn n) → IfSome o (λ d. uid d ≡ Some (uid_text cluster_word (n + 1)) → ⊥)
 one_has_not n None low b = tt

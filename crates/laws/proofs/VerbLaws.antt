@@ -206,3 +206,8 @@ identity q h moment =
     of_held (KeepsBoth (at_revision r (metadata_of d) d)) (state h (present h) k) held (sym (found-state h k) ∙ at)
     (text-marked (codes "uid") k.kind r moment (left_by o.policy (finalizers held)) held refl refl refl refl, text-marked (codes "creationTimestamp") k.kind r moment (left_by o.policy (finalizers held)) held refl refl refl refl))
     (λ k o held at none low. tt)
+
+-- who keeps a text that is there has it
+pub kept_is : (o new : Option (List ℕ)) (t : List ℕ) → o ≡ Some t → IfSome o (λ s. new ≡ Some s) → new ≡ Some t
+kept_is None new t h k = cc
+kept_is (Some s) new t h k = k ∙ h
