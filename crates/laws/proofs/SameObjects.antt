@@ -14,7 +14,9 @@ use Rattle.definitions.specs.Values.{members_of, inner_of, without}
 use Rattle.serde_json.proofs.Views.{get_member-put}
 use Rattle.definitions.proofs.JsonMembers.{metadata_of-with}
 use Rattle.laws.proofs.JsonOrder.{IsOrdered, put_back}
-use Rattle.laws.proofs.NestedOrder.{AreOrdered-get, HasOrders, orders_read}
+use Rattle.definitions.specs.Reached.{IsParsed}
+use Rattle.laws.proofs.Parsed.{inside, parsed_read}
+use Rattle.laws.proofs.ParsedObjects.{meta}
 use Rattle.laws.proofs.TextLengths.{put_same, put_twice}
 use Rattle.laws.proofs.VerbLaws.{metadata_of-status}
 
@@ -47,16 +49,8 @@ own_metadata (array ds) meta a h = cc
 own_metadata (object ms) meta a h =
     ap object (ap (λ o. put (codes "metadata") (object (inner_of o)) ms) h ∙ put_same (codes "metadata") (object meta) ms a h)
 
-ordered : (d : Data) → IsReadBack d → HasOrders d
-ordered d h = subst (λ o. IfSome o HasOrders) h.0 (orders_read (compact_text d))
-
-in_metadata : (d : Data) → HasOrders d → IsOrdered (metadata_of d)
-in_metadata null h = tt
-in_metadata (boolean b) h = tt
-in_metadata (number n) h = tt
-in_metadata (string s) h = tt
-in_metadata (array ds) h = tt
-in_metadata (object ms) h = AreOrdered-get (codes "metadata") ms h.1
+parsed : (d : Data) → IsReadBack d → IsParsed d
+parsed d h = subst (λ o. IfSome o IsParsed) h.0 (parsed_read (compact_text d))
 
 -- the version put back into an object without it
 abbrev with_version : Option Data → Data → Data
@@ -67,10 +61,10 @@ version_back d h =
     let k = codes "resourceVersion" in
     let o = metadata k d in
     let left = without k (metadata_of d) in
-    let whole : restored k o (metadata_of (without_version d)) ≡ metadata_of d = ap (restored k o) (metadata_of-with left d) ∙ restores k o (metadata_of d) (in_metadata d (ordered d h)) refl in
+    let whole : restored k o (metadata_of (without_version d)) ≡ metadata_of d = ap (restored k o) (metadata_of-with left d) ∙ restores k o (metadata_of d) (meta d (parsed d h)).0 refl in
     ap (λ m. with_metadata m (without_version d)) whole
     ∙ ap object (put_twice (codes "metadata") (object left) (object (metadata_of d)) (members_of d))
-    ∙ own_metadata d h.1 (ordered d h).0 h.2
+    ∙ own_metadata d h.1 (inside d (parsed d h)).0 h.2
 
 one_object : (d e : Data) → Some d ≡ Some e → d ≡ e
 one_object d e h = cc
