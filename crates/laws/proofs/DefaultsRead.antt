@@ -16,7 +16,7 @@ use Rattle.definitions.specs.Defaults.{whole, with_found, with_changed, rolling_
 use Rattle.definitions.specs.Schemas.{member_at}
 use Rattle.definitions.specs.Values.{with_default, is_null}
 use Rattle.definitions.specs.Reading.{fits, members_fit, tidied, tidied_members, is_absent, filled, is_body, empty, reading}
-use Rattle.laws.proofs.NoFloatsRead.{has_float-tidied, has_float-filled, has_float-is_body, both_true}
+use Rattle.definitions.proofs.NoFloatsRead.{has_float-tidied, has_float-filled, has_float-is_body, both_true}
 use Rattle.laws.proofs.ReadAgain.{IsTidy, MembersTidy, MembersTidy-tidied, members_fit-tidied, members_depth-tidied, Good, Good-of, same_name, Has, Has-put, Filled, filled_members, filled-object, Good-filled, Filled-filled, opened, settled}
 
 -- a member that fits, is tidy, is no deeper than n and has no float

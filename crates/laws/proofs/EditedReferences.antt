@@ -12,7 +12,7 @@ use Rattle.definitions.specs.Reading.{fits, items_fit, reading}
 use Rattle.definitions.specs.Values.{members_of}
 use Rattle.laws.specs.ParsedLaws.{IsFlag, AreEdited, none, left_out, as_it_was, set, ReferencesStayParsed, ReferencesReadAgain}
 use Rattle.laws.proofs.NeatMembers.{One, Neat, Neat-put, Neat-get, Neat-of, Neat-fits, Neat-tidy, Neat-depth, Neat-whole, Neat-good, Neat-metadata, Filled-put, one_metadata, opens}
-use Rattle.laws.proofs.NoFloatsRead.{both_true}
+use Rattle.definitions.proofs.NoFloatsRead.{both_true}
 use Rattle.laws.proofs.Parsed.{joined, inside, Both-put}
 use Rattle.laws.proofs.ReadAgain.{IsTidy, ItemsTidy, Filled, Filled-filled, filled_members, settled}
 

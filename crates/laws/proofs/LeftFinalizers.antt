@@ -12,7 +12,7 @@ use Rattle.definitions.specs.Deletion.{orphan, foreground, is_of_policy, of_poli
 use Rattle.definitions.specs.Reading.{fits, items_fit}
 use Rattle.definitions.specs.SelectorValues.{items_in}
 use Rattle.laws.proofs.NeatMembers.{Neat, Neat-get, One}
-use Rattle.laws.proofs.NoFloatsRead.{both_true}
+use Rattle.definitions.proofs.NoFloatsRead.{both_true}
 use Rattle.laws.proofs.ReadAgain.{ItemsTidy}
 use Rattle.definitions.proofs.EscapedTexts.{length-quoted}
 use Rattle.laws.proofs.TextLengths.{short_comma}

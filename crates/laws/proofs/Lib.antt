@@ -28,7 +28,6 @@ pub mod Looks
 pub mod MarkedObjects
 pub mod NamedVersions
 pub mod NeatMembers
-pub mod NoFloatsRead
 pub mod OnePage
 pub mod PageReplies
 pub mod Parsed

@@ -16,7 +16,7 @@ use Rattle.definitions.specs.Reading.{fits, members_fit, is_absent, reading, tid
 use Rattle.definitions.specs.Schemas.{member_at}
 use Rattle.definitions.specs.Values.{members_of, inner_of, without, is_null}
 use Rattle.definitions.specs.Replacements.{as_held, keeping}
-use Rattle.laws.proofs.NoFloatsRead.{has_float-tidied, has_float-filled, has_float-is_body, both_true}
+use Rattle.definitions.proofs.NoFloatsRead.{has_float-tidied, has_float-filled, has_float-is_body, both_true}
 use Rattle.laws.proofs.ReadAgain.{IsTidy, MembersTidy, MembersTidy-tidied, members_fit-tidied, members_depth-tidied, Good, Good-of, Good-filled, Has-put, Filled, HasSpec, filled_members, filled-object, opened, same_name}
 
 -- a member that may stand, nested no deeper than n

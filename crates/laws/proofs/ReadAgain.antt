@@ -22,7 +22,7 @@ use Rattle.definitions.specs.Kinds.{api_version, kind_text}
 use Rattle.definitions.specs.Schemas.{member_at}
 use Rattle.definitions.specs.Values.{with_default, is_null}
 use Rattle.definitions.specs.Reading.{fits, items_fit, members_fit, tidied, tidied_items, tidied_members, is_absent, item_of, schema_of, filled, with_spec, is_body, empty, reading, whole_of, IsSettled}
-use Rattle.laws.proofs.NoFloatsRead.{has_float-tidied, has_float-filled, has_float-is_body, both_true}
+use Rattle.definitions.proofs.NoFloatsRead.{has_float-tidied, has_float-filled, has_float-is_body, both_true}
 
 -- ---- tidy values
 

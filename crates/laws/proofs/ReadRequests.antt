@@ -23,7 +23,7 @@ use Rattle.definitions.specs.Verbs.{Request, create_object, update_object, updat
 use Rattle.definitions.specs.DeleteOptions.{Options}
 use Rattle.definitions.specs.History as history
 use Rattle.laws.proofs.Parsed.{parsed_read}
-use Rattle.laws.proofs.NoFloatsRead.{both_true}
+use Rattle.definitions.proofs.NoFloatsRead.{both_true}
 use Rattle.laws.proofs.Runs.{kept_asked, kept_watched, by_compaction}
 use Rattle.definitions.specs.Reached.{IsParsed, IsAsked, IsTime, IsReached, opened, asks, compacts}
 use Rattle.laws.specs.ReachedLaws.{RunsAreReached, RequestsAreAsked, MomentsAreTimes}

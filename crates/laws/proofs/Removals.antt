@@ -27,7 +27,7 @@ use Rattle.laws.proofs.CheckLaws.{all_met}
 use Rattle.laws.proofs.Guards.{there}
 use Rattle.laws.proofs.HeldMembers.{moved, text-at_revision, text-updated, deletion-in_place}
 use Rattle.definitions.proofs.JsonMembers.{apart, text_in, text_in-put_other, metadata_of-with}
-use Rattle.laws.proofs.NoFloatsRead.{both_true}
+use Rattle.definitions.proofs.NoFloatsRead.{both_true}
 use Rattle.laws.proofs.VerbLaws.{found-state, none_from, of_held, of_none, text-restated, metadata_of-status}
 
 -- ---- what a delete leaves

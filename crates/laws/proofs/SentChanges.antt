@@ -21,7 +21,7 @@ use Rattle.definitions.specs.Values.{members_of}
 use Rattle.laws.proofs.HeldMembers.{version-at_revision}
 use Rattle.definitions.proofs.JsonMembers.{text_in-put_other, metadata_text-with}
 use Rattle.laws.proofs.Limited.{limited}
-use Rattle.laws.proofs.NoFloatsRead.{both_true}
+use Rattle.definitions.proofs.NoFloatsRead.{both_true}
 use Rattle.laws.proofs.Played.{up_to-split}
 use Rattle.laws.proofs.ReadAgain.{opened}
 use Rattle.definitions.proofs.RevisionTexts.{revision_is}

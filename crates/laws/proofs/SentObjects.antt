@@ -30,7 +30,7 @@ use Rattle.laws.proofs.HeldMembers.{at_most, version-at_revision, text-at_revisi
 use Rattle.definitions.proofs.JsonMembers.{text_in, metadata_of-with}
 use Rattle.laws.proofs.MarkedObjects.{HasRoom, room_written}
 use Rattle.laws.proofs.NeatMembers.{Neat, Neat-put, Neat-without, IsFilled, One, one_text}
-use Rattle.laws.proofs.NoFloatsRead.{both_true}
+use Rattle.definitions.proofs.NoFloatsRead.{both_true}
 use Rattle.definitions.specs.Reached.{IsParsed}
 use Rattle.laws.proofs.Parsed.{Both}
 use Rattle.laws.proofs.ParsedObjects.{at}

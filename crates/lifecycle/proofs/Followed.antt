@@ -8,7 +8,7 @@ use Rattle.serde_json.specs.declared.value.Value.{Value}
 use Rattle.definitions.specs.declared.policies.Policy.{Policy}
 use Rattle.definitions.specs.declared.policies.Policy.TheVariants.{Orphan, Foreground, Background}
 use Rattle.definitions.specs.Deletion.{is_of_policy, of_policy, others_then}
-use Rattle.meta.proofs.NoFloats.{first_false, second_false, both_false}
+use Rattle.definitions.proofs.NoFloatsRead.{first_false, second_false, both_false}
 use Rattle.lifecycle.specs.Finalizers.{followed}
 
 pub followed-none : (ds : Items) → followed ds no_items ≡ ds

@@ -1,5 +1,5 @@
 -- What is set in values with no float, if it has none, leaves none.
-use Rattle.std.proofs.Common.{◌≡◌, List, ℕ, Bool, true, false, cond, codes, ◌||◌, Bor, Option, Some, None, IfSome, option_map, Result, Ok, Err, OnOk, OnErr, Ordering, Less, Equal, Greater, nat_cmp, is_eq, refl, ap, ◌∙◌}
+use Rattle.std.proofs.Common.{◌≡◌, List, ℕ, Bool, true, false, cond, codes, Bor, Option, Some, None, IfSome, option_map, Result, Ok, Err, OnOk, OnErr, Ordering, Less, Equal, Greater, nat_cmp, is_eq, refl, ap, ◌∙◌}
 use Rattle.std.specs.Cmp.Lexicographic.{slice_cmp}
 use Rattle.std.specs.Ordering.{match_ordering}
 use Rattle.serde_json.specs.Data.{Data, null, boolean, number, string, array, object, Members, no_members, member, put}
@@ -8,39 +8,9 @@ use Rattle.serde_json.specs.Written.{has_float, members_have_float}
 use Rattle.serde_json.specs.View.{view, members_view}
 use Rattle.serde_json.specs.declared.value.Value.{Value}
 use Rattle.serde_json.proofs.Views.{Entry}
+use Rattle.definitions.proofs.NoFloatsRead.{first_false, second_false, both_false, members_have_float-put}
 use Rattle.definitions.specs.Metadata.{metadata_of, metadata}
-use Rattle.definitions.specs.Values.{members_of, inner_of, with_member, without}
-
-pub first_false : (a b : Bool) → (a || b) ≡ false → a ≡ false
-first_false true b h = h
-first_false false b h = refl
-
-pub second_false : (a b : Bool) → (a || b) ≡ false → b ≡ false
-second_false true b h = cc
-second_false false b h = h
-
-pub both_false : (a b : Bool) → a ≡ false → b ≡ false → (a || b) ≡ false
-both_false a b h k = rw (h, k) refl
-
--- the members, with one that is put
-at_ordering : (o : Ordering) (a b c : Members) → members_have_float a ≡ false → members_have_float b ≡ false → members_have_float c ≡ false → members_have_float (match_ordering o a b c) ≡ false
-at_ordering Less a b c p q r = p
-at_ordering Equal a b c p q r = q
-at_ordering Greater a b c p q r = r
-
-pub members_have_float-put : (k : List ℕ) (d : Data) (ms : Members) → has_float d ≡ false → members_have_float ms ≡ false → members_have_float (put k d ms) ≡ false
-members_have_float-put k d no_members p q = both_false _ _ p refl
-members_have_float-put k d (member l e ms) p q =
-    at_ordering (slice_cmp nat_cmp k l) _ _ _ (both_false _ _ p q) (both_false _ _ p (second_false (has_float e) _ q))
-    (both_false _ _ (first_false (has_float e) _ q) (members_have_float-put k d ms p (second_false (has_float e) _ q)))
-
-pub has_float-with_member : (k : List ℕ) (d v : Data) → has_float d ≡ false → has_float v ≡ false → has_float (with_member k d v) ≡ false
-has_float-with_member k d null p q = refl
-has_float-with_member k d (boolean c) p q = refl
-has_float-with_member k d (number n) p q = q
-has_float-with_member k d (string s) p q = refl
-has_float-with_member k d (array ds) p q = q
-has_float-with_member k d (object ms) p q = members_have_float-put k d ms p q
+use Rattle.definitions.specs.Values.{members_of, inner_of, without}
 
 -- the members, without one
 without_at : (b : Bool) (a c : Members) → members_have_float a ≡ false → members_have_float c ≡ false → members_have_float (cond b a c) ≡ false

@@ -8,7 +8,8 @@ use Rattle.definitions.specs.declared.kinds.Kind.TheVariants.{ConfigMap, Pod, Re
 use Rattle.definitions.specs.Defaults.{whole, with_found, with_changed, rolling_defaults, is_rolling_update, with_rolling, strategy_defaults, replica_set_defaults, deployment_defaults, defaulted}
 use Rattle.definitions.specs.Reading.{empty}
 use Rattle.definitions.specs.Values.{with_member, with_default}
-use Rattle.meta.proofs.NoFloats.{no_float, get_no_float, has_float-with_member}
+use Rattle.definitions.proofs.NoFloatsRead.{has_float-with_member}
+use Rattle.meta.proofs.NoFloats.{no_float, get_no_float}
 
 either : (b : Bool) (d e : Data) → has_float d ≡ false → has_float e ≡ false → has_float (cond b d e) ≡ false
 either true d e p q = p

@@ -2,7 +2,8 @@ use Rattle.std.proofs.Common.{◌≡◌, true, false, ap, ◌∙◌, rules}
 use Rattle.serde_json.specs.View.{view}
 use Rattle.serde_json.specs.Written.{has_float}
 use Rattle.definitions.specs.Reading.{is_body, filled, tidied, whole_of}
-use Rattle.meta.proofs.Tidied.{has_float-tidied, has_float-filled, has_float-is_body, is_object, is_object-read}
+use Rattle.definitions.proofs.NoFloatsRead.{has_float-tidied, has_float-filled, has_float-is_body}
+use Rattle.meta.proofs.Tidied.{is_object, is_object-read}
 use Rattle.meta.proofs.reading.read.Goals as goal
 
 pub returns-clause-whole : goal.returns-clause-whole

@@ -5,7 +5,8 @@ use Rattle.serde_json.specs.Written.{members_have_float}
 use Rattle.definitions.specs.Metadata.{with_metadata}
 use Rattle.serde_json.specs.Find.{get_member}
 use Rattle.definitions.specs.Values.{members_of}
-use Rattle.meta.proofs.NoFloats.{members_have_float-put, members_of-no_float, inner_of-no_float, found_no_float}
+use Rattle.definitions.proofs.NoFloatsRead.{members_have_float-put}
+use Rattle.meta.proofs.NoFloats.{members_of-no_float, inner_of-no_float, found_no_float}
 use Rattle.meta.proofs.PutAndTaken.{put-put, object-members_of, members_of-found_or_null}
 use Rattle.meta.proofs.objects.Object.open.Goals as goal
 

@@ -24,7 +24,7 @@ pub second_false : (a b : Bool) → (a || b) ≡ false → b ≡ false
 second_false true b h = cc
 second_false false b h = h
 
-both_false : (a b : Bool) → a ≡ false → b ≡ false → (a || b) ≡ false
+pub both_false : (a b : Bool) → a ≡ false → b ≡ false → (a || b) ≡ false
 both_false a b h k = rw (h, k) refl
 
 unless_absent : (b : Bool) (k : List ℕ) (d : Data) (ms : Members) → has_float d ≡ false → members_have_float ms ≡ false → members_have_float (cond b ms (member k d ms)) ≡ false
@@ -60,7 +60,7 @@ members_have_float-put k d (member l e ms) p q =
     at_ordering (slice_cmp nat_cmp k l) _ _ _ (both_false _ _ p q) (both_false _ _ p (second_false (has_float e) _ q))
     (both_false _ _ (first_false (has_float e) _ q) (members_have_float-put k d ms p (second_false (has_float e) _ q)))
 
-has_float-with_member : (k : List ℕ) (d v : Data) → has_float d ≡ false → has_float v ≡ false → has_float (with_member k d v) ≡ false
+pub has_float-with_member : (k : List ℕ) (d v : Data) → has_float d ≡ false → has_float v ≡ false → has_float (with_member k d v) ≡ false
 has_float-with_member k d null p q = refl
 has_float-with_member k d (boolean c) p q = refl
 has_float-with_member k d (number n) p q = q
