@@ -29,6 +29,7 @@ pub mod MarkedObjects
 pub mod NamedVersions
 pub mod NeatMembers
 pub mod NoFloatsRead
+pub mod NumbersRead
 pub mod OnePage
 pub mod PageReplies
 pub mod Parsed
