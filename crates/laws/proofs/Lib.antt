@@ -41,8 +41,10 @@ pub mod Paths
 pub mod Played
 pub mod Reaching
 pub mod ReadAgain
+pub mod ReadBack
 pub mod ReadRequests
 pub mod Removals
+pub mod RepliesRead
 pub mod Runs
 pub mod SameObjects
 pub mod SelectorBlanks
