@@ -241,7 +241,6 @@ one_read : (o : Option Data) (more : Data → Option Members) → IfSome o IsPar
 one_read None more h each = tt
 one_read (Some d) more h each = each d h
 
-
 of_array : (o : Option Items) → IfSome o AreParsed → IfSome (option_map array o) IsParsed
 of_array None a = tt
 of_array (Some ds) a = a
