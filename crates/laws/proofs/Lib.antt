@@ -26,6 +26,7 @@ pub mod Limited
 pub mod Limits
 pub mod Looks
 pub mod MarkedObjects
+pub mod NameBytes
 pub mod NamedVersions
 pub mod NeatMembers
 pub mod NoFloatsRead

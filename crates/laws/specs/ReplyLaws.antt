@@ -1,7 +1,7 @@
 -- What lists and their pages are answered, and what a reader makes of it.
-use Rattle.std.specs.Prelude.{◌≡◌, ◌≤◌, ℕ, List, [], ◌∷◌, ◌++◌, map, true, Option, Some, None, option_and_then, unwrap_or, IfSome, Ok, decimal, codes}
+use Rattle.std.specs.Prelude.{◌≡◌, ℕ, List, [], ◌∷◌, ◌++◌, map, true, Option, Some, None, option_and_then, unwrap_or, IfSome, Ok, decimal, codes}
 use Rattle.std.specs.List.{AllByRecursion}
-use Rattle.std.specs.Str.{IsUtf8, is_utf8}
+use Rattle.std.specs.Str.{is_utf8}
 use Rattle.serde_json.specs.Data.{Data, Items, no_items, item}
 use Rattle.serde_json.specs.Find.{get, as_array}
 use Rattle.serde_json.specs.Read.{read}
@@ -17,7 +17,6 @@ use Rattle.definitions.specs.Metadata.{metadata_text}
 use Rattle.definitions.specs.Reached.{IsReached}
 use Rattle.definitions.specs.ReadTokens.{token_of}
 use Rattle.definitions.specs.Reflectors.{list_of}
-use Rattle.definitions.specs.Revisions.{greatest_revision}
 use Rattle.definitions.specs.Verbs.{as_item, list_body, list_objects, accept, outcome_code, outcome_body}
 use Rattle.laws.specs.SentLaws.{whole, listed_at}
 
@@ -98,22 +97,17 @@ revision_at h (Exact r) = r
 abbrev pub revision_of : Asked → ℕ
 revision_of a = revision_at a.history a.options.at
 
--- names of which a token can be made
-abbrev pub HasTexts : Members → Type 0
-HasTexts ms = AllByRecursion (λ m. IsUtf8 m.0.namespace × IsUtf8 m.0.name) ms
-
 -- each reply says that it is at the revision of the first
 abbrev pub AreAt : ℕ → View → ℕ → Asked → List Asked → Type 0
 AreAt size v r a [] = metadata_text (codes "resourceVersion") (body_of size v a) ≡ Some (decimal r)
 AreAt size v r a (b ∷ bs) = (metadata_text (codes "resourceVersion") (body_of size v a) ≡ Some (decimal r)) × AreAt size v r b bs
 
--- pages that are asked one after another, with whatever limits and whatever happens between them, joined, are the list at the revision
--- of the first one, and each says that revision
+-- whoever asked before, pages that are asked one after another, with whatever limits and whatever happens between them, joined, are the
+-- list at the revision of the first one, and each says that revision
 abbrev pub PageRepliesAreLists : Type 0
 PageRepliesAreLists =
     (size : ℕ) (v : View) (a : Asked) (bs : List Asked)
+    → IsReached a.history
     → a.options.after ≡ None
-    → revision_of a ≤ greatest_revision
-    → HasTexts (list a.history v (revision_of a))
     → GoOn size v a bs
     → (all_items size v a bs ≡ items_of (map (λ m. as_item m.1) (list a.history v (revision_of a)))) × AreAt size v (revision_of a) a bs

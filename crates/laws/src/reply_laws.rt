@@ -17,7 +17,7 @@ pub fn objects_are_read_back()
 {}
 
 /// Who asks for page after page, each by what the reply before says, sees the list as it was at the first page: each object
-/// once, in order, whatever the limits are and whatever is written meanwhile.
+/// once, in order, whatever was asked before, whatever the limits are and whatever is written meanwhile.
 pub fn page_replies_are_lists()
     ensures { PageRepliesAreLists }
 {}
