@@ -26,8 +26,10 @@ pub mod Limited
 pub mod Limits
 pub mod Looks
 pub mod MarkedObjects
+pub mod NameBytes
 pub mod NamedVersions
 pub mod NeatMembers
+pub mod NumbersRead
 pub mod OnePage
 pub mod PageReplies
 pub mod Parsed
@@ -39,8 +41,10 @@ pub mod Paths
 pub mod Played
 pub mod Reaching
 pub mod ReadAgain
+pub mod ReadBack
 pub mod ReadRequests
 pub mod Removals
+pub mod RepliesRead
 pub mod Runs
 pub mod SameObjects
 pub mod SelectorBlanks

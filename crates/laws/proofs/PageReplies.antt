@@ -2,6 +2,7 @@
 use Rattle.std.proofs.Common.{zero, suc, ◌≡◌, ◌≤◌, ℕ, nat_le, List, [], ◌∷◌, ◌++◌, map, take, length, Bool, true, false, cond, Option, Some, None, refl, sym, ap, ap₂, ◌∙◌, subst, arith, append_assoc, append-nil, nat_eq, codes, decimal}
 use Rattle.std.specs.Prelude.{nat_lt, Ok}
 use Rattle.std.proofs.lemmas.Bool.{ltb-false}
+use Rattle.std.specs.List.{AllByRecursion}
 use Rattle.std.specs.Str.{IsUtf8}
 use Rattle.serde_json.specs.Data.{Data, Items, item}
 use Rattle.serde_json.specs.View.{items_of}
@@ -17,12 +18,17 @@ use Rattle.definitions.specs.Pages.{Place, Page, place_of, is_after, after_place
 use Rattle.definitions.specs.PageTokens.{Token, token_place, token_text}
 use Rattle.definitions.specs.ReadTokens.{token_of}
 use Rattle.definitions.specs.Refusals.{Refusal, bad_request, not_found, no_such_path, method_not_allowed, already_exists, conflict, expired, length_required, too_large, unsupported_media_type, invalid, no_memory, too_new, storage_full, code}
-use Rattle.laws.specs.ReplyLaws.{Asked, body_of, IsAnswered, continue_in, GoOn, items_in, then_items, all_items, revision_at, revision_of, HasTexts, AreAt, PageRepliesAreLists}
+use Rattle.laws.specs.ReplyLaws.{Asked, body_of, IsAnswered, continue_in, GoOn, items_in, then_items, all_items, revision_at, revision_of, AreAt, PageRepliesAreLists}
 use Rattle.definitions.specs.Revisions.{greatest_revision}
 use Rattle.definitions.specs.Verbs.{as_item, outcome_code, outcome_body}
 use Rattle.definitions.specs.Versions.{listed_as, list_for}
 use Rattle.definitions.specs.Windows.{floor}
+use Rattle.definitions.specs.Reached.{IsReached}
+use Rattle.laws.proofs.EachWrite.{listed_put}
+use Rattle.laws.proofs.Limited.{limited}
+use Rattle.laws.proofs.NameBytes.{namespace_text, name_text}
 use Rattle.laws.proofs.Past.{past}
+use Rattle.laws.proofs.ValidNames.{IsValid, IsValidAt, all_valid}
 use Rattle.definitions.proofs.PageLists.{pages_are_lists, has_next}
 use Rattle.definitions.proofs.TokensRead.{token_is_read}
 
@@ -93,6 +99,17 @@ says_revision (Some q) k r None items = refl
 says_revision (Some q) k r (Some c) items = refl
 
 -- ---- the place where a page ends
+
+-- names of which a token can be made
+abbrev HasTexts : Members → Type 0
+HasTexts ms = AllByRecursion (λ (m : Name × Data). IsUtf8 m.0.namespace × IsUtf8 m.0.name) ms
+
+are_texts : (ms : Members) → AllByRecursion (λ (m : Name × Data). IsValid m.0) ms → HasTexts ms
+are_texts [] a = tt
+are_texts (m ∷ ms) a = ((namespace_text m.0.namespace a.0.0, name_text m.0.name a.0.1), are_texts ms a.1)
+
+listed_texts : (h : History) (v : View) (r : ℕ) → IsReached h → HasTexts (list h v r)
+listed_texts h v r reached = are_texts (list h v r) (listed_put IsValidAt h v r (all_valid h reached))
 
 texts_cond : (b : Bool) (m : Name × Data) (ms : Members) → IsUtf8 m.0.namespace × IsUtf8 m.0.name → HasTexts ms → HasTexts (cond b (m ∷ ms) ms)
 texts_cond true m ms h t = (h, t)
@@ -200,9 +217,11 @@ module _ (size : ℕ) (v : View) (h : History) (r : ℕ) (reached : r ≤ presen
       )
 
 pub page_replies : PageRepliesAreLists
-page_replies size v a bs first low texts on =
+page_replies size v a bs reached first on =
     let r = revision_of a in
     let at = page_at a.options.at size v a.history a.options (answered_first size v a bs on) in
-    let are = follows size v a.history r at.0 low texts a bs (([], sym (append-nil a.history)), at.1) on in
+    let few : present a.history ≤ 9007199254740991 = (limited a.history reached).1 in
+    let low : r ≤ greatest_revision = omega (arith, at.0, few) in
+    let are = follows size v a.history r at.0 low (listed_texts a.history v r reached) a bs (([], sym (append-nil a.history)), at.1) on in
     let pages : ArePages (list a.history v r) None are.0 = subst (λ p. ArePages (list a.history v r) p are.0) first are.1 in
     (are.2 ∙ ap (λ ms. items_of (map (λ m. as_item m.1) ms)) (pages_are_lists a.history v r are.0 pages), are.3)

@@ -1,12 +1,12 @@
 -- Data as a parser gives it: what is read, left out, filled in, put, merged and stored is so again.
-use Rattle.std.proofs.Common.{◌≡◌, ℕ, List, Bool, true, false, cond, codes, nat_cmp, is_eq, is_some, IfSome, Option, Some, None, option_map, option_and_then, unwrap_or, Result, Ok, Err, Ordering, Less, Equal, Greater, refl, sym, subst}
+use Rattle.std.proofs.Common.{◌≡◌, ◌≤◌, ℕ, List, Bool, true, false, cond, codes, nat_cmp, is_eq, is_some, IfSome, Option, Some, None, option_map, option_and_then, unwrap_or, Result, Ok, Err, Ordering, Less, Equal, Greater, refl, sym, subst, arith}
 use Rattle.std.specs.Ordering.{match_ordering}
 use Rattle.std.specs.Cmp.Lexicographic.{slice_cmp}
 use Rattle.json.specs.Lex.{tokens}
 use Rattle.json.specs.Json as json
-use Rattle.serde_json.specs.Data.{Num, Data, null, boolean, number, string, array, object, Items, no_items, item, Members, no_members, member, put}
+use Rattle.serde_json.specs.Data.{Data, null, boolean, number, string, array, object, Items, no_items, item, Members, no_members, member, put}
 use Rattle.serde_json.specs.Find.{get, get_member}
-use Rattle.serde_json.specs.Read.{read, number_of, of_json, of_items, of_members, max_depth}
+use Rattle.serde_json.specs.Read.{read, of_json, of_items, of_members, max_depth}
 use Rattle.definitions.specs.declared.kinds.Kind.{Kind}
 use Rattle.definitions.specs.declared.kinds.Kind.TheVariants.{ConfigMap, Pod, ReplicaSet, Deployment}
 use Rattle.definitions.specs.declared.refusals.Part.{Part}
@@ -22,6 +22,7 @@ use Rattle.definitions.specs.Values.{members_of, inner_of, without, found_or_nul
 use Rattle.definitions.specs.Verbs.{said, with_defaults}
 use Rattle.laws.proofs.JsonOrder.{IsOrdered, IsOrdered-put, IsOrdered-without, IsOrdered-tidied, IsOrdered-filled}
 use Rattle.laws.proofs.NeatMembers.{opens}
+use Rattle.laws.proofs.NumbersRead.{number_read}
 use Rattle.laws.proofs.ReadAgain.{defaulted, spec_members, filled_members}
 use Rattle.definitions.proofs.FirstStatus.{get-members_of}
 use Rattle.definitions.specs.Reached.{AreInOrder, IsParsed, AreParsed}
@@ -106,7 +107,7 @@ mutual
   parsed_tidied : (s : Shape) (d : Data) → IsParsed d → IsParsed (tidied s d)
   parsed_tidied s null h = tt
   parsed_tidied s (boolean b) h = tt
-  parsed_tidied s (number n) h = tt
+  parsed_tidied s (number n) h = h
   parsed_tidied s (string t) h = tt
   parsed_tidied s (array ds) h = items_tidied (item_of s) ds h
   parsed_tidied s (object ms) h = joined (tidied_members (schema_of s) ms) (IsOrdered-tidied (schema_of s) ms (parts ms h).0, all_tidied (schema_of s) ms (parts ms h).1)
@@ -154,7 +155,7 @@ parsed_reading k d o is p =
 parsed_member : (q : List ℕ) (e d : Data) → IsParsed e → IsParsed d → IsParsed (with_member q e d)
 parsed_member q e null h a = tt
 parsed_member q e (boolean b) h a = tt
-parsed_member q e (number n) h a = tt
+parsed_member q e (number n) h a = a
 parsed_member q e (string s) h a = tt
 parsed_member q e (array ds) h a = a
 parsed_member q e (object ms) h a = joined (put q e ms) (Both-put q e ms h (parts ms a))
@@ -184,17 +185,21 @@ strategy d a =
     parsed_cond (is_rolling_update typed) (with_found (codes "rollingUpdate") rolling_defaults (get (codes "rollingUpdate") based) based) typed
     (changed (codes "rollingUpdate") rolling_defaults based rolling (parsed_default (codes "rollingUpdate") empty typed tt b)) b
 
+-- a number that may be filled in
+small : (n : ℕ) → n ≤ 10 → IsParsed (whole n)
+small n h = omega (arith, h)
+
 deployment : (d : Data) → IsParsed d → IsParsed (deployment_defaults d)
 deployment d a =
     let one = with_default (codes "replicas") (whole 1) d in
     let two = with_default (codes "revisionHistoryLimit") (whole 10) one in
     changed (codes "strategy") strategy_defaults (with_default (codes "strategy") empty two) strategy
-    (parsed_default (codes "strategy") empty two tt (parsed_default (codes "revisionHistoryLimit") (whole 10) one tt (parsed_default (codes "replicas") (whole 1) d tt a)))
+    (parsed_default (codes "strategy") empty two tt (parsed_default (codes "revisionHistoryLimit") (whole 10) one (small 10 (omega arith)) (parsed_default (codes "replicas") (whole 1) d (small 1 (omega arith)) a)))
 
 parsed_defaults : (k : Kind) (d : Data) → IsParsed d → IsParsed (defaults.defaulted k d)
 parsed_defaults ConfigMap d a = a
 parsed_defaults Pod d a = a
-parsed_defaults ReplicaSet d a = changed (codes "spec") replica_set_defaults d (λ e h. parsed_default (codes "replicas") (whole 1) e tt h) a
+parsed_defaults ReplicaSet d a = changed (codes "spec") replica_set_defaults d (λ e h. parsed_default (codes "replicas") (whole 1) e (small 1 (omega arith)) h) a
 parsed_defaults Deployment d a = changed (codes "spec") deployment_defaults d deployment a
 
 said_as : (k : Kind) (d o : Data) (r : Result Data Part) → reading k d ≡ r → with_defaults k r ≡ Ok o → IsParsed d → IsParsed o
@@ -218,7 +223,7 @@ mutual
   pub parsed_merged : (target d : Data) → IsParsed target → IsParsed d → IsParsed (merged target d)
   parsed_merged target null t p = tt
   parsed_merged target (boolean b) t p = tt
-  parsed_merged target (number n) t p = tt
+  parsed_merged target (number n) t p = p
   parsed_merged target (string s) t p = tt
   parsed_merged target (array ds) t p = p
   parsed_merged target (object changes) t p = joined (merged_members (members_of target) changes) (both_merged (members_of target) changes (inside target t) (parts changes p).1)
@@ -235,10 +240,6 @@ mutual
 one_read : (o : Option Data) (more : Data → Option Members) → IfSome o IsParsed → ((d : Data) → IsParsed d → IfSome (more d) Both) → IfSome (option_and_then more o) Both
 one_read None more h each = tt
 one_read (Some d) more h each = each d h
-
-of_number : (o : Option Num) → IfSome (option_map number o) IsParsed
-of_number None = tt
-of_number (Some n) = tt
 
 of_array : (o : Option Items) → IfSome o AreParsed → IfSome (option_map array o) IsParsed
 of_array None a = tt
@@ -257,7 +258,7 @@ mutual
   of_whole : (j : json.Json) → IfSome (of_json j) IsParsed
   of_whole json.null = tt
   of_whole (json.boolean b) = tt
-  of_whole (json.number s) = of_number (number_of s)
+  of_whole (json.number s) = number_read s
   of_whole (json.string s) = tt
   of_whole (json.array js) = of_array (of_items js) (of_each js)
   of_whole (json.object ms) = of_object (of_members ms no_members) (of_all ms no_members (tt, tt))

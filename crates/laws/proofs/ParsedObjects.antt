@@ -1,7 +1,9 @@
 -- What is made of objects as a parser gives them, new, in the place of another or marked, is so too.
-use Rattle.std.proofs.Common.{ℕ, List, [], ◌∷◌, Bool, true, false, cond, codes, decimal, IfSome, Option, Some, None, option_and_then, unwrap_or}
-use Rattle.serde_json.specs.Data.{Data, null, boolean, number, string, array, object, Items, no_items, item, Members, put}
-use Rattle.serde_json.specs.Find.{get, get_member, as_array}
+use Rattle.std.proofs.Common.{◌≡◌, ◌<◌, ◌+◌, ◌^◌, ℕ, List, [], ◌∷◌, Bool, true, false, cond, codes, decimal, IfSome, Option, Some, None, option_and_then, unwrap_or, refl, arith}
+use Rattle.std.specs.Prelude.{nat_lt}
+use Rattle.std.proofs.lemmas.Bool.{ltb-true}
+use Rattle.serde_json.specs.Data.{Num, unsigned, negative, float, Data, null, boolean, number, string, array, object, Items, no_items, item, Members, put}
+use Rattle.serde_json.specs.Find.{get, get_member, as_array, as_number, as_u64}
 use Rattle.definitions.specs.declared.kinds.Kind.{Kind}
 use Rattle.definitions.specs.declared.kinds.Kind.TheVariants.{ConfigMap, Pod, ReplicaSet, Deployment}
 use Rattle.definitions.specs.declared.policies.Policy.{Policy}
@@ -15,7 +17,7 @@ use Rattle.definitions.specs.NewObjects.{new_metadata, first_status, with_status
 use Rattle.definitions.specs.Replacements.{as_held, keeping, kept, kept_of, in_place, said_status, with_said_status, with_next_generation, next_generation, generation}
 use Rattle.definitions.specs.Uids.{uid_text, cluster_word}
 use Rattle.definitions.specs.Values.{members_of, without}
-use Rattle.definitions.specs.Reached.{IsParsed, AreParsed}
+use Rattle.definitions.specs.Reached.{IsInRange, IsParsed, AreParsed}
 use Rattle.laws.proofs.Parsed.{Both, joined, inside, Both-put, Both-without, found as found_at, found_in, inner}
 
 -- ---- objects with other members
@@ -38,7 +40,7 @@ both_if false x y p q = q
 first : (k : Kind) → IfSome (first_status k) IsParsed
 first ConfigMap = tt
 first Pod = (tt, tt, tt)
-first ReplicaSet = (tt, tt, tt)
+first ReplicaSet = (tt, omega arith, tt)
 first Deployment = tt
 
 status_put : (s : Option Data) (ms : Members) → IfSome s IsParsed → Both ms → Both (with_status s ms)
@@ -52,7 +54,7 @@ new_meta k r ns named moment ms b =
     Both-put (codes "uid") (string (uid_text cluster_word r)) _ tt
     (Both-put (codes "creationTimestamp") (string moment) _ tt
     (Both-put (codes "namespace") (string ns) _ tt
-    (Both-put (codes "name") (string named) _ tt (both_if (has_generation k) (put (codes "generation") (whole 1) left) left (Both-put (codes "generation") (whole 1) left tt c) c))))
+    (Both-put (codes "name") (string named) _ tt (both_if (has_generation k) (put (codes "generation") (whole 1) left) left (Both-put (codes "generation") (whole 1) left (omega arith) c) c))))
 
 pub new_members : (k : Kind) (o : Data) → IsParsed o → IsParsed (object (with_status (first_status k) (members_of o)))
 new_members k o p = joined (with_status (first_status k) (members_of o)) (status_put (first_status k) (members_of o) (first k) (inside o p))
@@ -73,8 +75,42 @@ placed k held o h p =
     with_meta (keeping kept (metadata_of held) (metadata_of o)) (object ms) (keeps kept (metadata_of held) (metadata_of o) (meta held h) (meta o p))
     (joined ms (keeps (kept_of k) (members_of held) (members_of o) (inside held h) (inside o p)))
 
-pub counted : (b : Bool) (held : Data) (ms : Members) → Both ms → Both (with_next_generation b held ms)
-counted b held ms m = both_if b (put (codes "generation") (whole (next_generation (generation held))) ms) ms (Both-put (codes "generation") (whole (next_generation (generation held))) ms tt m) m
+-- ---- generations
+
+abbrev IsWord : ℕ → Type 0
+IsWord n = n < 2 ^ 64
+
+word_of : (n : Num) → IsInRange n → IsWord (unwrap_or (as_u64 n) 0)
+word_of (unsigned n) h = h
+word_of (negative z) h = omega arith
+word_of (float x) h = omega arith
+
+word_in : (d : Data) → IsParsed d → IsWord (unwrap_or (option_and_then as_u64 (as_number d)) 0)
+word_in null h = omega arith
+word_in (boolean b) h = omega arith
+word_in (number n) h = word_of n h
+word_in (string t) h = omega arith
+word_in (array ds) h = omega arith
+word_in (object ms) h = omega arith
+
+word_said : (o : Option Data) → IfSome o IsParsed → IsWord (unwrap_or (option_and_then as_u64 (option_and_then as_number o)) 0)
+word_said None h = omega arith
+word_said (Some d) h = word_in d h
+
+word_next : (b : Bool) (n : ℕ) → nat_lt n 9007199254740991 ≡ b → IsWord n → IsWord (cond b (n + 1) n)
+word_next true n is h = let low = ltb-true n 9007199254740991 is in omega (arith, low)
+word_next false n is h = h
+
+counts : (held : Data) → IsParsed held → IsWord (next_generation (generation held))
+counts held h =
+    word_next (nat_lt (generation held) 9007199254740991) (generation held) refl
+    (word_said (metadata (codes "generation") held) (found_in (codes "generation") (metadata_of held) (meta held h)))
+
+pub counted : (b : Bool) (held : Data) (ms : Members) → IsParsed held → Both ms → Both (with_next_generation b held ms)
+counted b held ms h m =
+    both_if b (put (codes "generation") (whole (next_generation (generation held))) ms) ms (Both-put (codes "generation") (whole (next_generation (generation held))) ms (counts held h) m) m
+
+-- ---- statuses
 
 status_said : (k : Kind) (o : Option Data) → IfSome o IsParsed → IfSome (said_status k o) IsParsed
 status_said k None h = first k
@@ -122,5 +158,5 @@ marked_meta k moment o held h =
     let rising = with_next_generation (has_generation k) held (metadata_of held) in
     let deleted : Both (with_deletion k moment held) =
     both_if (is_being_deleted held) (metadata_of held) (put (codes "deletionTimestamp") (string moment) rising) (meta held h)
-    (Both-put (codes "deletionTimestamp") (string moment) rising tt (counted (has_generation k) held (metadata_of held) (meta held h))) in
+    (Both-put (codes "deletionTimestamp") (string moment) rising tt (counted (has_generation k) held (metadata_of held) h (meta held h))) in
     Both-put (codes "finalizers") (array left) (with_deletion k moment held) ds deleted

@@ -127,7 +127,15 @@ labels-bytes [] h = refl
 labels-bytes (p ∷ ps) h =
     and-true (list_all is_domain_byte p) (list_all (list_all is_domain_byte) ps) (label-bytes p (first (is_label p) (list_all is_label ps) h)) (labels-bytes ps (second (is_label p) (list_all is_label ps) h))
 
-subdomain-plain : (t : List ℕ) → is_subdomain t ≡ true → list_all is_plain t ≡ true
+bytes-plain : (t : List ℕ) → list_all is_domain_byte t ≡ true → list_all is_plain t ≡ true
+bytes-plain [] h = refl
+bytes-plain (b ∷ t) h =
+    and-true (is_plain b) (list_all is_plain t) (domain-plain b (first (is_domain_byte b) (list_all is_domain_byte t) h)) (bytes-plain t (second (is_domain_byte b) (list_all is_domain_byte t) h))
+
+pub label-plain : (t : List ℕ) → is_label t ≡ true → list_all is_plain t ≡ true
+label-plain t h = bytes-plain t (label-bytes t h)
+
+pub subdomain-plain : (t : List ℕ) → is_subdomain t ≡ true → list_all is_plain t ≡ true
 subdomain-plain t h = parts-plain t (labels-bytes (slice_split is_dot t) (first (list_all is_label (slice_split is_dot t)) (nat_le (length t) 253) h))
 
 both-values : (v : Bool) → v ≡ true → v ≡ false → ⊥

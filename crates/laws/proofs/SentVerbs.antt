@@ -108,7 +108,7 @@ by_changed k o r s held w p path was =
     let meta : Neat 98 Metadata (with_next_generation is_new held (metadata_of d)) =
     neat_generation is_new (next_generation (generation held)) (metadata_of d) (neat_metadata k.kind d made) in
     let whole : IsParsed d = placed k.kind held o was.parsed p in
-    let order = counted is_new held (metadata_of d) (meta_of d whole) in
+    let order = counted is_new held (metadata_of d) was.parsed (meta_of d whole) in
     either (Stores (r + 1)) (says_the_same held d) (shown held) _ (λ _. tt)
     (λ _. either (Stores (r + 1)) (is_let_go held new) (let_go k new r) (put_in_place k new r) (λ _. behind (r + 1) (is_past_greatest (r + 1)) storage_full _ (λ _. tt))
     (λ _. by_put k new r (λ fits low. stored_at k (r + 1) (with_next_generation is_new held (metadata_of d)) d made meta whole order (says_in_place k s held o is_new was path) low fits)))

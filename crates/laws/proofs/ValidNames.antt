@@ -11,12 +11,12 @@ use Rattle.laws.proofs.Compacted.{same_writes}
 use Rattle.laws.proofs.Guards.{there}
 use Rattle.laws.proofs.EachWrite.{AllPut, put_write, there_put}
 use Rattle.laws.proofs.VerbLaws.{found-state}
-use Rattle.definitions.specs.Reached.{IsAsked}
+use Rattle.definitions.specs.Reached.{IsAsked, IsReached}
 use Rattle.laws.specs.ParsedLaws.{NamesAreValid}
 use Rattle.laws.proofs.Reaching.{by_reached}
 use Rattle.laws.proofs.SentObjects.{created_valid}
 
-abbrev IsValid : Name → Type 0
+abbrev pub IsValid : Name → Type 0
 IsValid k = (is_namespace k.namespace ≡ true) × (is_subdomain k.name ≡ true)
 
 module _ (h : History) (moment : List ℕ) (all : (k : Name) (d : Data) → state h (present h) k ≡ Some d → IsValid k) where
@@ -42,12 +42,14 @@ module _ (h : History) (moment : List ℕ) (all : (k : Name) (d : Data) → stat
 
 -- ---- what is written
 
-abbrev IsValidAt : Name → Data → Type 0
+abbrev pub IsValidAt : Name → Data → Type 0
 IsValidAt k d = IsValid k
 
-pub names_valid : NamesAreValid
-names_valid h r k d reached is =
-    there_put IsValidAt h r k d
-    (by_reached (λ h. AllPut IsValidAt (writes h))
+pub all_valid : (h : History) → IsReached h → AllPut IsValidAt (writes h)
+all_valid h reached =
+    by_reached (λ h. AllPut IsValidAt (writes h))
     (λ q h moment asked t a. put_write IsValidAt h (write_of (accept q h moment)) (valid_by h moment (λ k d is. there_put IsValidAt h (present h) k d a is) q asked) a)
-    (same_writes (AllPut IsValidAt)) h reached tt) is
+    (same_writes (AllPut IsValidAt)) h reached tt
+
+pub names_valid : NamesAreValid
+names_valid h r k d reached is = there_put IsValidAt h r k d (all_valid h reached) is

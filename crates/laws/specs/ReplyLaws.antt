@@ -1,20 +1,24 @@
 -- What lists and their pages are answered, and what a reader makes of it.
-use Rattle.std.specs.Prelude.{◌≡◌, ◌≤◌, ℕ, List, [], ◌∷◌, ◌++◌, map, Option, Some, None, option_and_then, unwrap_or, Ok, decimal, codes}
+use Rattle.std.specs.Prelude.{◌≡◌, ℕ, List, [], ◌∷◌, ◌++◌, map, true, Option, Some, None, option_and_then, unwrap_or, IfSome, Ok, decimal, codes}
 use Rattle.std.specs.List.{AllByRecursion}
-use Rattle.std.specs.Str.{IsUtf8}
+use Rattle.std.specs.Str.{is_utf8}
 use Rattle.serde_json.specs.Data.{Data, Items, no_items, item}
 use Rattle.serde_json.specs.Find.{get, as_array}
+use Rattle.serde_json.specs.Read.{read}
 use Rattle.serde_json.specs.View.{items_of}
+use Rattle.serde_json.specs.Written.{compact_text}
 use Rattle.definitions.specs.declared.kinds.Kind.{Kind}
 use Rattle.definitions.specs.declared.versions.At.{At}
 use Rattle.definitions.specs.declared.versions.At.TheVariants.{Present, NotOlder, Exact}
 use Rattle.definitions.specs.Collections.{ListOptions, going_on}
-use Rattle.definitions.specs.History.{History, View, Members, present, list}
+use Rattle.definitions.specs.History.{History, View, Members, writes, present, list}
 use Rattle.definitions.specs.Lists.{list_outcome, page_body}
 use Rattle.definitions.specs.Metadata.{metadata_text}
+use Rattle.definitions.specs.Reached.{IsReached}
 use Rattle.definitions.specs.ReadTokens.{token_of}
-use Rattle.definitions.specs.Revisions.{greatest_revision}
+use Rattle.definitions.specs.Reflectors.{list_of}
 use Rattle.definitions.specs.Verbs.{as_item, list_body, list_objects, accept, outcome_code, outcome_body}
+use Rattle.laws.specs.SentLaws.{whole, listed_at}
 
 -- ---- one list
 
@@ -26,6 +30,20 @@ newest = record { at = Present; limit = 0; after = None }
 pub record ListsAreOnePage : Type 0 where
   pub body : (k : Kind) (r : ℕ) (count : Option ℕ) (ms : Members) → page_body k r count (record { items = ms; next = None }) ≡ list_body k r ms
   pub outcome : (size : ℕ) (h : History) (v : View) (moment : List ℕ) → list_outcome size h v newest ≡ accept (list_objects v) h moment
+
+-- what a list of a kind in all namespaces is answered
+abbrev pub list_reply : ℕ → History → Kind → Data
+list_reply size h k = outcome_body (list_outcome size h (whole k) newest)
+
+-- whoever asked, what a list of a kind is answered, a text in UTF-8, is read by a reflector as the present revision and the objects there
+abbrev pub RepliesAreRead : Type 0
+RepliesAreRead =
+    (h : History) (size : ℕ) (k : Kind) → IsReached h → is_utf8 (compact_text (list_reply size h k)) ≡ true
+    → list_of k (compact_text (list_reply size h k)) ≡ Some (listed_at h k (present h))
+
+-- whoever asked, the text of each object that was ever stored is read as the object
+abbrev pub ObjectsAreReadBack : Type 0
+ObjectsAreReadBack = (h : History) → IsReached h → AllByRecursion (λ w. IfSome w.put (λ d. read (compact_text d) ≡ Some d)) (writes h)
 
 -- ---- pages
 
@@ -79,22 +97,17 @@ revision_at h (Exact r) = r
 abbrev pub revision_of : Asked → ℕ
 revision_of a = revision_at a.history a.options.at
 
--- names of which a token can be made
-abbrev pub HasTexts : Members → Type 0
-HasTexts ms = AllByRecursion (λ m. IsUtf8 m.0.namespace × IsUtf8 m.0.name) ms
-
 -- each reply says that it is at the revision of the first
 abbrev pub AreAt : ℕ → View → ℕ → Asked → List Asked → Type 0
 AreAt size v r a [] = metadata_text (codes "resourceVersion") (body_of size v a) ≡ Some (decimal r)
 AreAt size v r a (b ∷ bs) = (metadata_text (codes "resourceVersion") (body_of size v a) ≡ Some (decimal r)) × AreAt size v r b bs
 
--- pages that are asked one after another, with whatever limits and whatever happens between them, joined, are the list at the revision
--- of the first one, and each says that revision
+-- whoever asked before, pages that are asked one after another, with whatever limits and whatever happens between them, joined, are the
+-- list at the revision of the first one, and each says that revision
 abbrev pub PageRepliesAreLists : Type 0
 PageRepliesAreLists =
     (size : ℕ) (v : View) (a : Asked) (bs : List Asked)
+    → IsReached a.history
     → a.options.after ≡ None
-    → revision_of a ≤ greatest_revision
-    → HasTexts (list a.history v (revision_of a))
     → GoOn size v a bs
     → (all_items size v a bs ≡ items_of (map (λ m. as_item m.1) (list a.history v (revision_of a)))) × AreAt size v (revision_of a) a bs

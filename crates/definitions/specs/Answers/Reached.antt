@@ -1,9 +1,9 @@
 -- What can have happened at a server: requests that were accepted one after another, whoever asked, and compactions between them.
-use Rattle.std.specs.Prelude.{◌≡◌, ◌≤◌, ◌<◌, ℕ, List, [], ◌∷◌, ◌++◌, length, true}
+use Rattle.std.specs.Prelude.{◌≡◌, ◌≤◌, ◌<◌, ◌^◌, ℕ, ℤ, pos, negsuc, List, [], ◌∷◌, ◌++◌, length, true}
 use Rattle.std.specs.Ordering.{nat_cmp}
 use Rattle.std.specs.declared.cmp.Ordering.TheVariants.{Less}
 use Rattle.std.specs.Cmp.Lexicographic.{slice_cmp}
-use Rattle.serde_json.specs.Data.{Data, null, boolean, number, string, array, object, Items, no_items, item, Members, no_members, member}
+use Rattle.serde_json.specs.Data.{Num, unsigned, negative, float, Data, null, boolean, number, string, array, object, Items, no_items, item, Members, no_members, member}
 use Rattle.definitions.specs.State.History.{History, compaction, present}
 use Rattle.definitions.specs.Texts.Names.{is_namespace}
 use Rattle.definitions.specs.Answers.Verbs.{Request, get_object, list_objects, create_object, update_object, update_status, patch_object, delete_object, accept, history_after}
@@ -15,12 +15,24 @@ abbrev pub IsBefore : List ℕ → Members → Type 0
 IsBefore k no_members = Unit {0}
 IsBefore k (member l d ms) = (slice_cmp nat_cmp k l ≡ Less) × IsBefore k ms
 
--- data as a parser gives it: the members of each object in the order of their names, each name once (RFC 8259, Objects)
+-- an integer from -2^63 up to below zero
+abbrev pub IsBelowZero : ℤ → Type 0
+IsBelowZero (pos n) = ⊥
+IsBelowZero (negsuc n) = n < 2 ^ 63
+
+-- a number as a parser gives it: an integer of 64 bits, or whatever float (RFC 8259, Numbers)
+abbrev pub IsInRange : Num → Type 0
+IsInRange (unsigned n) = n < 2 ^ 64
+IsInRange (negative z) = IsBelowZero z
+IsInRange (float x) = Unit {0}
+
+-- data as a parser gives it: the members of each object in the order of their names, each name once (RFC 8259, Objects), and each
+-- integer one of 64 bits
 abbrev mutual
   pub IsParsed : Data → Type 0
   IsParsed null = Unit {0}
   IsParsed (boolean b) = Unit {0}
-  IsParsed (number n) = Unit {0}
+  IsParsed (number n) = IsInRange n
   IsParsed (string t) = Unit {0}
   IsParsed (array ds) = AreParsed ds
   IsParsed (object ms) = AreInOrder ms

@@ -1,0 +1,112 @@
+-- What a list is answered is read as the list, and what is sent of an object as the object.
+use Rattle.std.proofs.Common.{◌≡◌, ◌+◌, ℕ, List, [], ◌∷◌, map, Bool, true, false, cond, Option, IfSome, None, Some, codes, is_eq, refl, ap, ◌∙◌, arith}
+use Rattle.std.specs.List.{AllByRecursion}
+use Rattle.std.specs.Ordering.{nat_cmp}
+use Rattle.std.specs.Cmp.Lexicographic.{slice_cmp}
+use Rattle.serde_json.specs.Data as json
+use Rattle.serde_json.specs.Data.{Data, null, boolean, number, string, array, object, no_members, member}
+use Rattle.serde_json.specs.Read.{read}
+use Rattle.serde_json.specs.View.{items_of}
+use Rattle.serde_json.specs.Written.{compact_text, has_float, items_have_float, members_have_float}
+use Rattle.definitions.specs.declared.kinds.Kind.{Kind}
+use Rattle.definitions.specs.History.{History, Write, View, Members, writes, present, list}
+use Rattle.definitions.specs.Names.{Name}
+use Rattle.definitions.specs.Reached.{IsParsed, AreParsed, IsReached}
+use Rattle.definitions.specs.Values.{members_of, without}
+use Rattle.definitions.specs.Verbs.{as_item, list_body}
+use Rattle.definitions.proofs.PageLists.{all_after}
+use Rattle.laws.specs.ReplyLaws.{list_reply, RepliesAreRead, ObjectsAreReadBack}
+use Rattle.laws.specs.SentLaws.{whole}
+use Rattle.definitions.proofs.NoFloatsRead.{first_false, second_false, has_float-is_body}
+use Rattle.laws.proofs.Parsed.{joined, inside, Both-without}
+use Rattle.laws.proofs.ParsedEdits.{listed_parsed}
+use Rattle.laws.proofs.ReadBack.{read_back}
+use Rattle.laws.proofs.SentChanges.{read_body, nests}
+use Rattle.laws.proofs.SentLists.{Lists, all_listed, lists_nest, lists_read}
+use Rattle.laws.proofs.SentObjects.{IsStored}
+use Rattle.laws.proofs.Stored.{AreStored, all_stored}
+
+-- what is answered is the list
+reply_is : (size : ℕ) (h : History) (k : Kind) → list_reply size h k ≡ list_body k (present h) (list h (whole k) (present h))
+reply_is size h k = ap (λ ms. list_body k (present h) ms) (all_after (list h (whole k) (present h)))
+
+-- ---- no number in it is a float
+
+floats_without : (b : Bool) (l : List ℕ) (e : Data) (ms left : json.Members) → members_have_float (member l e ms) ≡ false → members_have_float left ≡ false → members_have_float (cond b ms (member l e left)) ≡ false
+floats_without true l e ms left h later = second_false (has_float e) (members_have_float ms) h
+floats_without false l e ms left h later = rw (first_false (has_float e) (members_have_float ms) h, later) refl
+
+no_floats_without : (q : List ℕ) (ms : json.Members) → members_have_float ms ≡ false → members_have_float (without q ms) ≡ false
+no_floats_without q no_members h = refl
+no_floats_without q (member l e ms) h =
+    floats_without (is_eq (slice_cmp nat_cmp q l)) l e ms (without q ms) h (no_floats_without q ms (second_false (has_float e) (members_have_float ms) h))
+
+no_floats_in : (d : Data) → has_float d ≡ false → members_have_float (members_of d) ≡ false
+no_floats_in null h = refl
+no_floats_in (boolean b) h = refl
+no_floats_in (number n) h = refl
+no_floats_in (string t) h = refl
+no_floats_in (array ds) h = refl
+no_floats_in (object ms) h = h
+
+no_floats_item : (d : Data) → has_float d ≡ false → has_float (as_item d) ≡ false
+no_floats_item d h = no_floats_without (codes "kind") (without (codes "apiVersion") (members_of d)) (no_floats_without (codes "apiVersion") (members_of d) (no_floats_in d h))
+
+no_floats_items : (k : Kind) (ms : Members) → AllByRecursion (Lists k) ms → items_have_float (items_of (map (λ m. as_item m.1) ms)) ≡ false
+no_floats_items k [] a = refl
+no_floats_items k (m ∷ ms) a =
+    let reads = a.0.1.1.kept.reads in
+    let whole = has_float-is_body m.1 (read_body m.0.kind m.1 m.1 reads) in
+    rw (no_floats_item m.1 whole, no_floats_items k ms a.1) refl
+
+no_floats : (h : History) (k : Kind) (r : ℕ) → IsReached h → has_float (list_body k r (list h (whole k) r)) ≡ false
+no_floats h k r reached = rw (no_floats_items k (list h (whole k) r) (all_listed h k r reached)) refl
+
+-- ---- it is as a parser gives it
+
+item_parsed : (d : Data) → IsParsed d → IsParsed (as_item d)
+item_parsed d p =
+    joined (without (codes "kind") (without (codes "apiVersion") (members_of d)))
+    (Both-without (codes "kind") (without (codes "apiVersion") (members_of d)) (Both-without (codes "apiVersion") (members_of d) (inside d p)))
+
+items_parsed : (ms : Members) → AllByRecursion (λ (m : Name × Data). IsParsed m.1) ms → AreParsed (items_of (map (λ m. as_item m.1) ms))
+items_parsed [] a = tt
+items_parsed (m ∷ ms) a = (item_parsed m.1 a.0, items_parsed ms a.1)
+
+list_parsed : (h : History) (v : View) (k : Kind) (r : ℕ) → IsReached h → IsParsed (list_body k r (list h v r))
+list_parsed h v k r reached =
+    let items = items_parsed (list h v r) (listed_parsed h v r reached) in
+    ((refl, (refl, (refl, tt))), tt, ((refl, (refl, tt)), items, ((refl, tt), tt, (tt, (tt, tt, tt), tt))))
+
+-- ---- it is read back
+
+reads_back : (h : History) (k : Kind) (r : ℕ) → IsReached h → (let d : Data = list_body k r (list h (whole k) r) in read (compact_text d) ≡ Some d)
+reads_back h k r reached = read_back (list_body k r (list h (whole k) r)) (list_parsed h (whole k) k r reached) (no_floats h k r reached) (lists_nest h k r reached)
+
+pub replies_read : RepliesAreRead
+replies_read h size k reached utf8 =
+    let d = list_body k (present h) (list h (whole k) (present h)) in
+    let says : read (compact_text (list_reply size h k)) ≡ Some d = ap (λ z. read (compact_text z)) (reply_is size h k) ∙ reads_back h k (present h) reached in
+    lists_read h k (present h) (compact_text (list_reply size h k)) reached (record { reached = omega arith; utf8 = utf8; says = says })
+
+-- ---- objects are read back
+
+abbrev ReadsBack : Data → Type 0
+ReadsBack d = read (compact_text d) ≡ Some d
+
+object_back : (k : Name) (r : ℕ) (d : Data) → IsStored k r d → ReadsBack d
+object_back k r d stored =
+    let body = read_body k.kind d d stored.kept.reads in
+    let low = nests d body in
+    read_back d stored.parsed (has_float-is_body d body) (omega (arith, low))
+
+some_back : (k : Name) (r : ℕ) (o : Option Data) → IfSome o (IsStored k r) → IfSome o ReadsBack
+some_back k r None stored = tt
+some_back k r (Some d) stored = object_back k r d stored
+
+all_back : (r : ℕ) (ws : List Write) → AreStored r ws → AllByRecursion (λ w. IfSome w.put ReadsBack) ws
+all_back r [] stored = tt
+all_back r (w ∷ ws) stored = (some_back w.key r w.put stored.0, all_back (r + 1) ws stored.1)
+
+pub objects_back : ObjectsAreReadBack
+objects_back h reached = all_back 2 (writes h) (all_stored h reached)
