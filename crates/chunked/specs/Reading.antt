@@ -6,6 +6,8 @@ use Rattle.chunked.specs.declared.fault.ChunkFault.{ChunkFault}
 use Rattle.chunked.specs.declared.fault.ChunkFault.TheVariants as fault
 use Rattle.chunked.specs.declared.place.Place.{Place}
 use Rattle.chunked.specs.declared.place.Place.TheVariants as place
+use Rattle.chunked.specs.declared.reader.Reader.{Reader}
+use Rattle.chunked.specs.Devices.{device_of, has_failed}
 
 -- the longest line before a chunk that is read, with its CR and LF
 abbrev pub longest_line : ℕ
@@ -56,6 +58,22 @@ abbrev pub fault_at : Option ChunkFault → Bool → Option ChunkFault
 fault_at (Some f) failed = Some f
 fault_at None true = Some fault.Device
 fault_at None false = None
+
+-- where a reader stands in the body
+abbrev pub place_of : {R : Type 0} → Reader R → Place
+place_of r = r.place
+
+-- the fault that a call of a reader has met, if one has
+abbrev pub fault_of : {R : Type 0} → Reader R → Option ChunkFault
+fault_of r = r.fault
+
+-- the fault that each call of a reader answers, if there is one: the one that it has met, or else the device's where that has failed
+abbrev pub answered_fault : {R : Type 0} → Reader R → Option ChunkFault
+answered_fault r = fault_at (fault_of r) (has_failed r.device)
+
+-- what is left of a reader's input, by what is left of a device's
+abbrev pub left_of : {R : Type 0} → (R → Option (List ℕ)) → Reader R → Option (List ℕ)
+left_of remaining r = remaining (device_of r.device)
 
 -- after a call of a device that had not failed: it has where the answer is the device's fault, and nowhere else
 abbrev pub IsWatched : {A : Type 0} → Bool → Result A ChunkFault → Type 0

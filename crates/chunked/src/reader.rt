@@ -1,7 +1,8 @@
 //! Bodies in chunks, read.
 ghost use Rattle.std.specs.Prelude.{◌≡◌, ◌≤◌, ◌<◌, ◌⊎◌, ◌-◌, [], false, Some, None, Err, IfOk, IfErr, OnOk, OnErr, IfSome, length, take};
 ghost use Rattle.std.specs.Io.KnownBytes.{Consumes};
-ghost use Rattle.chunked.specs.Reading.{Reaches, Stops, IsWatched, fault_at};
+ghost use Rattle.chunked.specs.Devices.{has_failed};
+ghost use Rattle.chunked.specs.Reading.{Reaches, Stops, IsWatched, place_of, fault_of, answered_fault, left_of};
 ghost use Rattle.chunked.specs.Parts.{IsReady};
 ghost use Rattle.chunked.specs.declared.fault.ChunkFault.TheVariants as fault;
 ghost use Rattle.chunked.specs.declared.place.Place.TheVariants as place;
@@ -104,8 +105,8 @@ impl<R: Read + Drop> Reader<R> {
     /// Returns a reader of the body that begins where this device stands.
     pub fn new(device: Watched<R>) -> Reader<R>
         ensures device { result.device ≡ device }
-        ensures place { result.place ≡ Place.Line }
-        ensures fault { result.fault ≡ None }
+        ensures place { place_of result ≡ Place.Line }
+        ensures fault { fault_of result ≡ None }
     {
         Reader {
             device,
@@ -116,7 +117,7 @@ impl<R: Read + Drop> Reader<R> {
 
     /// Returns the fault that each call answers, if there is one.
     fn fault(&self) -> Option<ChunkFault>
-        ensures { result ≡ fault_at self.now.fault self.now.device.failed }
+        ensures { result ≡ answered_fault self.now }
     {
         match self.fault {
             Some(fault) => Some(fault),
@@ -133,19 +134,19 @@ impl<R: Read + Drop> Reader<R> {
     /// Reads bytes where the reader is ready.
     #[tactic(auto, using(crate::proofs::Passing::reaches_stay))]
     fn take(&mut self, buf: &mut [u8]) -> Result<usize, ChunkFault>
-        requires sound { self.old.device.failed ≡ false }
-        requires ready { IsReady self.old.place }
+        requires sound { has_failed self.old.device ≡ false }
+        requires ready { IsReady (place_of self.old) }
         requires room { 0 < length buf.old }
-        ensures bytes { IfOk result (λ k. Reaches self.old.place (R.remaining self.old.device.device)
-            (take k buf.new) self.new.place (R.remaining self.new.device.device)) }
+        ensures bytes { IfOk result (λ k. Reaches (place_of self.old) (left_of R.remaining self.old)
+            (take k buf.new) (place_of self.new) (left_of R.remaining self.new)) }
         ensures bound { IfOk result (λ k. k ≤ length buf.new) }
-        ensures end { IfOk result (λ k. k ≡ 0 → self.new.place ≡ place.Ended) }
+        ensures end { IfOk result (λ k. k ≡ 0 → place_of self.new ≡ place.Ended) }
         ensures len { length buf.new ≡ length buf.old }
-        ensures fault { IfErr result (λ f. Stops self.old.place (R.remaining self.old.device.device)
-            (R.remaining self.new.device.device) f) }
-        ensures sound { OnOk result (self.new.fault ≡ self.old.fault) }
-        ensures stopped { IfErr result (λ f. self.new.fault ≡ Some f) }
-        ensures watched { IsWatched self.new.device.failed result }
+        ensures fault { IfErr result (λ f. Stops (place_of self.old) (left_of R.remaining self.old)
+            (left_of R.remaining self.new) f) }
+        ensures sound { OnOk result (fault_of self.new ≡ fault_of self.old) }
+        ensures stopped { IfErr result (λ f. fault_of self.new ≡ Some f) }
+        ensures watched { IsWatched (has_failed self.new.device) result }
     {
         match self.place {
             Place::Within(left) => match read_bytes(&mut self.device, left, buf) {
@@ -172,25 +173,24 @@ impl<R: Read + Drop> Reader<R> {
     #[tactic(auto, using(crate::proofs::Passing::reaches_stay))]
     pub fn read(&mut self, buf: &mut [u8]) -> Result<usize, ChunkFault>
         // Where there is a fault already, it is answered and nothing changes.
-        ensures again { IfSome (fault_at self.old.fault self.old.device.failed) (λ f.
+        ensures again { IfSome (answered_fault self.old) (λ f.
             (result ≡ Err f) × (self.new ≡ self.old) × (buf.new ≡ buf.old)) }
 
         // Without a fault, what was read is bytes of the body, and there is still none.
-        ensures bytes { IfOk result (λ k. Reaches self.old.place (R.remaining self.old.device.device)
-            (take k buf.new) self.new.place (R.remaining self.new.device.device)) }
-        ensures sound { OnOk result (fault_at self.new.fault self.new.device.failed ≡ None) }
+        ensures bytes { IfOk result (λ k. Reaches (place_of self.old) (left_of R.remaining self.old)
+            (take k buf.new) (place_of self.new) (left_of R.remaining self.new)) }
+        ensures sound { OnOk result (answered_fault self.new ≡ None) }
         ensures bound { IfOk result (λ k. k ≤ length buf.new) }
         ensures len { length buf.new ≡ length buf.old }
-        ensures end { IfOk result (λ k. k ≡ 0 → 0 < length buf.old → self.new.place ≡ place.Ended) }
+        ensures end { IfOk result (λ k. k ≡ 0 → 0 < length buf.old → place_of self.new ≡ place.Ended) }
         ensures none { OnOk result (length buf.old ≡ 0 → self.new ≡ self.old) }
 
         // A fault is there from now on. The first one has its reason, and the device's raises the flag.
-        ensures fault { IfErr result (λ f. fault_at self.new.fault self.new.device.failed ≡ Some f) }
-        ensures reason { fault_at self.old.fault self.old.device.failed ≡ None
-            → IfErr result (λ f. Stops self.old.place (R.remaining self.old.device.device)
-            (R.remaining self.new.device.device) f) }
-        ensures watched { fault_at self.old.fault self.old.device.failed ≡ None
-            → IsWatched self.new.device.failed result }
+        ensures fault { IfErr result (λ f. answered_fault self.new ≡ Some f) }
+        ensures reason { answered_fault self.old ≡ None
+            → IfErr result (λ f. Stops (place_of self.old) (left_of R.remaining self.old)
+            (left_of R.remaining self.new) f) }
+        ensures watched { answered_fault self.old ≡ None → IsWatched (has_failed self.new.device) result }
     {
         if let Some(fault) = self.fault() {
             return Err(fault);

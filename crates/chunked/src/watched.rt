@@ -3,7 +3,7 @@ ghost use Rattle.std.specs.Prelude.{◌≡◌, ◌≢◌, ◌≤◌, ◌<◌, []
 ghost use Rattle.std.specs.IoError.{error_kind};
 ghost use Rattle.std.specs.Io.{ReadsAtMost, WritesAtMost};
 ghost use Rattle.std.specs.Io.KnownBytes.{Appends, Keeps, Consumes, IsAtEnd, ReadConsumes, WriteAppends};
-ghost use Rattle.chunked.specs.Devices.{AppendsBeginning};
+ghost use Rattle.chunked.specs.Devices.{AppendsBeginning, device_of, has_failed};
 ghost use Rattle.chunked.specs.declared.fault.ChunkFault.TheVariants as fault;
 
 use crate::fault::ChunkFault;
@@ -22,8 +22,8 @@ pub struct Watched<D: Drop> {
 impl<D: Drop> Watched<D> {
     /// Returns the device with its flag down.
     pub fn new(device: D) -> Watched<D>
-        ensures device { result.device ≡ device }
-        ensures failed { result.failed ≡ false }
+        ensures device { device_of result ≡ device }
+        ensures failed { has_failed result ≡ false }
     {
         Watched {
             device,
@@ -33,14 +33,14 @@ impl<D: Drop> Watched<D> {
 
     /// Returns whether a call of the device has failed.
     pub fn has_failed(&self) -> bool
-        ensures { result ≡ self.now.failed }
+        ensures { result ≡ has_failed self.now }
     {
         self.failed
     }
 
     /// Returns the device, which is watched no more.
     pub fn into_inner(self) -> D
-        ensures { result ≡ self.device }
+        ensures { result ≡ device_of self }
     {
         self.device
     }
@@ -58,15 +58,16 @@ impl<D: Drop> Watched<D> {
 }
 
 impl<R: Read + Drop> Read for Watched<R> {
-    ghost remaining = { λ w. R.remaining w.device };
+    ghost remaining = { λ w. R.remaining (device_of w) };
 
     fn read(&mut self, buf: &mut [u8]) -> io::Result<usize>
         ensures bound { ReadsAtMost result buf.new }
-        ensures bytes { ReadConsumes (R.remaining self.old.device) (R.remaining self.new.device) result buf.new }
-        ensures kept { OnOk result (self.new.failed ≡ self.old.failed) }
+        ensures bytes { ReadConsumes (R.remaining (device_of self.old)) (R.remaining (device_of self.new))
+            result buf.new }
+        ensures kept { OnOk result (has_failed self.new ≡ has_failed self.old) }
         ensures interrupted { IfErr result (λ e. error_kind e ≡ ErrorKind.Interrupted
-            → self.new.failed ≡ self.old.failed) }
-        ensures failed { IfErr result (λ e. error_kind e ≢ ErrorKind.Interrupted → self.new.failed ≡ true) }
+            → has_failed self.new ≡ has_failed self.old) }
+        ensures failed { IfErr result (λ e. error_kind e ≢ ErrorKind.Interrupted → has_failed self.new ≡ true) }
     {
         match self.device.read(buf) {
             Ok(n) => Ok(n),
@@ -79,17 +80,18 @@ impl<R: Read + Drop> Read for Watched<R> {
 }
 
 impl<W: Write + Drop> Write for Watched<W> {
-    ghost contents = { λ w. W.contents w.device };
+    ghost contents = { λ w. W.contents (device_of w) };
 
     fn write(&mut self, buf: &[u8]) -> io::Result<usize>
         ensures bound { WritesAtMost result buf.now }
-        ensures bytes { WriteAppends (W.contents self.old.device) (W.contents self.new.device) result buf.now }
-        ensures kept { IfOk result (λ n. 0 < n → self.new.failed ≡ self.old.failed) }
-        ensures empty { OnOk result (length buf.now ≡ 0 → self.new.failed ≡ self.old.failed) }
-        ensures nothing { IfOk result (λ n. n ≡ 0 → 0 < length buf.now → self.new.failed ≡ true) }
+        ensures bytes { WriteAppends (W.contents (device_of self.old)) (W.contents (device_of self.new))
+            result buf.now }
+        ensures kept { IfOk result (λ n. 0 < n → has_failed self.new ≡ has_failed self.old) }
+        ensures empty { OnOk result (length buf.now ≡ 0 → has_failed self.new ≡ has_failed self.old) }
+        ensures nothing { IfOk result (λ n. n ≡ 0 → 0 < length buf.now → has_failed self.new ≡ true) }
         ensures interrupted { IfErr result (λ e. error_kind e ≡ ErrorKind.Interrupted
-            → self.new.failed ≡ self.old.failed) }
-        ensures failed { IfErr result (λ e. error_kind e ≢ ErrorKind.Interrupted → self.new.failed ≡ true) }
+            → has_failed self.new ≡ has_failed self.old) }
+        ensures failed { IfErr result (λ e. error_kind e ≢ ErrorKind.Interrupted → has_failed self.new ≡ true) }
     {
         match self.device.write(buf) {
             Ok(n) => {
@@ -106,11 +108,11 @@ impl<W: Write + Drop> Write for Watched<W> {
     }
 
     fn flush(&mut self) -> io::Result<()>
-        ensures bytes { Keeps (W.contents self.old.device) (W.contents self.new.device) }
-        ensures kept { OnOk result (self.new.failed ≡ self.old.failed) }
+        ensures bytes { Keeps (W.contents (device_of self.old)) (W.contents (device_of self.new)) }
+        ensures kept { OnOk result (has_failed self.new ≡ has_failed self.old) }
         ensures interrupted { IfErr result (λ e. error_kind e ≡ ErrorKind.Interrupted
-            → self.new.failed ≡ self.old.failed) }
-        ensures failed { IfErr result (λ e. error_kind e ≢ ErrorKind.Interrupted → self.new.failed ≡ true) }
+            → has_failed self.new ≡ has_failed self.old) }
+        ensures failed { IfErr result (λ e. error_kind e ≢ ErrorKind.Interrupted → has_failed self.new ≡ true) }
     {
         match self.device.flush() {
             Ok(()) => Ok(()),

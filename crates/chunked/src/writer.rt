@@ -46,7 +46,7 @@ impl<W: Write + Drop> Writer<W> {
     /// have been written. Out of memory changes nothing, and the chunk may be asked for again.
     pub fn chunk(&mut self, alloc: Global, bytes: &[u8]) -> Result<(), ChunkFault>
         requires { 0 < length bytes.now }
-        ensures { Writes (chunk_text bytes.now) (λ w. W.contents w.device) self.old.device self.new.device result }
+        ensures { Writes (chunk_text bytes.now) W.contents self.old.device self.new.device result }
     {
         if self.device.has_failed() {
             return Err(ChunkFault::Device);
@@ -57,7 +57,7 @@ impl<W: Write + Drop> Writer<W> {
 
     /// Ends the body, and flushes the device. It needs no memory, and fails as `chunk` does where the device fails.
     pub fn end(&mut self) -> Result<(), ChunkFault>
-        ensures { WritesInPlace last_chunk (λ w. W.contents w.device) self.old.device self.new.device result }
+        ensures { WritesInPlace last_chunk W.contents self.old.device self.new.device result }
     {
         if self.device.has_failed() {
             return Err(ChunkFault::Device);
