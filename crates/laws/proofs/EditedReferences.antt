@@ -3,6 +3,8 @@ use Rattle.std.proofs.Common.{◌≡◌, ◌≤◌, inl, inr, ℕ, suc, List, Bo
 use Rattle.std.proofs.lemmas.Bool.{ne_eqb, or_parts}
 use Rattle.serde_json.specs.Data.{Data, null, boolean, number, string, array, object, Items, item, Members, put, depth, items_depth, members_depth}
 use Rattle.serde_json.specs.Events.{items_len}
+use Rattle.std.specs.Str.{IsUtf8}
+use Rattle.json.proofs.Printed.Utf8.{IsUtf8-are_ascii}
 use Rattle.serde_json.specs.Written.{has_float, items_have_float}
 use Rattle.definitions.specs.declared.kinds.Kind.{Kind}
 use Rattle.definitions.specs.declared.schemas.Shape.TheVariants.{Object}
@@ -16,11 +18,15 @@ use Rattle.definitions.proofs.NoFloatsRead.{both_true}
 use Rattle.laws.proofs.Parsed.{joined, inside, Both-put}
 use Rattle.laws.proofs.ReadAgain.{IsTidy, ItemsTidy, Filled, Filled-filled, filled_members, settled}
 
+flag_text : (q : List ℕ) → IsFlag q → IsUtf8 q
+flag_text q (inl is) = subst IsUtf8 (sym is) (IsUtf8-are_ascii (codes "controller") refl)
+flag_text q (inr is) = subst IsUtf8 (sym is) (IsUtf8-are_ascii (codes "blockOwnerDeletion") refl)
+
 pub stay_parsed : ReferencesStayParsed
 stay_parsed rs ss none p = p
 stay_parsed rs ss (left_out r us vs e) p = stay_parsed us vs e p.1
 stay_parsed rs ss (as_it_was r us vs e) p = (p.0, stay_parsed us vs e p.1)
-stay_parsed rs ss (set q b r us vs flag e) p = (joined (put q (boolean b) (members_of r)) (Both-put q (boolean b) (members_of r) tt (inside r p.0)), stay_parsed us vs e p.1)
+stay_parsed rs ss (set q b r us vs flag e) p = (joined (put q (boolean b) (members_of r)) (Both-put q (flag_text q flag) (boolean b) (members_of r) tt (inside r p.0)), stay_parsed us vs e p.1)
 
 -- ---- what stands in a list
 

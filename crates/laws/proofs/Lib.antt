@@ -68,6 +68,8 @@ pub mod StandingWatches
 pub mod Stored
 pub mod Streamed
 pub mod TextLengths
+pub mod TextsRead
+pub mod TokensRead
 pub mod Traced
 pub mod UidsOnce
 pub mod Undone
@@ -75,3 +77,4 @@ pub mod ValidNames
 pub mod VerbLaws
 pub mod Versions
 pub mod WholeObjects
+pub mod WrittenTexts

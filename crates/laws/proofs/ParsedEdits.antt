@@ -1,7 +1,8 @@
 -- What is stored is as a parser gives it, and stays so by edits.
-use Rattle.std.proofs.Common.{ℕ, ◌+◌, [], ◌∷◌, List, codes, IfSome, Option, Some, None, option_and_then, unwrap_or}
+use Rattle.std.proofs.Common.{ℕ, ◌+◌, [], ◌∷◌, List, codes, IfSome, Option, Some, None, option_and_then, unwrap_or, refl}
 use Rattle.serde_json.specs.Data.{Data, string, array, object, no_members, member, put}
 use Rattle.serde_json.specs.Find.{get}
+use Rattle.json.proofs.Printed.Utf8.{IsUtf8-are_ascii}
 use Rattle.definitions.specs.History.{History, Write, writes}
 use Rattle.definitions.specs.Checks.{in_spec}
 use Rattle.definitions.specs.Metadata.{metadata_of}
@@ -15,7 +16,7 @@ use Rattle.laws.specs.ParsedLaws.{StoredAreParsed, ListedAreParsed, MetadataEdit
 use Rattle.laws.proofs.SentObjects.{IsStored}
 use Rattle.laws.proofs.Stored.{AreStored, all_stored}
 use Rattle.laws.proofs.ParsedObjects.{meta, with_meta, held_put, keeps}
-use Rattle.laws.proofs.Parsed.{Both, joined, inside, Both-put, Both-without, found, inner}
+use Rattle.laws.proofs.Parsed.{Both, joined, inside, Both-put, Both-set, Both-without, found, inner}
 
 -- ---- what is written
 
@@ -42,17 +43,17 @@ listed_parsed h v r reached = listed_put IsParsedAt h v r (all_put h reached)
 -- ---- edits
 
 pub metadata_edits : MetadataEditsStayParsed
-metadata_edits d e q p f =
-    (with_meta (put q e (metadata_of d)) d (Both-put q e (metadata_of d) f (meta d p)) p, with_meta (without q (metadata_of d)) d (Both-without q (metadata_of d) (meta d p)) p)
+metadata_edits d e q u p f =
+    (with_meta (put q e (metadata_of d)) d (Both-put q u e (metadata_of d) f (meta d p)) p, with_meta (without q (metadata_of d)) d (Both-without q (metadata_of d) (meta d p)) p)
 
 pub members_stay : MembersStayParsed
-members_stay d e q p f = joined (put q e (members_of d)) (Both-put q e (members_of d) f (inside d p))
+members_stay d e q u p f = joined (put q e (members_of d)) (Both-put q u e (members_of d) f (inside d p))
 
 pub inner_edits : InnerEditsStayParsed
-inner_edits d e p q parsed f =
+inner_edits d e p q s u parsed f =
     let ms = put q e (inner_of (get p d)) in
-    let b = Both-put q e (inner_of (get p d)) f (inner (get p d) (found p d parsed)) in
-    joined (put p (object ms) (members_of d)) (Both-put p (object ms) (members_of d) (joined ms b) (inside d parsed))
+    let b = Both-put q u e (inner_of (get p d)) f (inner (get p d) (found p d parsed)) in
+    joined (put p (object ms) (members_of d)) (Both-put p s (object ms) (members_of d) (joined ms b) (inside d parsed))
 
 in_template : (o : Option Data) → IfSome o IsParsed → IsParsed (unwrap_or o empty)
 in_template None h = tt
@@ -66,7 +67,7 @@ made_template : (d : Data) → IsParsed d → IsParsed (unwrap_or (in_spec (code
 made_template d p = in_template (in_spec (codes "template") d) (in_parsed (codes "template") (get (codes "spec") d) (found (codes "spec") d p))
 
 pub pods_made : MadePodsAreParsed
-pods_made d refs named p f =
+pods_made d refs named u p f =
     let t = unwrap_or (in_spec (codes "template") d) empty in
     let tp : IsParsed t = made_template d p in
     let from = inner_of (get (codes "metadata") t) in
@@ -74,6 +75,6 @@ pods_made d refs named p f =
     let ms = keeping (copied) from no_members in
     let named_too = put (codes "generateName") (string named) ms in
     let all = put (codes "ownerReferences") (array refs) named_too in
-    let b : Both all = Both-put (codes "ownerReferences") (array refs) named_too f (Both-put (codes "generateName") (string named) ms tt (keeps copied from no_members fb (tt, tt))) in
+    let b : Both all = Both-set (codes "ownerReferences") refl (array refs) named_too f (Both-set (codes "generateName") refl (string named) ms u (keeps copied from no_members refl fb (tt, tt))) in
     let root = member (codes "metadata") (object all) no_members in
-    joined (as_held (codes "spec") (get (codes "spec") t) root) (held_put (codes "spec") (get (codes "spec") t) root (found (codes "spec") t tp) ((tt, tt), (joined all b, tt)))
+    joined (as_held (codes "spec") (get (codes "spec") t) root) (held_put (codes "spec") (get (codes "spec") t) root refl (found (codes "spec") t tp) ((tt, tt), (joined all b, tt, IsUtf8-are_ascii (codes "metadata") refl)))

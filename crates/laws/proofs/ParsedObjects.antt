@@ -1,9 +1,18 @@
 -- What is made of objects as a parser gives them, new, in the place of another or marked, is so too.
-use Rattle.std.proofs.Common.{◌≡◌, ◌<◌, ◌+◌, ◌^◌, ℕ, List, [], ◌∷◌, Bool, true, false, cond, codes, decimal, IfSome, Option, Some, None, option_and_then, unwrap_or, refl, arith}
+use Rattle.std.proofs.Common.{◌≡◌, ◌<◌, ◌+◌, ◌/◌, ◌%◌, ◌++◌, ◌^◌, ℕ, zero, suc, List, [], ◌∷◌, Bool, true, false, cond, codes, decimal, IfSome, Option, Some, None, option_and_then, unwrap_or, refl, arith}
 use Rattle.std.specs.Prelude.{nat_lt}
 use Rattle.std.proofs.lemmas.Bool.{ltb-true}
 use Rattle.serde_json.specs.Data.{Num, unsigned, negative, float, Data, null, boolean, number, string, array, object, Items, no_items, item, Members, put}
 use Rattle.serde_json.specs.Find.{get, get_member, as_array, as_number, as_u64}
+use Rattle.std.specs.List.{list_all}
+use Rattle.std.specs.Str.{IsUtf8}
+use Rattle.std.proofs.lemmas.Fmt.{IsAscii-decimal}
+use Rattle.std.proofs.lemmas.Str.{IsUtf8-from_ascii, IsUtf8-append, IsUtf8-nil}
+use Rattle.std.proofs.lemmas.Bool.Decides.{nat_tests}
+use Rattle.std.specs.Char.{digit_char}
+use Rattle.laws.proofs.TextsRead.{one_byte}
+use Rattle.json.proofs.Printed.Utf8.{are_ascii, IsUtf8-are_ascii}
+use Rattle.definitions.proofs.NoFloatsRead.{both_true}
 use Rattle.definitions.specs.declared.kinds.Kind.{Kind}
 use Rattle.definitions.specs.declared.kinds.Kind.TheVariants.{ConfigMap, Pod, ReplicaSet, Deployment}
 use Rattle.definitions.specs.declared.policies.Policy.{Policy}
@@ -15,10 +24,10 @@ use Rattle.definitions.specs.Kinds.{has_generation}
 use Rattle.definitions.specs.Metadata.{metadata, metadata_of, with_metadata, at_revision, is_being_deleted}
 use Rattle.definitions.specs.NewObjects.{new_metadata, first_status, with_status}
 use Rattle.definitions.specs.Replacements.{as_held, keeping, kept, kept_of, in_place, said_status, with_said_status, with_next_generation, next_generation, generation}
-use Rattle.definitions.specs.Uids.{uid_text, cluster_word}
+use Rattle.definitions.specs.Uids.{hex, uid_text, cluster_word}
 use Rattle.definitions.specs.Values.{members_of, without}
 use Rattle.definitions.specs.Reached.{IsInRange, IsParsed, AreParsed}
-use Rattle.laws.proofs.Parsed.{Both, joined, inside, Both-put, Both-without, found as found_at, found_in, inner}
+use Rattle.laws.proofs.Parsed.{Both, joined, inside, Both-put, Both-set, Both-without, found as found_at, found_in, inner}
 
 -- ---- objects with other members
 
@@ -26,10 +35,10 @@ pub meta : (d : Data) → IsParsed d → Both (metadata_of d)
 meta d p = inner (get (codes "metadata") d) (found_at (codes "metadata") d p)
 
 pub with_meta : (ms : Members) (d : Data) → Both ms → IsParsed d → IsParsed (with_metadata ms d)
-with_meta ms d b p = joined (put (codes "metadata") (object ms) (members_of d)) (Both-put (codes "metadata") (object ms) (members_of d) (joined ms b) (inside d p))
+with_meta ms d b p = joined (put (codes "metadata") (object ms) (members_of d)) (Both-set (codes "metadata") refl (object ms) (members_of d) (joined ms b) (inside d p))
 
-pub at : (r : ℕ) (ms : Members) (d : Data) → Both ms → IsParsed d → IsParsed (at_revision r ms d)
-at r ms d b p = with_meta (put (codes "resourceVersion") (string (decimal r)) ms) d (Both-put (codes "resourceVersion") (string (decimal r)) ms tt b) p
+pub at : (r : ℕ) (ms : Members) (d : Data) → r < 2 ^ 64 → Both ms → IsParsed d → IsParsed (at_revision r ms d)
+at r ms d low b p = with_meta (put (codes "resourceVersion") (string (decimal r)) ms) d (Both-set (codes "resourceVersion") refl (string (decimal r)) ms (IsUtf8-from_ascii (decimal r) (IsAscii-decimal r low)) b) p
 
 both_if : (b : Bool) (x y : Members) → Both x → Both y → Both (cond b x y)
 both_if true x y p q = p
@@ -37,43 +46,68 @@ both_if false x y p q = q
 
 -- ---- new objects
 
+digit_low : (d : ℕ) → d < 16 → digit_char d < 128
+digit_low d h = grind (arith, nat_tests)
+
+hex_text : (n x : ℕ) → IsUtf8 (hex n x)
+hex_text zero x = IsUtf8-nil
+hex_text (suc n) x = IsUtf8-append (hex n (x / 16)) (digit_char (x % 16) ∷ []) (hex_text n (x / 16)) (one_byte (digit_char (x % 16)) (digit_low (x % 16) (omega arith)))
+
+after_dash : (t : List ℕ) → IsUtf8 t → IsUtf8 (45 ∷ t)
+after_dash t u = IsUtf8-append (45 ∷ []) t (IsUtf8-are_ascii (45 ∷ []) refl) u
+
+uid_is_text : (r : ℕ) → IsUtf8 (uid_text cluster_word r)
+uid_is_text r =
+    IsUtf8-append (hex 8 (cluster_word / 2 ^ 16)) _ (hex_text 8 (cluster_word / 2 ^ 16))
+    (after_dash _ (IsUtf8-append (hex 4 cluster_word) _ (hex_text 4 cluster_word)
+    (after_dash _ (IsUtf8-append (codes "8000") _ (IsUtf8-are_ascii (codes "8000") refl)
+    (after_dash _ (IsUtf8-append (hex 4 ((2 ^ 63 + r) / 2 ^ 48)) _ (hex_text 4 ((2 ^ 63 + r) / 2 ^ 48)) (after_dash _ (hex_text 12 (r % 2 ^ 48)))))))))
+
 first : (k : Kind) → IfSome (first_status k) IsParsed
 first ConfigMap = tt
-first Pod = (tt, tt, tt)
-first ReplicaSet = (tt, omega arith, tt)
+first Pod = (tt, IsUtf8-are_ascii (codes "Pending") refl, tt, IsUtf8-are_ascii (codes "phase") refl)
+first ReplicaSet = (tt, omega arith, tt, IsUtf8-are_ascii (codes "replicas") refl)
 first Deployment = tt
 
 status_put : (s : Option Data) (ms : Members) → IfSome s IsParsed → Both ms → Both (with_status s ms)
 status_put None ms h b = b
-status_put (Some d) ms h b = Both-put (codes "status") d ms h b
+status_put (Some d) ms h b = Both-set (codes "status") refl d ms h b
 
-pub new_meta : (k : Kind) (r : ℕ) (ns named moment : List ℕ) (ms : Members) → Both ms → Both (new_metadata k r ns named moment ms)
-new_meta k r ns named moment ms b =
+pub new_meta : (k : Kind) (r : ℕ) (ns named moment : List ℕ) (ms : Members) → IsUtf8 ns → IsUtf8 named → IsUtf8 moment → Both ms → Both (new_metadata k r ns named moment ms)
+new_meta k r ns named moment ms space called now b =
     let left = without (codes "deletionTimestamp") ms in
     let c : Both left = Both-without (codes "deletionTimestamp") ms b in
-    Both-put (codes "uid") (string (uid_text cluster_word r)) _ tt
-    (Both-put (codes "creationTimestamp") (string moment) _ tt
-    (Both-put (codes "namespace") (string ns) _ tt
-    (Both-put (codes "name") (string named) _ tt (both_if (has_generation k) (put (codes "generation") (whole 1) left) left (Both-put (codes "generation") (whole 1) left (omega arith) c) c))))
+    Both-set (codes "uid") refl (string (uid_text cluster_word r)) _ (uid_is_text r)
+    (Both-set (codes "creationTimestamp") refl (string moment) _ now
+    (Both-set (codes "namespace") refl (string ns) _ space
+    (Both-set (codes "name") refl (string named) _ called (both_if (has_generation k) (put (codes "generation") (whole 1) left) left (Both-set (codes "generation") refl (whole 1) left (omega arith) c) c))))
 
 pub new_members : (k : Kind) (o : Data) → IsParsed o → IsParsed (object (with_status (first_status k) (members_of o)))
 new_members k o p = joined (with_status (first_status k) (members_of o)) (status_put (first_status k) (members_of o) (first k) (inside o p))
 
 -- ---- in the place of another
 
-pub held_put : (k : List ℕ) (o : Option Data) (ms : Members) → IfSome o IsParsed → Both ms → Both (as_held k o ms)
-held_put k None ms h b = Both-without k ms b
-held_put k (Some d) ms h b = Both-put k d ms h b
+pub held_put : (k : List ℕ) (o : Option Data) (ms : Members) → are_ascii k ≡ true → IfSome o IsParsed → Both ms → Both (as_held k o ms)
+held_put k None ms u h b = Both-without k ms b
+held_put k (Some d) ms u h b = Both-set k u d ms h b
 
-pub keeps : (ks : List (List ℕ)) (held ms : Members) → Both held → Both ms → Both (keeping ks held ms)
-keeps [] held ms h b = b
-keeps (k ∷ ks) held ms h b = keeps ks held (as_held k (get_member k held) ms) h (held_put k (get_member k held) ms (found_in k held h) b)
+pub keeps : (ks : List (List ℕ)) (held ms : Members) → list_all are_ascii ks ≡ true → Both held → Both ms → Both (keeping ks held ms)
+keeps [] held ms u h b = b
+keeps (k ∷ ks) held ms u h b =
+    let all = both_true (are_ascii k) (list_all are_ascii ks) u in
+    keeps ks held (as_held k (get_member k held) ms) all.1 h (held_put k (get_member k held) ms all.0 (found_in k held h) b)
+
+kept_ascii : (k : Kind) → list_all are_ascii (kept_of k) ≡ true
+kept_ascii ConfigMap = refl
+kept_ascii Pod = refl
+kept_ascii ReplicaSet = refl
+kept_ascii Deployment = refl
 
 pub placed : (k : Kind) (held o : Data) → IsParsed held → IsParsed o → IsParsed (in_place k held o)
 placed k held o h p =
     let ms = keeping (kept_of k) (members_of held) (members_of o) in
-    with_meta (keeping kept (metadata_of held) (metadata_of o)) (object ms) (keeps kept (metadata_of held) (metadata_of o) (meta held h) (meta o p))
-    (joined ms (keeps (kept_of k) (members_of held) (members_of o) (inside held h) (inside o p)))
+    with_meta (keeping kept (metadata_of held) (metadata_of o)) (object ms) (keeps kept (metadata_of held) (metadata_of o) refl (meta held h) (meta o p))
+    (joined ms (keeps (kept_of k) (members_of held) (members_of o) (kept_ascii k) (inside held h) (inside o p)))
 
 -- ---- generations
 
@@ -108,7 +142,7 @@ counts held h =
 
 pub counted : (b : Bool) (held : Data) (ms : Members) → IsParsed held → Both ms → Both (with_next_generation b held ms)
 counted b held ms h m =
-    both_if b (put (codes "generation") (whole (next_generation (generation held))) ms) ms (Both-put (codes "generation") (whole (next_generation (generation held))) ms (counts held h) m) m
+    both_if b (put (codes "generation") (whole (next_generation (generation held))) ms) ms (Both-set (codes "generation") refl (whole (next_generation (generation held))) ms (counts held h) m) m
 
 -- ---- statuses
 
@@ -141,8 +175,8 @@ others last no_items l h = l
 others last (item d ds) l h = items_if (is_of_policy d) (others_then last ds) (item d (others_then last ds)) (others last ds l h.1) (h.0, others last ds l h.1)
 
 policy_items : (p : Policy) → AreParsed (of_policy p)
-policy_items Orphan = (tt, tt)
-policy_items Foreground = (tt, tt)
+policy_items Orphan = (IsUtf8-are_ascii (codes "orphan") refl, tt)
+policy_items Foreground = (IsUtf8-are_ascii (codes "foregroundDeletion") refl, tt)
 policy_items Background = tt
 
 left_items : (o : Option Policy) (ds : Items) → AreParsed ds → AreParsed (left_by o ds)
@@ -150,13 +184,13 @@ left_items None ds h = h
 left_items (Some p) ds h = items_if (are_of p ds) ds (others_then (of_policy p) ds) h (others (of_policy p) ds (policy_items p) h)
 
 -- the metadata of a mark
-pub marked_meta : (k : Kind) (moment : List ℕ) (o : Option Policy) (held : Data) → IsParsed held
+pub marked_meta : (k : Kind) (moment : List ℕ) (o : Option Policy) (held : Data) → IsUtf8 moment → IsParsed held
     → Both (put (codes "finalizers") (array (left_by o (finalizers held))) (with_deletion k moment held))
-marked_meta k moment o held h =
+marked_meta k moment o held now h =
     let left = left_by o (finalizers held) in
     let ds : AreParsed left = left_items o (finalizers held) (items_of_some (metadata (codes "finalizers") held) (found_in (codes "finalizers") (metadata_of held) (meta held h))) in
     let rising = with_next_generation (has_generation k) held (metadata_of held) in
     let deleted : Both (with_deletion k moment held) =
     both_if (is_being_deleted held) (metadata_of held) (put (codes "deletionTimestamp") (string moment) rising) (meta held h)
-    (Both-put (codes "deletionTimestamp") (string moment) rising tt (counted (has_generation k) held (metadata_of held) h (meta held h))) in
-    Both-put (codes "finalizers") (array left) (with_deletion k moment held) ds deleted
+    (Both-set (codes "deletionTimestamp") refl (string moment) rising now (counted (has_generation k) held (metadata_of held) h (meta held h))) in
+    Both-set (codes "finalizers") refl (array left) (with_deletion k moment held) ds deleted

@@ -1,8 +1,9 @@
 -- What is read of a request is well asked, moments are times, and what has happened after some lines is reached.
-use Rattle.std.proofs.Common.{◌≡◌, ◌≤◌, ◌==◌, ◌&&◌, ℕ, List, [], ◌∷◌, ◌++◌, length, Bool, true, false, cond, not, nat_le, codes, bytes_eq, IfSome, Option, Some, None, Result, Ok, Err, refl, sym, subst, arith}
-use Rattle.std.specs.Str.{is_utf8}
+use Rattle.std.proofs.Common.{◌≡◌, ◌≤◌, ◌<◌, nat_lt, ◌==◌, ◌&&◌, ℕ, List, [], ◌∷◌, ◌++◌, length, Bool, true, false, cond, not, nat_le, codes, bytes_eq, IfSome, Option, Some, None, Result, Ok, Err, refl, sym, subst, arith}
+use Rattle.std.proofs.lemmas.Bool.{ltb-true, lt-ltb}
+use Rattle.std.proofs.lemmas.Bool.Decides.{nat_tests}
+use Rattle.json.proofs.Printed.Utf8.{are_ascii, IsUtf8-are_ascii}
 use Rattle.serde_json.specs.Data.{Data}
-use Rattle.serde_json.specs.Read.{read}
 use Rattle.definitions.specs.declared.methods.Method.{Method}
 use Rattle.definitions.specs.declared.methods.Method.TheVariants.{Get, Post, Put, Patch, Delete}
 use Rattle.definitions.specs.declared.refusals.Part.{Part}
@@ -22,7 +23,7 @@ use Rattle.definitions.specs.Targets.{Asked, request, list, watch, Route, collec
 use Rattle.definitions.specs.Verbs.{Request, create_object, update_object, update_status, patch_object, accept, with_write, write_of}
 use Rattle.definitions.specs.DeleteOptions.{Options}
 use Rattle.definitions.specs.History as history
-use Rattle.laws.proofs.Parsed.{parsed_read}
+use Rattle.laws.proofs.Parsed.{parsed_data}
 use Rattle.definitions.proofs.NoFloatsRead.{both_true}
 use Rattle.laws.proofs.Runs.{kept_asked, kept_watched, by_compaction}
 use Rattle.definitions.specs.Reached.{IsParsed, IsAsked, IsTime, IsReached, opened, asks, compacts}
@@ -38,10 +39,6 @@ well_or : (b : Bool) (f : Refusal) (r : Result Asked Refusal) → (b ≡ false �
 well_or true f r each = tt
 well_or false f r each = each refl
 
-ordered_data : (b : Bool) (text : List ℕ) → IfSome (cond b (read text) None) IsParsed
-ordered_data true text = parsed_read text
-ordered_data false text = tt
-
 abbrev IsOrderedBody : Result Data Refusal → Type 0
 IsOrderedBody (Err f) = Unit {0}
 IsOrderedBody (Ok d) = IsParsed d
@@ -51,7 +48,7 @@ ordered_or None h = tt
 ordered_or (Some d) h = h
 
 ordered_body : (text : List ℕ) → IsOrderedBody (body_of text)
-ordered_body text = ordered_or (data_of text) (ordered_data (is_utf8 text) text)
+ordered_body text = ordered_or (data_of text) (parsed_data text)
 
 well_with : (f : Data → Request) (r : Result Data Refusal) → ((d : Data) → IsParsed d → IsAsked (f d)) → IsOrderedBody r → AsksWell (asks_with f r)
 well_with f (Err e) each h = tt
@@ -129,10 +126,24 @@ has_moment_form t h =
     first_true (has_form (codes "0000-00-00T00:00:00Z") t) (is_day (moments.part 0 4 t) (moments.part 5 2 t) (moments.part 8 2 t)) (nat_le (moments.part 11 2 t) 23) (nat_le (moments.part 14 2 t) 59)
     (nat_le (moments.part 17 2 t) 59) h
 
+byte_ascii : (v : Bool) (f b : ℕ) → f < 128 → cond v (is_digit b) (b == f) ≡ true → b < 128
+byte_ascii true f b low h = grind (arith, nat_tests)
+byte_ascii false f b low h = grind (arith, nat_tests)
+
+form_ascii : (form t : List ℕ) → are_ascii form ≡ true → has_form form t ≡ true → are_ascii t ≡ true
+form_ascii [] [] low h = refl
+form_ascii [] (b ∷ bs) low h = cc
+form_ascii (f ∷ fs) [] low h = cc
+form_ascii (f ∷ fs) (b ∷ bs) low h =
+    let here = both_true (cond (f == 48) (is_digit b) (b == f)) (has_form fs bs) h in
+    let lows = both_true (nat_lt f 128) (are_ascii fs) low in
+    let byte = byte_ascii (f == 48) f b (ltb-true f 128 lows.0) here.0 in
+    rw (lt-ltb b 128 byte) (form_ascii fs bs lows.1 here.1)
+
 timed_moment : (t : List ℕ) → is_moment t ≡ true → IsTime t
 timed_moment t h =
     let long : length t ≡ 20 = as_long (codes "0000-00-00T00:00:00Z") t (has_moment_form t h) in
-    (omega arith, omega arith)
+    (omega arith, omega arith, IsUtf8-are_ascii t (form_ascii (codes "0000-00-00T00:00:00Z") t refl (has_moment_form t h)))
 
 timed_either : (b : Bool) (x y : Line) → IsTimed x → IsTimed y → IsTimed (cond b x y)
 timed_either true x y p q = p
@@ -197,7 +208,7 @@ module _ (P : History → Type 0) (each : (q : Request) (h : History) (moment : 
   by_session s (t ∷ ts) p = by_session (next s t) ts (by_text (length t == 0) s t p)
 
   by_asked : (lines : List (List ℕ)) → P [] → P (history_of lines)
-  by_asked lines p = (by_session (start default_window) lines ((omega arith, omega arith), p)).1
+  by_asked lines p = (by_session (start default_window) lines ((omega arith, omega arith, IsUtf8-are_ascii (codes "2026-01-01T00:00:00Z") refl), p)).1
 
 asks_of : (q : Request) (r : Result Asked Refusal) → r ≡ Ok (request q) → AsksWell r → IsAsked q
 asks_of q r is well = subst AsksWell is well

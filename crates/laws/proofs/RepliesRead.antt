@@ -1,7 +1,11 @@
 -- What a list is answered is read as the list, and what is sent of an object as the object.
-use Rattle.std.proofs.Common.{◌≡◌, ◌+◌, ℕ, List, [], ◌∷◌, map, Bool, true, false, cond, Option, IfSome, None, Some, codes, is_eq, refl, ap, ◌∙◌, arith}
+use Rattle.std.proofs.Common.{◌≡◌, ◌≤◌, ◌<◌, ◌+◌, ◌^◌, ◌++◌, ℕ, List, [], ◌∷◌, map, Bool, true, false, cond, Option, IfSome, None, Some, codes, decimal, is_eq, refl, sym, subst, ap, ◌∙◌, arith}
 use Rattle.std.specs.List.{AllByRecursion}
 use Rattle.std.specs.Ordering.{nat_cmp}
+use Rattle.std.specs.Str.{IsUtf8}
+use Rattle.std.proofs.lemmas.Fmt.{IsAscii-decimal}
+use Rattle.std.proofs.lemmas.Str.{IsUtf8-append, IsUtf8-from_ascii, is_utf8-from_IsUtf8}
+use Rattle.json.proofs.Printed.Utf8.{IsUtf8-are_ascii}
 use Rattle.std.specs.Cmp.Lexicographic.{slice_cmp}
 use Rattle.serde_json.specs.Data as json
 use Rattle.serde_json.specs.Data.{Data, null, boolean, number, string, array, object, no_members, member}
@@ -10,6 +14,7 @@ use Rattle.serde_json.specs.View.{items_of}
 use Rattle.serde_json.specs.Written.{compact_text, has_float, items_have_float, members_have_float}
 use Rattle.definitions.specs.declared.kinds.Kind.{Kind}
 use Rattle.definitions.specs.History.{History, Write, View, Members, writes, present, list}
+use Rattle.definitions.specs.Kinds.{api_version, kind_text}
 use Rattle.definitions.specs.Names.{Name}
 use Rattle.definitions.specs.Reached.{IsParsed, AreParsed, IsReached}
 use Rattle.definitions.specs.Values.{members_of, without}
@@ -18,7 +23,9 @@ use Rattle.definitions.proofs.PageLists.{all_after}
 use Rattle.laws.specs.ReplyLaws.{list_reply, RepliesAreRead, ObjectsAreReadBack}
 use Rattle.laws.specs.SentLaws.{whole}
 use Rattle.definitions.proofs.NoFloatsRead.{first_false, second_false, has_float-is_body}
-use Rattle.laws.proofs.Parsed.{joined, inside, Both-without}
+use Rattle.laws.proofs.Parsed.{joined, inside, Both-without, version_ascii, kind_ascii}
+use Rattle.laws.proofs.Limited.{limited}
+use Rattle.laws.proofs.WrittenTexts.{text_written}
 use Rattle.laws.proofs.ParsedEdits.{listed_parsed}
 use Rattle.laws.proofs.ReadBack.{read_back}
 use Rattle.laws.proofs.SentChanges.{read_body, nests}
@@ -73,21 +80,28 @@ items_parsed : (ms : Members) → AllByRecursion (λ (m : Name × Data). IsParse
 items_parsed [] a = tt
 items_parsed (m ∷ ms) a = (item_parsed m.1 a.0, items_parsed ms a.1)
 
-list_parsed : (h : History) (v : View) (k : Kind) (r : ℕ) → IsReached h → IsParsed (list_body k r (list h v r))
-list_parsed h v k r reached =
-    let items = items_parsed (list h v r) (listed_parsed h v r reached) in
-    ((refl, (refl, (refl, tt))), tt, ((refl, (refl, tt)), items, ((refl, tt), tt, (tt, (tt, tt, tt), tt))))
+list_parsed : (h : History) (v : View) (k : Kind) (r : ℕ) → r < 2 ^ 64 → IsReached h → IsParsed (list_body k r (list h v r))
+list_parsed h v k r low reached =
+    let items = items_parsed (list h v r) (listed_parsed h v r reached) in (
+      (refl, (refl, (refl, tt))),
+      IsUtf8-are_ascii (api_version k) (version_ascii k),
+      ((refl, (refl, tt)), items, ((refl, tt), IsUtf8-append (kind_text k) (codes "List") (IsUtf8-are_ascii (kind_text k) (kind_ascii k)) (IsUtf8-are_ascii (codes "List") refl), (tt, (tt, IsUtf8-from_ascii (decimal r) (IsAscii-decimal r low), tt, IsUtf8-are_ascii (codes "resourceVersion") refl), tt, IsUtf8-are_ascii (codes "metadata") refl), IsUtf8-are_ascii (codes "kind") refl), IsUtf8-are_ascii (codes "items") refl),
+      IsUtf8-are_ascii (codes "apiVersion") refl,
+    )
 
 -- ---- it is read back
 
-reads_back : (h : History) (k : Kind) (r : ℕ) → IsReached h → (let d : Data = list_body k r (list h (whole k) r) in read (compact_text d) ≡ Some d)
-reads_back h k r reached = read_back (list_body k r (list h (whole k) r)) (list_parsed h (whole k) k r reached) (no_floats h k r reached) (lists_nest h k r reached)
+reads_back : (h : History) (k : Kind) (r : ℕ) → r < 2 ^ 64 → IsReached h → (let d : Data = list_body k r (list h (whole k) r) in read (compact_text d) ≡ Some d)
+reads_back h k r low reached = read_back (list_body k r (list h (whole k) r)) (list_parsed h (whole k) k r low reached) (no_floats h k r reached) (lists_nest h k r reached)
 
 pub replies_read : RepliesAreRead
-replies_read h size k reached utf8 =
+replies_read h size k reached =
+    let few : present h ≤ 9007199254740991 = (limited h reached).1 in
+    let low : present h < 2 ^ 64 = omega (arith, few) in
     let d = list_body k (present h) (list h (whole k) (present h)) in
-    let says : read (compact_text (list_reply size h k)) ≡ Some d = ap (λ z. read (compact_text z)) (reply_is size h k) ∙ reads_back h k (present h) reached in
-    lists_read h k (present h) (compact_text (list_reply size h k)) reached (record { reached = omega arith; utf8 = utf8; says = says })
+    let says : read (compact_text (list_reply size h k)) ≡ Some d = ap (λ z. read (compact_text z)) (reply_is size h k) ∙ reads_back h k (present h) low reached in
+    let text : IsUtf8 (compact_text (list_reply size h k)) = subst (λ z. IsUtf8 (compact_text z)) (sym (reply_is size h k)) (text_written d (list_parsed h (whole k) k (present h) low reached)) in
+    lists_read h k (present h) (compact_text (list_reply size h k)) reached (record { reached = omega arith; utf8 = is_utf8-from_IsUtf8 (compact_text (list_reply size h k)) text; says = says })
 
 -- ---- objects are read back
 

@@ -5,17 +5,16 @@ use Rattle.std.specs.Cmp.Lexicographic.{slice_cmp}
 use Rattle.std.specs.Ordering.{match_ordering}
 use Rattle.serde_json.specs.Data.{Data, null, boolean, number, string, array, object, Members, no_members, member, put}
 use Rattle.serde_json.specs.Find.{get, get_member}
-use Rattle.serde_json.specs.Read.{read}
 use Rattle.serde_json.specs.Written.{compact_text}
 use Rattle.definitions.specs.Metadata.{metadata, metadata_of, with_metadata}
 use Rattle.laws.specs.ReplacementLaws.{without_version, IsReadBack, SameButForTheVersion, UpdatesAreAtTheVersion}
 use Rattle.definitions.specs.Replacements.{as_held, keeping, kept, kept_of, said_status}
-use Rattle.definitions.specs.Values.{members_of, inner_of, without}
+use Rattle.definitions.specs.Values.{data_of, members_of, inner_of, without}
 use Rattle.serde_json.proofs.Views.{get_member-put}
 use Rattle.definitions.proofs.JsonMembers.{metadata_of-with}
 use Rattle.laws.proofs.JsonOrder.{IsOrdered, put_back}
 use Rattle.definitions.specs.Reached.{IsParsed}
-use Rattle.laws.proofs.Parsed.{inside, parsed_read}
+use Rattle.laws.proofs.Parsed.{inside, parsed_data}
 use Rattle.laws.proofs.ParsedObjects.{meta}
 use Rattle.laws.proofs.TextLengths.{put_same, put_twice}
 use Rattle.laws.proofs.VerbLaws.{metadata_of-status}
@@ -50,7 +49,7 @@ own_metadata (object ms) meta a h =
     ap object (ap (λ o. put (codes "metadata") (object (inner_of o)) ms) h ∙ put_same (codes "metadata") (object meta) ms a h)
 
 parsed : (d : Data) → IsReadBack d → IsParsed d
-parsed d h = subst (λ o. IfSome o IsParsed) h.0 (parsed_read (compact_text d))
+parsed d h = subst (λ o. IfSome o IsParsed) h.0 (parsed_data (compact_text d))
 
 -- the version put back into an object without it
 abbrev with_version : Option Data → Data → Data
@@ -72,7 +71,7 @@ one_object d e h = cc
 pub same_objects : SameButForTheVersion
 same_objects stored d h g version =
     let texts = bytes_eq-Decides (compact_text stored) (compact_text d) in (
-      λ says. ap without_version (one_object stored d (sym h.0 ∙ ap read (texts.0 says) ∙ g.0)),
+      λ says. ap without_version (one_object stored d (sym h.0 ∙ ap data_of (texts.0 says) ∙ g.0)),
       λ same. texts.1 (ap compact_text (sym (version_back stored h) ∙ ap₂ with_version version same ∙ version_back d g)),
     )
 

@@ -90,7 +90,7 @@ stored_in k r meta d w m p a says low fits room =
       stands = stands_at r meta d;
       fits = fits;
       room = room;
-      parsed = at r meta d a p;
+      parsed = at r meta d (omega (arith, low)) a p;
     }
 
 pub stored_at : (k : Name) (r : ℕ) (meta : Members) (d : Data) → AreWhole k.kind (members_of d) → Neat 98 Metadata meta → IsParsed d → Both meta → Says k meta → r ≤ 9007199254740991

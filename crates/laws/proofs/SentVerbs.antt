@@ -33,6 +33,7 @@ use Rattle.definitions.proofs.JsonMembers.{apart, text_in, text_in-put_other, me
 use Rattle.laws.proofs.JsonOrder.{IsOrdered}
 use Rattle.laws.proofs.LeftFinalizers.{one_finalizers, texts_held, texts_left}
 use Rattle.laws.proofs.MarkedObjects.{marked_fits, room_marked, with_finalizers}
+use Rattle.laws.proofs.NameBytes.{namespace_text, name_text}
 use Rattle.laws.proofs.NeatMembers.{Neat, Neat-put, IsFilled, One}
 use Rattle.definitions.specs.Reached.{IsParsed, IsAsked, IsTime}
 use Rattle.laws.proofs.Parsed.{parsed_said, parsed_reading, parsed_merged}
@@ -41,7 +42,7 @@ use Rattle.laws.proofs.TextLengths.{put_twice}
 use Rattle.laws.proofs.VerbLaws.{kept_is, text-with_deletion}
 use Rattle.definitions.proofs.FirstStatus.{get-members_of}
 use Rattle.laws.proofs.WholeObjects.{AreWhole, may_first, neat_metadata, whole_in_place, whole_read, whole_said, whole_status, whole_with_said}
-use Rattle.laws.proofs.SentObjects.{IsStored, IsHeld, Says, stored_in, stored_at, whole_stored, filled_new, neat_generation, neat_new, filled_long, Stores, low_after, either_false, behind, behind_field, by_if_same, by_put}
+use Rattle.laws.proofs.SentObjects.{IsStored, IsHeld, Says, stored_in, stored_at, whole_stored, created_valid, filled_new, neat_generation, neat_new, filled_long, Stores, low_after, either_false, behind, behind_field, by_if_same, by_put}
 
 filled_namespace : (ns : List ℕ) → is_namespace ns ≡ true → IsFilled ns
 filled_namespace [] h = cc
@@ -49,7 +50,7 @@ filled_namespace (b ∷ bs) h = filled_long (b ∷ bs) (omega arith)
 
 -- ---- create
 
-by_create : (kind : Kind) (ns : List ℕ) (d : Data) (ms : history.Members) (r : ℕ) (moment : List ℕ) → IsFilled ns → IsFilled moment → IsParsed d
+by_create : (kind : Kind) (ns : List ℕ) (d : Data) (ms : history.Members) (r : ℕ) (moment : List ℕ) → is_namespace ns ≡ true → IsTime moment → IsParsed d
     → Stores (r + 1) (create_read kind ns (said kind d) ms r moment)
 by_create kind ns d ms r moment space now a =
     of_create (Stores (r + 1)) (λ f. tt) kind ns (said kind d) ms r moment
@@ -67,8 +68,8 @@ by_create kind ns d ms r moment space now a =
     } in
     let low = low_after (r + 1) (either_false (nat_le most_objects (length ms)) (is_past_greatest (r + 1)) room) in
     stored_at k (r + 1) meta new (whole_status kind (first_status kind) (members_of o) (may_first kind) w)
-    (neat_new kind (r + 1) ns k.name moment (metadata_of o) space (filled_new kind ns o ms r r none) now (neat_metadata kind o w))
-    (new_members kind o p) (new_meta kind (r + 1) ns k.name moment (metadata_of o) (meta_of o p)) says low fits)
+    (neat_new kind (r + 1) ns k.name moment (metadata_of o) (filled_namespace ns space) (filled_new kind ns o ms r r none) (filled_long moment now.0) (neat_metadata kind o w))
+    (new_members kind o p) (new_meta kind (r + 1) ns k.name moment (metadata_of o) (namespace_text ns space) (name_text k.name (created_valid kind ns o ms r r none)) now.2 (meta_of o p)) says low fits)
 
 -- ---- update
 
@@ -221,7 +222,7 @@ by_mark k o r s moment held now was some low =
     Neat-put 98 Metadata (codes "finalizers") (array left) from (one_finalizers left (texts_left o (finalizers held) (texts_held (metadata_of held) m)) some)
     (neat_deletion (is_being_deleted held) (has_generation k.kind) moment held (filled_long moment now.0) m) in
     let stored_so : IsStored k r (at_revision r meta held) =
-    stored_in k r meta held w neat was.parsed (marked_meta k.kind moment o held was.parsed) (says_marked k s moment left held was) low (marked_fits k.kind moment now.1 held a was.room r o low) (room_marked k.kind moment now.1 held a was.room r o) in
+    stored_in k r meta held w neat was.parsed (marked_meta k.kind moment o held now.2 was.parsed) (says_marked k s moment left held was) low (marked_fits k.kind moment now.1 held a was.room r o low) (room_marked k.kind moment now.1 held a was.room r o) in
     subst (IsStored k r) (sym (marked_at k.kind r moment left held)) stored_so
 
 by_fated : (k : Name) (code : ℕ) (held : Data) (r : ℕ) (none known : Bool) (d : Data) → (none ≡ false → r + 1 ≤ 9007199254740991 → IsStored k (r + 1) (at_revision (r + 1) (metadata_of d) d))
@@ -253,7 +254,7 @@ by_delete k o ms r moment now held =
 pub stores : (q : Request) (h : History) (moment : List ℕ) → IsAsked q → IsTime moment → ((k : Name) → IfSome (found k (members h (present h))) (IsHeld k)) → Stores (present h + 1) (accept q h moment)
 stores (get_object k) h moment asked now held = there (Stores (present h + 1)) (λ f. tt) k shown (found k (members h (present h))) (λ d is. tt)
 stores (list_objects v) h moment asked now held = tt
-stores (create_object kind ns d) h moment asked now held = by_create kind ns d (members h (present h)) (present h) moment (filled_namespace ns asked.0) (filled_long moment now.0) asked.1
+stores (create_object kind ns d) h moment asked now held = by_create kind ns d (members h (present h)) (present h) moment asked.0 now asked.1
 stores (update_object k d) h moment asked now held = by_update k d (said k.kind d) (members h (present h)) (present h) refl asked (held k)
 stores (update_status k d) h moment asked now held = by_status k d (reading k.kind d) (members h (present h)) (present h) refl asked (held k)
 stores (patch_object k d) h moment asked now held = by_patch k d (members h (present h)) (present h) asked (held k)

@@ -1,6 +1,7 @@
 -- What is there may be asked again: it is as a parser gives it, and stays so where a member of it is changed.
 use Rattle.std.specs.Prelude.{◌≡◌, ◌⊎◌, ℕ, List, [], ◌∷◌, Bool, true, Some, Ok, codes, unwrap_or}
 use Rattle.std.specs.List.{AllByRecursion}
+use Rattle.std.specs.Str.{IsUtf8}
 use Rattle.serde_json.specs.Data.{Data, boolean, string, array, object, Items, no_items, item, no_members, member, put}
 use Rattle.serde_json.specs.Find.{get}
 use Rattle.definitions.specs.declared.kinds.Kind.{Kind}
@@ -32,16 +33,16 @@ NamesAreValid = (h : History) (r : ℕ) (k : Name) (d : Data) → IsReached h �
 -- what is parsed stays so with a member set in its metadata, or taken out of it
 abbrev pub MetadataEditsStayParsed : Type 0
 MetadataEditsStayParsed =
-    (d e : Data) (q : List ℕ) → IsParsed d → IsParsed e
+    (d e : Data) (q : List ℕ) → IsUtf8 q → IsParsed d → IsParsed e
     → IsParsed (with_metadata (put q e (metadata_of d)) d) × IsParsed (with_metadata (without q (metadata_of d)) d)
 
 -- with another member, as its status
 abbrev pub MembersStayParsed : Type 0
-MembersStayParsed = (d e : Data) (q : List ℕ) → IsParsed d → IsParsed e → IsParsed (object (put q e (members_of d)))
+MembersStayParsed = (d e : Data) (q : List ℕ) → IsUtf8 q → IsParsed d → IsParsed e → IsParsed (object (put q e (members_of d)))
 
 -- and with a member set in one of its members, as the replicas in its spec
 abbrev pub InnerEditsStayParsed : Type 0
-InnerEditsStayParsed = (d e : Data) (p q : List ℕ) → IsParsed d → IsParsed e → IsParsed (object (put p (object (put q e (inner_of (get p d)))) (members_of d)))
+InnerEditsStayParsed = (d e : Data) (p q : List ℕ) → IsUtf8 p → IsUtf8 q → IsParsed d → IsParsed e → IsParsed (object (put p (object (put q e (inner_of (get p d)))) (members_of d)))
 
 -- of owner references, a truth value
 abbrev pub IsFlag : List ℕ → Type 0
@@ -71,7 +72,7 @@ copied = codes "annotations" ∷ codes "finalizers" ∷ codes "labels" ∷ []
 -- the pod that is made of an object's template, with owner references and a name to be made, is as a parser gives it (Kubernetes, ReplicaSet)
 abbrev pub MadePodsAreParsed : Type 0
 MadePodsAreParsed =
-    (d : Data) (refs : Items) (named : List ℕ) → IsParsed d → AreParsed refs
+    (d : Data) (refs : Items) (named : List ℕ) → IsUtf8 named → IsParsed d → AreParsed refs
     → (let t = unwrap_or (in_spec (codes "template") d) empty in
     IsParsed
     (object

@@ -2,12 +2,11 @@
 use Rattle.std.specs.Prelude.{◌≡◌, ◌↔◌, true, Some, codes}
 use Rattle.serde_json.specs.Data.{Data, object, Members}
 use Rattle.serde_json.specs.Find.{get}
-use Rattle.serde_json.specs.Read.{read}
 use Rattle.serde_json.specs.Written.{compact_text}
 use Rattle.definitions.specs.declared.kinds.Kind.{Kind}
 use Rattle.definitions.specs.Metadata.{metadata, metadata_of, with_metadata}
 use Rattle.definitions.specs.Replacements.{in_place, says_the_same, with_said_status}
-use Rattle.definitions.specs.Values.{without}
+use Rattle.definitions.specs.Values.{data_of, without}
 
 -- an object without its version
 abbrev pub without_version : Data → Data
@@ -15,7 +14,7 @@ without_version d = with_metadata (without (codes "resourceVersion") (metadata_o
 
 -- an object with metadata, which is what its own text is read as
 abbrev pub IsReadBack : Data → Type 0
-IsReadBack d = (read (compact_text d) ≡ Some d) × (meta : Members) × (get (codes "metadata") d ≡ Some (object meta))
+IsReadBack d = (data_of (compact_text d) ≡ Some d) × (meta : Members) × (get (codes "metadata") d ≡ Some (object meta))
 
 -- two objects at one version say the same exactly if they are the same but for it
 abbrev pub SameButForTheVersion : Type 0

@@ -1,7 +1,6 @@
 -- What lists and their pages are answered, and what a reader makes of it.
-use Rattle.std.specs.Prelude.{◌≡◌, ℕ, List, [], ◌∷◌, ◌++◌, map, true, Option, Some, None, option_and_then, unwrap_or, IfSome, Ok, decimal, codes}
+use Rattle.std.specs.Prelude.{◌≡◌, ℕ, List, [], ◌∷◌, ◌++◌, map, Option, Some, None, option_and_then, unwrap_or, IfSome, Ok, decimal, codes}
 use Rattle.std.specs.List.{AllByRecursion}
-use Rattle.std.specs.Str.{is_utf8}
 use Rattle.serde_json.specs.Data.{Data, Items, no_items, item}
 use Rattle.serde_json.specs.Find.{get, as_array}
 use Rattle.serde_json.specs.Read.{read}
@@ -35,11 +34,10 @@ pub record ListsAreOnePage : Type 0 where
 abbrev pub list_reply : ℕ → History → Kind → Data
 list_reply size h k = outcome_body (list_outcome size h (whole k) newest)
 
--- whoever asked, what a list of a kind is answered, a text in UTF-8, is read by a reflector as the present revision and the objects there
+-- whoever asked, what a list of a kind is answered is read by a reflector as the present revision and the objects there
 abbrev pub RepliesAreRead : Type 0
 RepliesAreRead =
-    (h : History) (size : ℕ) (k : Kind) → IsReached h → is_utf8 (compact_text (list_reply size h k)) ≡ true
-    → list_of k (compact_text (list_reply size h k)) ≡ Some (listed_at h k (present h))
+    (h : History) (size : ℕ) (k : Kind) → IsReached h → list_of k (compact_text (list_reply size h k)) ≡ Some (listed_at h k (present h))
 
 -- whoever asked, the text of each object that was ever stored is read as the object
 abbrev pub ObjectsAreReadBack : Type 0

@@ -3,6 +3,7 @@ use Rattle.std.specs.Prelude.{◌≡◌, ◌≤◌, ◌<◌, ◌^◌, ℕ, ℤ, 
 use Rattle.std.specs.Ordering.{nat_cmp}
 use Rattle.std.specs.declared.cmp.Ordering.TheVariants.{Less}
 use Rattle.std.specs.Cmp.Lexicographic.{slice_cmp}
+use Rattle.std.specs.Str.{IsUtf8}
 use Rattle.serde_json.specs.Data.{Num, unsigned, negative, float, Data, null, boolean, number, string, array, object, Items, no_items, item, Members, no_members, member}
 use Rattle.definitions.specs.State.History.{History, compaction, present}
 use Rattle.definitions.specs.Texts.Names.{is_namespace}
@@ -26,14 +27,14 @@ IsInRange (unsigned n) = n < 2 ^ 64
 IsInRange (negative z) = IsBelowZero z
 IsInRange (float x) = Unit {0}
 
--- data as a parser gives it: the members of each object in the order of their names, each name once (RFC 8259, Objects), and each
--- integer one of 64 bits
+-- data as a parser gives it: the members of each object in the order of their names, each name once (RFC 8259, Objects), each
+-- integer one of 64 bits, and each text in UTF-8
 abbrev mutual
   pub IsParsed : Data → Type 0
   IsParsed null = Unit {0}
   IsParsed (boolean b) = Unit {0}
   IsParsed (number n) = IsInRange n
-  IsParsed (string t) = Unit {0}
+  IsParsed (string t) = IsUtf8 t
   IsParsed (array ds) = AreParsed ds
   IsParsed (object ms) = AreInOrder ms
 
@@ -43,7 +44,7 @@ abbrev mutual
 
   pub AreInOrder : Members → Type 0
   AreInOrder no_members = Unit {0}
-  AreInOrder (member k d ms) = IsBefore k ms × IsParsed d × AreInOrder ms
+  AreInOrder (member k d ms) = IsBefore k ms × IsParsed d × AreInOrder ms × IsUtf8 k
 
 -- a request as it can be read of bytes: a create is in a namespace, and a body is as a parser gives it
 abbrev pub IsAsked : Request → Type 0
@@ -55,9 +56,9 @@ IsAsked (update_status k d) = IsParsed d
 IsAsked (patch_object k d) = IsParsed d
 IsAsked (delete_object k o) = Unit {0}
 
--- a text as long as a moment can be; it is not read
+-- a text in UTF-8, as long as a moment can be; it is not read
 abbrev pub IsTime : List ℕ → Type 0
-IsTime moment = (0 < length moment) × (length moment ≤ 20)
+IsTime moment = (0 < length moment) × (length moment ≤ 20) × IsUtf8 moment
 
 -- ---- what has happened
 
