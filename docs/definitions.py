@@ -1,8 +1,8 @@
 #!/usr/bin/env python3
-"""Writes docs/DEFINITIONS.md, the index of meaning, from the comments of the definitions and of the laws themselves.
+"""Writes docs/DEFINITIONS.md, the index of the words, and docs/LAWS.md, what follows from them, from the files' own comments.
 
-    python3 docs/definitions.py            writes the file
-    python3 docs/definitions.py --check    changes nothing; the status is 1 where the file is not the present one
+    python3 docs/definitions.py            writes both
+    python3 docs/definitions.py --check    changes nothing; the status is 1 where one of them is not the present one
 """
 
 import re
@@ -12,21 +12,20 @@ from pathlib import Path
 DOCS = Path(__file__).resolve().parent
 SPECS = DOCS.parent / "crates/definitions/specs"
 LAWS = DOCS.parent / "crates/laws/src"
-INDEX = DOCS / "DEFINITIONS.md"
 
 HEAD = """# Definitions
 
-What a reader has to believe: the words by which contracts speak, and the laws that follow. `docs/definitions.py` makes this page
-of the comments of the files.
+What a reader has to believe: the words by which contracts speak. What follows from them is in [LAWS.md](LAWS.md).
+`docs/definitions.py` makes both pages of the comments of the files.
 
 The words are in `crates/definitions/specs`, in reading order; a row has those that other definitions or laws use. Texts are lists
 of bytes, and numbers are natural, unless a definition says otherwise.
 """
 
-LAWS_HEAD = """
-# Laws
+LAWS_HEAD = """# Laws
 
-Each is the contract of a public function in `crates/laws/src`. Single cases are in `crates/examples`.
+What follows from the [definitions](DEFINITIONS.md), whatever code meets them. Each law is the contract of a public function in
+`crates/laws/src`, and proved. Single cases, computed, are in `crates/examples`. `docs/definitions.py` makes this page.
 """
 
 
@@ -76,36 +75,36 @@ def folder_rows(name, used):
 
 
 def law_rows(path):
-    """The heading of a file of laws, and for each law its name and what it says, without the remark after a colon."""
-    rows = ["", f"## `{path.name}`", ""]
+    """The heading of a file of laws, its own sentence, and for each law its name and what it says."""
+    said = " ".join(line.removeprefix("//!").strip() for line in text_of(path).splitlines() if line.startswith("//!"))
+    rows = ["", f"## `{path.name}`", "", said, ""]
     for lines, name in re.findall(r"((?:^///.*\n)+)pub fn (\w+)", text_of(path), re.M):
         sentence = " ".join(line.removeprefix("///").strip() for line in lines.splitlines())
-        rows.append(f"- `{name}`: {sentence.split(': ')[0].rstrip('.')}.")
+        rows.append(f"- `{name}`: {sentence}")
     return rows
 
 
-def index():
-    """The whole page."""
+def pages():
+    """Both pages by their names."""
     used = used_words()
-    rows = [HEAD.rstrip("\n")]
+    words, laws = [HEAD.rstrip("\n")], [LAWS_HEAD.rstrip("\n")]
     for folder in modules_of(SPECS / "Lib.antt"):
-        rows += folder_rows(folder, used)
-    rows.append(LAWS_HEAD.rstrip("\n"))
+        words += folder_rows(folder, used)
     for path in sorted(LAWS.glob("*_laws.rt")):
-        rows += law_rows(path)
-    return "\n".join(rows) + "\n"
+        laws += law_rows(path)
+    return {"DEFINITIONS.md": "\n".join(words) + "\n", "LAWS.md": "\n".join(laws) + "\n"}
 
 
 def main():
-    """Writes the page, or says whether it is the present one."""
-    page = index()
-    if sys.argv[1:] == ["--check"]:
-        if text_of(INDEX) != page:
-            sys.exit("docs/DEFINITIONS.md is not the present one: run python3 docs/definitions.py")
-    elif sys.argv[1:]:
+    """Writes the pages, or says which is not the present one."""
+    if sys.argv[1:] not in ([], ["--check"]):
         sys.exit(__doc__)
-    else:
-        INDEX.write_text(page, encoding="utf-8")
+    for name, page in pages().items():
+        path = DOCS / name
+        if not sys.argv[1:]:
+            path.write_text(page, encoding="utf-8")
+        elif not path.exists() or text_of(path) != page:
+            sys.exit(f"docs/{name} is not the present one: run python3 docs/definitions.py")
 
 
 if __name__ == "__main__":

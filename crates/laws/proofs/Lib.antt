@@ -19,6 +19,7 @@ pub mod HeldAnswers
 pub mod HeldHistories
 pub mod HeldMembers
 pub mod JsonOrder
+pub mod JsonTexts
 pub mod KeptWrites
 pub mod KnownOwners
 pub mod LeftFinalizers
@@ -69,7 +70,6 @@ pub mod Stored
 pub mod Streamed
 pub mod TextLengths
 pub mod TextsRead
-pub mod TokensRead
 pub mod Traced
 pub mod UidsOnce
 pub mod Undone

@@ -1,5 +1,5 @@
 -- A number that is read of a text is as a parser gives it: an integer of 64 bits, or a float.
-use Rattle.std.proofs.Common.{zero, suc, ◌≡◌, ◌≤◌, ◌^◌, ◌&&◌, ℕ, List, Bool, true, false, cond, Option, Some, None, IfSome, option_map, Float, refl, arith}
+use Rattle.std.proofs.Common.{zero, suc, ◌≡◌, ◌^◌, ◌&&◌, ℕ, List, Bool, true, false, cond, Option, Some, None, IfSome, option_map, Float, refl, arith}
 use Rattle.std.specs.Prelude.{nat_lt, nat_le, pos}
 use Rattle.std.proofs.Math.IntN.{neg_ℤ}
 use Rattle.std.proofs.lemmas.Bool.{ltb-true, leb-true}

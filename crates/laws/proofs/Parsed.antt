@@ -14,7 +14,7 @@ use Rattle.definitions.specs.declared.schemas.Schema.{Schema}
 use Rattle.definitions.specs.declared.schemas.Schema.TheVariants.{Root}
 use Rattle.definitions.specs.declared.schemas.Shape.{Shape}
 use Rattle.definitions.specs.Defaults as defaults
-use Rattle.definitions.specs.Defaults.{whole, with_found, replica_set_defaults, deployment_defaults, strategy_defaults, rolling_defaults, is_rolling_update, with_rolling}
+use Rattle.definitions.specs.Defaults.{whole, with_found, replica_set_defaults, deployment_defaults, strategy_defaults, rolling_defaults, is_rolling_update}
 use Rattle.definitions.specs.Kinds.{api_version, kind_text}
 use Rattle.definitions.specs.Reading.{is_absent, schema_of, item_of, tidied, tidied_items, tidied_members, empty, reading}
 use Rattle.definitions.specs.Schemas.{member_at}
@@ -23,7 +23,7 @@ use Rattle.definitions.specs.Verbs.{said, with_defaults}
 use Rattle.laws.proofs.JsonOrder.{IsOrdered, IsOrdered-put, IsOrdered-without, IsOrdered-tidied, IsOrdered-filled}
 use Rattle.laws.proofs.NeatMembers.{opens}
 use Rattle.laws.proofs.NumbersRead.{number_read}
-use Rattle.laws.proofs.TokensRead.{InText, ItemsInText, MembersInText, document_text}
+use Rattle.laws.proofs.JsonTexts.{InText, ItemsInText, MembersInText, document_text}
 use Rattle.json.proofs.Printed.Utf8.{are_ascii, IsUtf8-are_ascii}
 use Rattle.std.specs.Str.{IsUtf8, is_utf8}
 use Rattle.std.proofs.lemmas.Str.{IsUtf8-from_is_utf8}

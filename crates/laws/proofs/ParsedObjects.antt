@@ -1,5 +1,5 @@
 -- What is made of objects as a parser gives them, new, in the place of another or marked, is so too.
-use Rattle.std.proofs.Common.{◌≡◌, ◌<◌, ◌+◌, ◌/◌, ◌%◌, ◌++◌, ◌^◌, ℕ, zero, suc, List, [], ◌∷◌, Bool, true, false, cond, codes, decimal, IfSome, Option, Some, None, option_and_then, unwrap_or, refl, arith}
+use Rattle.std.proofs.Common.{◌≡◌, ◌<◌, ◌+◌, ◌/◌, ◌%◌, ◌^◌, ℕ, zero, suc, List, [], ◌∷◌, Bool, true, false, cond, codes, decimal, IfSome, Option, Some, None, option_and_then, unwrap_or, refl, arith}
 use Rattle.std.specs.Prelude.{nat_lt}
 use Rattle.std.proofs.lemmas.Bool.{ltb-true}
 use Rattle.serde_json.specs.Data.{Num, unsigned, negative, float, Data, null, boolean, number, string, array, object, Items, no_items, item, Members, put}
@@ -27,7 +27,7 @@ use Rattle.definitions.specs.Replacements.{as_held, keeping, kept, kept_of, in_p
 use Rattle.definitions.specs.Uids.{hex, uid_text, cluster_word}
 use Rattle.definitions.specs.Values.{members_of, without}
 use Rattle.definitions.specs.Reached.{IsInRange, IsParsed, AreParsed}
-use Rattle.laws.proofs.Parsed.{Both, joined, inside, Both-put, Both-set, Both-without, found as found_at, found_in, inner}
+use Rattle.laws.proofs.Parsed.{Both, joined, inside, Both-set, Both-without, found as found_at, found_in, inner}
 
 -- ---- objects with other members
 

@@ -16,7 +16,6 @@ use Rattle.definitions.specs.GeneratedNames.{name_from}
 use Rattle.definitions.specs.Kinds.{has_generation}
 use Rattle.definitions.specs.Names.{Name, is_subdomain}
 use Rattle.definitions.specs.History as history
-use Rattle.definitions.specs.History.{History, members, found, present}
 use Rattle.laws.specs.HistoryLaws.{OfStored}
 use Rattle.definitions.specs.Metadata.{differs, metadata_of, with_metadata, name, uid, version, at_revision}
 use Rattle.definitions.specs.NewObjects.{new_metadata, with_first_status}

@@ -16,18 +16,19 @@ pub fn names_are_valid()
     ensures { NamesAreValid }
 {}
 
-/// What is as a parser gives it stays so where a member of its metadata is set to what is so, or taken out.
+/// What is as a parser gives it stays so where a member of its metadata, named in UTF-8, is set to what is so, or taken
+/// out.
 pub fn metadata_edits_stay_parsed()
     ensures { MetadataEditsStayParsed }
 {}
 
-/// What is as a parser gives it stays so where another member is set to what is so, as its status.
+/// What is as a parser gives it stays so where another member, named in UTF-8, is set to what is so, as its status.
 pub fn members_stay_parsed()
     ensures { MembersStayParsed }
 {}
 
-/// What is as a parser gives it stays so where a member of one of its members is set to what is so, as the replicas in its
-/// spec.
+/// What is as a parser gives it stays so where a member of one of its members, both named in UTF-8, is set to what is so,
+/// as the replicas in its spec.
 pub fn inner_edits_stay_parsed()
     ensures { InnerEditsStayParsed }
 {}

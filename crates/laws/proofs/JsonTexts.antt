@@ -1,5 +1,5 @@
 -- Each string and each key that is read of a text in UTF-8 is in UTF-8: of its tokens, and of the value that they spell.
-use Rattle.std.proofs.Common.{◌≡◌, ◌<◌, ◌==◌, ◌&&◌, ℕ, zero, suc, List, [], ◌∷◌, ◌++◌, length, drop, nat_eq, Bool, true, false, cond, Option, Some, None, IfSome, option_map, option_and_then, refl, sym, subst, arith, append_assoc}
+use Rattle.std.proofs.Common.{◌≡◌, ◌<◌, ◌==◌, ◌&&◌, ℕ, zero, suc, List, [], ◌∷◌, ◌++◌, length, drop, nat_eq, Bool, true, false, cond, Option, Some, None, IfSome, option_and_then, refl, sym, subst, arith, append_assoc}
 use Rattle.std.proofs.lemmas.Bool.Decides.{nat_tests}
 use Rattle.std.specs.List.{starts_with}
 use Rattle.std.specs.Str.{IsUtf8}
