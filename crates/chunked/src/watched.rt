@@ -191,13 +191,15 @@ impl<W: Write + Drop> Watched<W> {
 }
 
 impl<R: Read + Drop> Watched<R> {
-    /// Reads a part of what is left, again where the device is interrupted; none only at the end, or where there is no room.
-    pub(crate) fn receive(&mut self, buf: &mut [u8]) -> Result<usize, ChunkFault>
+    /// Reads a part of what is left, again where the device is interrupted; none only at the end, or where there is no room. Where the
+    /// device fails, nothing is read.
+    pub fn receive(&mut self, buf: &mut [u8]) -> Result<usize, ChunkFault>
         requires { self.old.failed ≡ false }
         ensures bound { IfOk result (λ n. n ≤ length buf.new) }
         ensures len { length buf.new ≡ length buf.old }
         ensures read { IfOk result (λ n. Consumes (R.remaining self.old.device) (R.remaining self.new.device) (take n buf.new)) }
         ensures end { IfOk result (λ n. n ≡ 0 → 0 < length buf.new → IsAtEnd (R.remaining self.new.device)) }
+        ensures kept { OnErr result (Keeps (R.remaining self.old.device) (R.remaining self.new.device)) }
         ensures sound { OnOk result (self.new.failed ≡ false) }
         ensures failed { OnErr result (self.new.failed ≡ true) }
         ensures fault { IfErr result (λ f. f ≡ fault.Device) }
