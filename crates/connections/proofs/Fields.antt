@@ -69,9 +69,20 @@ front_by h front crlf e =
 front_of : (h : RequestHead) (front : List ℕ) → front ++ 10 ∷ [] ≡ print_request h ++ [] → (x : List ℕ) × (front ≡ started h (lines_of h ++ x))
 front_of h front e = front_by h front h.last (e ∙ written_as h [] ∙ ap (λ z. started h (lines_of h ++ z)) (append-nil (print_end h.last)))
 
--- bytes that exceed the room are the beginning of no head with fewer fields
+-- bytes that exceed the room begin with the start of a head and more field lines than that
+pub exceeding_start : (room : ℕ) (bytes : List ℕ) → RequestExceeds room bytes
+    → (h : RequestHead) × (x : List ℕ) × IsRequestHead h × (room < length h.fields) × (bytes ≡ started h (lines_of h ++ x))
+exceeding_start room bytes (front, rest, e, h, reads, many) =
+    let found = front_of h front reads.1 in (
+      h,
+      found.0 ++ rest,
+      reads.0,
+      many,
+      e ∙ ap (λ z. z ++ rest) found.1 ∙ started_append h (lines_of h ++ found.0) rest ∙ ap (started h) (append_assoc (lines_of h) found.0 rest),
+    )
+
+-- they are the beginning of no head with fewer
 pub exceeds_overflows : (room : ℕ) (bytes : List ℕ) → RequestExceeds room bytes → RequestOverflows room bytes
-exceeds_overflows room bytes (front, rest, e, h, reads, many) =
-    let found = front_of h front reads.1 in
-    many_overflow room h bytes (found.0 ++ rest) reads.0 many
-    (e ∙ ap (λ z. z ++ rest) found.1 ∙ started_append h (lines_of h ++ found.0) rest ∙ ap (started h) (append_assoc (lines_of h) found.0 rest))
+exceeds_overflows room bytes over =
+    let start = exceeding_start room bytes over in
+    many_overflow room start.0 bytes start.1 start.2 start.3 start.4
