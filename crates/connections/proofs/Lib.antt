@@ -4,3 +4,6 @@ pub mod Meanings
 pub mod Halves
 pub mod Passing
 pub mod Proper
+pub mod WellFormed
+pub mod ConnectionsWorked
+pub mod LimitsWorked

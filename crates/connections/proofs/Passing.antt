@@ -1,21 +1,19 @@
 -- What heads whose checks pass ask with their bodies.
-use Rattle.std.proofs.Common.{◌≡◌, ◌≤◌, ◌<◌, ℕ, List, [], ◌++◌, take, length, Bool, true, false, not, cond, nat_lt, ◌&&◌, ◌||◌, Option, Some, None, is_some, Result, Ok, Err, refl, sym, ap, subst, ◌∙◌, arith, length-append}
+use Rattle.std.proofs.Common.{◌≡◌, ◌≤◌, ℕ, List, ◌++◌, take, length, Bool, true, false, cond, nat_lt, Option, Some, None, Result, Ok, Err, refl, sym, ap, subst, ◌∙◌, arith, length-append}
 use Rattle.std.proofs.lemmas.Bool.{le-ltb}
 use Rattle.std.proofs.lemmas.Str.{is_utf8-from_IsUtf8}
-use Rattle.std.proofs.Math.Bool.{and-false}
 use Rattle.std.proofs.Math.Seq.{take-append_seam}
 use Rattle.std.specs.Str.{IsUtf8}
 use Rattle.std.specs.Str.Lossy.{utf8_lossy}
-use Rattle.httparse.specs.Grammar.{RequestHead, IsRequestHead}
 use Rattle.definitions.specs.declared.methods.Method.{Method}
 use Rattle.definitions.specs.declared.refusals.Part.{Part}
 use Rattle.definitions.specs.RequestQueries.{Query}
 use Rattle.definitions.specs.Refusals.{Refusal, bad_request, method_not_allowed, length_required, too_large, unsupported_media_type}
 use Rattle.definitions.specs.declared.refusals.Part.TheVariants as part
-use Rattle.definitions.specs.Targets.{Route, Asked, route, path_of, names_namespace, is_allowed, query_for, longest_body, is_too_long, asked, asked_with, asked_at, decoded, read_request}
-use Rattle.connections.specs.Heads.{Head, head_of, stated_length, has_transfer_coding, media_type, needs_length, takes_type, method_named}
-use Rattle.connections.specs.Checks.{Opening, is_watch, length_or_none, body_checked, query_checked, method_checked, path_checked, length_checked, checked}
-use Rattle.connections.specs.Connections.{asked_with_body, asked_after}
+use Rattle.definitions.specs.Targets.{Route, route, path_of, names_namespace, is_allowed, query_for, longest_body, is_too_long, asked, asked_at, decoded, read_request}
+use Rattle.connections.specs.Heads.{Head, head_of, stated_length, method_named}
+use Rattle.connections.specs.Checks.{Opening, length_or_none, body_checked, query_checked, method_checked, path_checked, length_checked}
+use Rattle.connections.specs.Connections.{asked_with_body}
 use Rattle.connections.specs.Laws.{RequestsAreRead}
 
 -- a text is read as it is

@@ -1,6 +1,6 @@
 -- What follows for whoever speaks over a connection.
-use Rattle.std.specs.Prelude.{◌≡◌, ◌<◌, ◌≤◌, ◌⊎◌, ℕ, List, [], ◌++◌, length, not, ◌||◌, ◌&&◌, ◌==◌, Bool, true, false, is_some, Option, Some, None, Result, Ok, Err}
-use Rattle.httparse.specs.Grammar.{RequestHead, LineEnd, IsRequestHead, print_end, print_request, NeverHasRequest, EndsInTarget}
+use Rattle.std.specs.Prelude.{◌≡◌, ◌<◌, ◌≤◌, ◌⊎◌, ℕ, List, ◌++◌, length, not, ◌&&◌, true, false, is_some, Option, Some, None, Result, Ok, Err}
+use Rattle.httparse.specs.Grammar.{RequestHead, IsRequestHead, print_end, print_request, NeverHasRequest, EndsInTarget}
 use Rattle.definitions.specs.declared.methods.Method.{Method}
 use Rattle.definitions.specs.declared.refusals.Part.TheVariants as part
 use Rattle.definitions.specs.Refusals.{Refusal, bad_request, too_large}

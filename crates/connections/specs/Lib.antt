@@ -6,3 +6,4 @@ pub mod Replies
 pub mod Laws
 pub mod HeadExamples
 pub mod ReplyExamples
+pub mod ConnectionExamples

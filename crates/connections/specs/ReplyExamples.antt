@@ -1,5 +1,5 @@
 -- What is written over connections, byte for byte, computed from the definitions.
-use Rattle.std.specs.Prelude.{◌≡◌, ℕ, List, [], ◌∷◌, ◌++◌, map, codes, Some}
+use Rattle.std.specs.Prelude.{◌≡◌, ℕ, List, [], ◌∷◌, map, codes, Some}
 use Rattle.http.specs.StatusCode.{reason_phrase}
 use Rattle.httparse.specs.Grammar.{RequestHead, print_request}
 use Rattle.definitions.specs.declared.kinds.Kind.TheVariants.{ConfigMap}

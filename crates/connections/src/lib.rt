@@ -2,6 +2,7 @@
 //! answered. Definitions, with the laws that follow from them and single cases that the checker computes.
 #![tactic(auto)]
 
+pub mod connection_examples;
 pub mod connection_laws;
 pub mod head_examples;
 pub mod reply_examples;
