@@ -193,15 +193,17 @@ impl<W: Write + Drop> Watched<W> {
 }
 
 impl<R: Read + Drop> Watched<R> {
-    /// Reads a part of what is left, again where the device is interrupted; none only at the end, or where there is no room.
-    pub(crate) fn receive(&mut self, buf: &mut [u8]) -> Result<usize, ChunkFault>
-        requires { self.old.failed ≡ false }
+    /// Reads a part of what is left, again where the device is interrupted; none only at the end, or where there is no room. Where the
+    /// device fails, nothing is read.
+    pub fn receive(&mut self, buf: &mut [u8]) -> Result<usize, ChunkFault>
+        requires { has_failed self.old ≡ false }
         ensures bound { IfOk result (λ n. n ≤ length buf.new) }
         ensures len { length buf.new ≡ length buf.old }
-        ensures read { IfOk result (λ n. Consumes (R.remaining self.old.device) (R.remaining self.new.device) (take n buf.new)) }
-        ensures end { IfOk result (λ n. n ≡ 0 → 0 < length buf.new → IsAtEnd (R.remaining self.new.device)) }
-        ensures sound { OnOk result (self.new.failed ≡ false) }
-        ensures failed { OnErr result (self.new.failed ≡ true) }
+        ensures read { IfOk result (λ n. Consumes (R.remaining (device_of self.old)) (R.remaining (device_of self.new)) (take n buf.new)) }
+        ensures end { IfOk result (λ n. n ≡ 0 → 0 < length buf.new → IsAtEnd (R.remaining (device_of self.new))) }
+        ensures kept { OnErr result (Keeps (R.remaining (device_of self.old)) (R.remaining (device_of self.new))) }
+        ensures sound { OnOk result (has_failed self.new ≡ false) }
+        ensures failed { OnErr result (has_failed self.new ≡ true) }
         ensures fault { IfErr result (λ f. f ≡ fault.Device) }
     {
         for _ in 0..u64::MAX {

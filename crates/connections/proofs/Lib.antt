@@ -1,0 +1,9 @@
+pub mod OnLiterals
+pub mod Fields
+pub mod Meanings
+pub mod Halves
+pub mod Passing
+pub mod Proper
+pub mod WellFormed
+pub mod ConnectionsWorked
+pub mod LimitsWorked

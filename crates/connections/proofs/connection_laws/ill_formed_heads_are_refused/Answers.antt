@@ -1,0 +1,5 @@
+use Rattle.connections.proofs.Halves.{ill_formed}
+use Rattle.connections.proofs.connection_laws.ill_formed_heads_are_refused.Goals as goal
+
+pub returns : goal.returns
+returns c = ill_formed

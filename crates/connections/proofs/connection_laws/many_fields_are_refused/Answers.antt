@@ -1,0 +1,5 @@
+use Rattle.connections.proofs.Halves.{many_fields}
+use Rattle.connections.proofs.connection_laws.many_fields_are_refused.Goals as goal
+
+pub returns : goal.returns
+returns c = many_fields

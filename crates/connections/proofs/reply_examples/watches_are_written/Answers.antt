@@ -1,0 +1,7 @@
+use Rattle.std.proofs.Common.{refl}
+use Rattle.connections.proofs.OnLiterals.{http_on_literals}
+use Rattle.connections.proofs.reply_examples.watches_are_written.Goals as goal
+
+pub returns : goal.returns
+unfolding http_on_literals
+returns c = record { watch_is_written = refl; sizes_are_hexadecimal = (refl, refl) }

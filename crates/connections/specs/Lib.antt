@@ -1,0 +1,9 @@
+-- The words, in reading order.
+pub mod Heads
+pub mod Checks
+pub mod Connections
+pub mod Replies
+pub mod Laws
+pub mod HeadExamples
+pub mod ReplyExamples
+pub mod ConnectionExamples

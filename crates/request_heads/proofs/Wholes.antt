@@ -1,0 +1,35 @@
+-- What is found stays found, whatever follows.
+use Rattle.std.proofs.Common.{◌≤◌, ℕ, List, ◌++◌, drop, length, None, inl, inr, refl, sym, ap, ◌∙◌, subst, arith, append_assoc, append-nil, length-append}
+use Rattle.std.proofs.lemmas.List.{take-append-le, take_all}
+use Rattle.httparse.specs.declared.spans.HeaderSpan.{HeaderSpan}
+use Rattle.httparse.specs.declared.spans.RequestSpans.{RequestSpans}
+use Rattle.httparse.specs.Grammar.{RequestHead, ReadsRequest, NeverHasRequest, HasNoRequest}
+use Rattle.httparse.specs.Spans.{IsRequestAt}
+use Rattle.httparse.proofs.GrammarLemmas.{request_unique, ReadsRequest-append}
+use Rattle.connections.specs.Connections.{longest_head, IsWithinLimits, IsHeadTooLarge, Asks}
+use Rattle.request_heads.specs.Laws.{FoundHeadsAsk}
+use Rattle.request_heads.specs.declared.found.Found.TheVariants as found
+
+never_after : (bytes more : List ℕ) → NeverHasRequest bytes → NeverHasRequest (bytes ++ more)
+never_after bytes more never rest h left reads = never (more ++ rest) h left (subst (λ b. ReadsRequest b h left) (append_assoc bytes more rest) reads)
+
+too_large_after : (bytes more : List ℕ) → IsHeadTooLarge bytes → IsHeadTooLarge (bytes ++ more)
+too_large_after bytes more (inl (long, none)) =
+    inl (omega (arith, long, length-append bytes more), subst HasNoRequest (sym (take-append-le longest_head bytes more long)) none)
+too_large_after bytes more (inr (front, rest, e, h, reads, many)) = inr (front, rest ++ more, ap (λ b. b ++ more) e ∙ append_assoc front rest more, h, reads, many)
+
+-- two heads at the same place are one
+same_limits : (bytes : List ℕ) (fields : List HeaderSpan) (spans : RequestSpans) (h k : RequestHead) → IsRequestAt bytes fields spans h → IsRequestAt bytes fields spans k
+    → IsWithinLimits h → IsWithinLimits k
+same_limits bytes fields spans h k x y limits = subst IsWithinLimits (request_unique bytes h k (drop spans.len bytes) (drop spans.len bytes) x.reads y.reads).0 limits
+
+pub found_asks : FoundHeadsAsk
+found_asks bytes fields (found.Whole spans) more is = λ k at.
+    inl (k, drop spans.len bytes ++ more, ReadsRequest-append bytes k (drop spans.len bytes) more at.reads, same_limits bytes fields spans is.0.0 k is.0.1 at is.0.2, refl)
+found_asks bytes fields found.IllFormed more is = inr (inl (never_after bytes more is, refl))
+found_asks bytes fields found.TooLarge more is = inr (inr (inl (too_large_after bytes more is, refl)))
+found_asks bytes fields found.Cut more is = λ nothing. subst (λ m. Asks (bytes ++ m) None) (sym nothing) (subst (λ b. Asks b None) (sym (append-nil bytes)) (inr (inr (inr (is, refl)))))
+
+-- as many bytes as a head may have, and no head
+pub too_long : (bytes : List ℕ) → longest_head ≤ length bytes → length bytes ≤ longest_head → HasNoRequest bytes → IsHeadTooLarge bytes
+too_long bytes least most none = inl (least, subst HasNoRequest (sym (take_all longest_head bytes most)) none)

@@ -1,0 +1,12 @@
+use Rattle.std.proofs.Common.{rules, ◌≡◌, ◌<◌, true, refl, Some}
+use Rattle.std.specs.Str.Parse.{digits_value}
+use Rattle.definitions.specs.Targets.{longest_body}
+use Rattle.connections.specs.Heads.{is_number, one_number}
+use Rattle.request_heads.proofs.body_length.length_of.Goals as goal
+
+pub returns-in-None : goal.returns-in-None
+returns-in-None c =
+    let number : is_number c.args.text.now ≡ true = search rules in
+    let value : one_number c.args.text.now ≡ Some (Some (digits_value 10 c.args.text.now)) = rw number refl in
+    let more : longest_body < digits_value 10 c.args.text.now = search rules in
+    (digits_value 10 c.args.text.now, value, more)

@@ -1,0 +1,8 @@
+use Rattle.std.proofs.Common.{◌≡◌, drop, map}
+use Rattle.connections.specs.Heads.{values_of}
+use Rattle.request_heads.specs.Fields.{field_seen}
+use Rattle.request_heads.proofs.field.first_value.Given as goal
+
+-- none of the fields so far has the name
+abbrev pub invariant-loop-field : goal.invariant-loop-field
+invariant-loop-field l = values_of l.name (map field_seen (drop l.field-index l.fields)) ≡ values_of l.name (map field_seen l.fields)

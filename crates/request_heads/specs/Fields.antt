@@ -1,0 +1,18 @@
+-- Fields, and what they state of a body's length, in the words of connections.
+use Rattle.std.specs.Prelude.{◌≡◌, ◌≤◌, ◌<◌, ℕ, Option, Some, None}
+use Rattle.definitions.specs.Targets.{longest_body}
+use Rattle.connections.specs.Heads as words
+use Rattle.request_heads.specs.declared.field.Field.{Field}
+use Rattle.request_heads.specs.declared.body_length.BodyLength.{BodyLength}
+use Rattle.request_heads.specs.declared.body_length.BodyLength.TheVariants as length
+
+-- the name and the value
+abbrev pub field_seen : Field → words.Field
+field_seen f = (f.name.now, f.value.now)
+
+-- what a head states of its body's length
+abbrev pub IsLength : Option (Option ℕ) → BodyLength → Type 0
+IsLength stated length.Missing = stated ≡ Some None
+IsLength stated length.Bad = stated ≡ None
+IsLength stated (length.Stated n) = (stated ≡ Some (Some n)) × (n ≤ longest_body)
+IsLength stated length.TooLong = (n : ℕ) × (stated ≡ Some (Some n)) × (longest_body < n)

@@ -1,0 +1,5 @@
+pub mod FieldLines
+pub mod Fields
+pub mod RequestHeads
+pub mod Reading
+pub mod Laws

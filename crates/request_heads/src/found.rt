@@ -1,0 +1,15 @@
+//! What is found in bytes.
+use httparse::spans::RequestSpans;
+
+/// What bytes begin with.
+#[derive(Debug, Clone, Copy, PartialEq, Eq)]
+pub enum Found {
+    /// A whole head, with where its parts are.
+    Whole(RequestSpans),
+    /// What is no head, whatever follows.
+    IllFormed,
+    /// A head that is longer than 16,384 bytes, or has more than 64 fields.
+    TooLarge,
+    /// A part of a head, and nothing after it.
+    Cut,
+}

@@ -1,0 +1,61 @@
+//! Heads as their parts.
+ghost use Rattle.std.specs.Prelude.{◌≡◌, IfOk, map, length, All};
+ghost use Rattle.httparse.specs.Spans.{IsRequestWithin, IsRequestAt, header_bytes, IsHeaderWithin};
+ghost use Rattle.httparse.specs.Grammar as grammar;
+ghost use Rattle.connections.specs.Heads.{head_of};
+ghost use Rattle.request_heads.specs.Fields.{field_seen};
+ghost use Rattle.request_heads.specs.RequestHeads.{head_seen};
+
+use crate::field::Field;
+use httparse::spans::{HeaderSpan, RequestSpans};
+use std::alloc::{AllocError, Global};
+
+/// What counts of a request's head (RFC 9112, Request Line).
+#[derive(Drop)]
+pub struct RequestHead<'a> {
+    pub method: &'a [u8],
+    pub target: &'a [u8],
+    /// The minor version of HTTP/1.
+    pub minor: u8,
+    pub fields: Vec<Field<'a>>,
+}
+
+/// Returns the fields that spans cover.
+fn fields_of<'a>(
+    alloc: Global,
+    bytes: &'a [u8],
+    spans: &[HeaderSpan],
+) -> Result<Vec<Field<'a>>, AllocError>
+    requires { All (IsHeaderWithin (length bytes.now)) spans.now }
+    ensures { IfOk result (λ fields. map field_seen fields.items ≡ map (header_bytes bytes.now) spans.now) }
+{
+    let mut fields = Vec::with_capacity(alloc, spans.len())?;
+    for span in spans {
+        let name = span.name.of(bytes);
+        let value = span.value.of(bytes);
+        fields.push(Field { name, value })?;
+    }
+    Ok(fields)
+}
+
+impl<'a> RequestHead<'a> {
+    /// Returns the parts of the head that was found at the front of these bytes.
+    pub fn new(
+        alloc: Global,
+        bytes: &'a [u8],
+        found: RequestSpans,
+        spans: &[HeaderSpan],
+    ) -> Result<RequestHead<'a>, AllocError>
+        requires { IsRequestWithin bytes.now spans.now found }
+        ensures { IfOk result (λ view. (h : grammar.RequestHead) → IsRequestAt bytes.now spans.now found h
+            → head_seen view ≡ head_of h) }
+    {
+        let fields = fields_of(alloc, bytes, &spans[..found.headers])?;
+        Ok(RequestHead {
+            method: found.method.of(bytes),
+            target: found.path.of(bytes),
+            minor: found.version,
+            fields,
+        })
+    }
+}
