@@ -4,7 +4,7 @@ use Rattle.definitions.specs.Targets.{longest_body}
 use Rattle.connections.specs.Heads as words
 use Rattle.request_heads.specs.declared.field.Field.{Field}
 use Rattle.request_heads.specs.declared.body_length.BodyLength.{BodyLength}
-use Rattle.request_heads.specs.declared.body_length.BodyLength.TheVariants as length
+use Rattle.request_heads.specs.declared.body_length.BodyLength.TheVariants as kind
 
 -- the name and the value
 abbrev pub field_seen : Field → words.Field
@@ -12,7 +12,7 @@ field_seen f = (f.name.now, f.value.now)
 
 -- what a head states of its body's length
 abbrev pub IsLength : Option (Option ℕ) → BodyLength → Type 0
-IsLength stated length.Missing = stated ≡ Some None
-IsLength stated length.Bad = stated ≡ None
-IsLength stated (length.Stated n) = (stated ≡ Some (Some n)) × (n ≤ longest_body)
-IsLength stated length.TooLong = (n : ℕ) × (stated ≡ Some (Some n)) × (longest_body < n)
+IsLength stated kind.Missing = stated ≡ Some None
+IsLength stated kind.Bad = stated ≡ None
+IsLength stated (kind.Stated n) = (stated ≡ Some (Some n)) × (n ≤ longest_body)
+IsLength stated kind.TooLong = (n : ℕ) × (stated ≡ Some (Some n)) × (longest_body < n)
