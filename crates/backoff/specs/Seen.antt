@@ -1,15 +1,15 @@
 -- What the two indexes of delayed keys say.
 use Rattle.std.specs.Prelude.{ℕ, List}
 use Rattle.std.specs.FinSet as set
-use Rattle.definitions.specs.Board as board
-use Rattle.definitions.specs.Board.{Delays, alarm_cmp}
+use Rattle.controllers.specs.Delays as delays
+use Rattle.controllers.specs.Delays.{Delays, alarm_cmp}
 use Rattle.backoff.specs.declared.alarm.Alarm.{Alarm}
 use Rattle.work_keys.specs.Seen.{by_task, seen_set}
 use Rattle.work_keys.specs.Tasks.{task_of}
 use Rattle.work_keys.specs.declared.work_key.WorkKey.{WorkKey}
 
 -- what an alarm says
-abbrev pub alarm_of : Alarm → board.Alarm
+abbrev pub alarm_of : Alarm → delays.Alarm
 alarm_of a = record { at = a.at; task = task_of a.key }
 
 -- the moments by key

@@ -1,7 +1,7 @@
 //! Delays that grow with each failure.
 ghost use Rattle.std.specs.Prelude.{◌≡◌, ◌+◌, min, IfOk, OnOk, OnErr};
 ghost use Rattle.std.specs.FinMap as map;
-ghost use Rattle.definitions.specs.Board.{failures, failed, delay_after};
+ghost use Rattle.controllers.specs.Delays.{failures, failed, delay_after};
 ghost use Rattle.work_keys.specs.Tasks.{task_of};
 
 use std::alloc::{AllocError, Global};
@@ -16,7 +16,8 @@ pub struct Backoff {
 }
 
 impl Model for Backoff {
-    ghost use Rattle.definitions.specs.Board.{Failures, counts_code};
+    ghost use Rattle.controllers.specs.Delays.{Failures};
+    ghost use Rattle.controllers.specs.Codes.{counts_code};
 
     ghost Value = { Failures };
 

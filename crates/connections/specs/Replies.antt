@@ -3,7 +3,7 @@ use Rattle.std.specs.Prelude.{ℕ, List, [], ◌∷◌, ◌++◌, length, map, c
 use Rattle.serde_json.specs.Written.{compact_text}
 use Rattle.definitions.specs.declared.kinds.Kind.{Kind}
 use Rattle.definitions.specs.Frames.{frame_text}
-use Rattle.definitions.specs.Lines.{Reply, outcome, shown, compacted}
+use Rattle.definitions.specs.Replies.{Reply, outcome, shown, compacted}
 use Rattle.definitions.specs.Refusals.{Refusal, success_body}
 use Rattle.definitions.specs.Streams.{Line, event_of}
 use Rattle.definitions.specs.Targets.{Asked}

@@ -3,7 +3,8 @@ use Rattle.std.specs.Prelude.{◌≡◌, ℕ, List, [], ◌∷◌, map, codes, S
 use Rattle.http.specs.StatusCode.{reason_phrase}
 use Rattle.httparse.specs.Grammar.{RequestHead, print_request}
 use Rattle.definitions.specs.declared.kinds.Kind.TheVariants.{ConfigMap}
-use Rattle.definitions.specs.Lines.{Session, start, after_lines, reply_for}
+use Rattle.definitions.specs.Replies.{Session, start, reply_for}
+use Rattle.line_protocol.specs.Lines.{after_lines}
 use Rattle.definitions.specs.Streams.{bookmark, initial_end}
 use Rattle.connections.specs.Heads.{head_of}
 use Rattle.connections.specs.Checks.{checked}

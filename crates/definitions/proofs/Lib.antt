@@ -1,7 +1,4 @@
-pub mod Alarms
-pub mod Due
 pub mod EscapedTexts
-pub mod Expected
 pub mod FirstStatus
 pub mod JsonMembers
 pub mod NoFloatsRead
@@ -9,7 +6,6 @@ pub mod OnLiterals
 pub mod PageLists
 pub mod PutLaws
 pub mod RevisionTexts
-pub mod TaskOrder
 pub mod TokenTexts
 pub mod TokensRead
 pub mod Uids

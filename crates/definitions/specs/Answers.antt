@@ -4,6 +4,5 @@ pub mod Deletion
 pub mod Verbs
 pub mod Reached
 pub mod Versions
-pub mod Servers
 pub mod Lists
-pub mod Lines
+pub mod Replies

@@ -5,8 +5,6 @@ pub mod State
 pub mod Requests
 pub mod Answers
 pub mod Watching
-pub mod Work
-pub mod Codes
 pub use Rattle.definitions.specs.Texts.Kinds
 pub use Rattle.definitions.specs.Texts.Names
 pub use Rattle.definitions.specs.Texts.Labels
@@ -29,7 +27,6 @@ pub use Rattle.definitions.specs.Objects.NewObjects
 pub use Rattle.definitions.specs.Objects.Replacements
 pub use Rattle.definitions.specs.State.History
 pub use Rattle.definitions.specs.State.Changes
-pub use Rattle.definitions.specs.State.Snapshots
 pub use Rattle.definitions.specs.State.Windows
 pub use Rattle.definitions.specs.State.Pages
 pub use Rattle.definitions.specs.Requests.Queries
@@ -44,18 +41,8 @@ pub use Rattle.definitions.specs.Answers.Deletion
 pub use Rattle.definitions.specs.Answers.Verbs
 pub use Rattle.definitions.specs.Answers.Reached
 pub use Rattle.definitions.specs.Answers.Versions
-pub use Rattle.definitions.specs.Answers.Servers
 pub use Rattle.definitions.specs.Answers.Lists
-pub use Rattle.definitions.specs.Answers.Lines
 pub use Rattle.definitions.specs.Watching.Frames
 pub use Rattle.definitions.specs.Watching.Streams
 pub use Rattle.definitions.specs.Watching.WatchReplies
-pub use Rattle.definitions.specs.Watching.Reflectors
-pub use Rattle.definitions.specs.Work.Board
-pub use Rattle.definitions.specs.Work.Expectations
-pub use Rattle.definitions.specs.Codes.HistoryCodes
-pub use Rattle.definitions.specs.Codes.WindowCodes
-pub use Rattle.definitions.specs.Codes.SnapshotCodes
-pub use Rattle.definitions.specs.Codes.ServerCodes
-pub use Rattle.definitions.specs.Codes.SelectorCodes
-pub use Rattle.definitions.specs.Codes.ReflectorCodes
+pub use Rattle.definitions.specs.Answers.Replies

@@ -2,4 +2,3 @@
 pub mod Frames
 pub mod Streams
 pub mod WatchReplies
-pub mod Reflectors

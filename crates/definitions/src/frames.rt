@@ -1,4 +1,4 @@
-//! What a watch sends: the kinds of changes and of frames, and what can be wrong with bytes that should be frames.
+//! What a watch sends: the kinds of changes and of frames.
 
 /// What a write did to an object, as a view shows it.
 #[derive(Clone, Copy, Debug, PartialEq, Eq)]
@@ -24,15 +24,6 @@ pub enum FrameKind {
     Bookmark,
     /// Why the watch ends.
     Error,
-}
-
-/// Why bytes are no frames. Nothing after it is read.
-#[derive(Clone, Copy, Debug, PartialEq, Eq)]
-pub enum FrameFault {
-    /// A line is not a frame.
-    NotAFrame,
-    /// A line is longer than a frame may be.
-    TooLong,
 }
 
 impl ChangeKind {

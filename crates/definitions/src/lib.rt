@@ -3,12 +3,10 @@
 #![tactic(auto)]
 
 pub mod amounts;
-pub mod controllers;
 pub mod frames;
 pub mod kinds;
 pub mod methods;
 pub mod policies;
-pub mod reflectors;
 pub mod refusals;
 pub mod schemas;
 pub mod selectors;

@@ -9,7 +9,8 @@ use Rattle.definitions.specs.Names.{Name, name_cmp}
 use Rattle.definitions.specs.History.{View, Members, viewed, in_view, put_or_remove, seen}
 use Rattle.definitions.specs.Pages.{AreInPlace, place_of, last_place}
 use Rattle.definitions.specs.Refusals.{Refusal, expired, too_new}
-use Rattle.definitions.specs.Windows.{Kept, Window, above, undone, list_kept}
+use Rattle.definitions.specs.Windows.{Kept}
+use Rattle.server_state.specs.Recorded.{Window, above, undone, list_kept}
 use Rattle.meta.specs.Keys.{name_of}
 use Rattle.meta.specs.Members.{member_of}
 use Rattle.meta.specs.declared.lent_members.Member.{Member}

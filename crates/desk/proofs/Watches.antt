@@ -10,7 +10,8 @@ use Rattle.definitions.specs.History.{View, seen}
 use Rattle.definitions.specs.Names.{Name}
 use Rattle.definitions.specs.Refusals.{Refusal}
 use Rattle.definitions.specs.Versions.{watched, last_change}
-use Rattle.definitions.specs.Windows.{Kept, Window, above, change_kept, changes_kept, since_kept, within}
+use Rattle.definitions.specs.Windows.{Kept, within}
+use Rattle.server_state.specs.Recorded.{Window, above, change_kept, changes_kept, since_kept}
 use Rattle.revisions.specs.Events.{change_seen}
 use Rattle.revisions.specs.declared.events.Event.{Event}
 use Rattle.watch_cache.specs.Served.{Serves}

@@ -7,9 +7,10 @@ use Rattle.definitions.specs.declared.kinds.Kind.{Kind}
 use Rattle.definitions.specs.declared.kinds.Kind.TheVariants.{ConfigMap, Pod, ReplicaSet, Deployment}
 use Rattle.definitions.specs.Names.{Name, name_cmp}
 use Rattle.definitions.specs.History.{Members, Write, after}
-use Rattle.definitions.specs.Servers.{Server, opened_server, window_of, with_window, kept_at, after_write}
-use Rattle.definitions.specs.Snapshots.{Snapshot, empty, written}
-use Rattle.definitions.specs.Windows.{Kept, Window, last_revision, opened, recorded}
+use Rattle.server_state.specs.Servers.{Server, opened_server, window_of, with_window, kept_at, after_write}
+use Rattle.server_state.specs.Snapshots.{Snapshot, empty, written}
+use Rattle.definitions.specs.Windows.{Kept, last_revision}
+use Rattle.server_state.specs.Recorded.{Window, opened, recorded}
 use Rattle.definitions.proofs.PutLaws.{IsAbove, IsAscending, IsAscending-after, sorted_from}
 use Rattle.desk.specs.Standing.{IsUpTo, IsStanding}
 

@@ -5,8 +5,9 @@ use Rattle.std.specs.Map.{keys_of}
 use Rattle.definitions.specs.declared.kinds.Kind.{Kind}
 use Rattle.definitions.specs.declared.kinds.Kind.TheVariants.{ConfigMap, Pod, ReplicaSet, Deployment}
 use Rattle.definitions.specs.Names.{name_cmp}
-use Rattle.definitions.specs.Servers.{Server}
-use Rattle.definitions.specs.Windows.{Window, last_revision}
+use Rattle.server_state.specs.Servers.{Server}
+use Rattle.server_state.specs.Recorded.{Window}
+use Rattle.definitions.specs.Windows.{last_revision}
 
 -- a window of the kind, with no write above this revision
 abbrev pub IsUpTo : ℕ → Kind → Window → Type 0

@@ -4,7 +4,7 @@ use meta::Fault;
 
 impl Server {
     ghost use Rattle.std.specs.Prelude.{◌≡◌, Ok, Err, OnOk, OnErr, IfErr};
-    ghost use Rattle.definitions.specs.Servers.{compact_by};
+    ghost use Rattle.server_state.specs.Servers.{compact_by};
     ghost use Rattle.meta.specs.Faults.{refusal_of};
 
     /// Serves nothing below a revision any more, of no kind. The error is a revision above the present one, and changes

@@ -22,7 +22,7 @@ use std::alloc::{AllocError, Global};
 impl Server {
     ghost use Rattle.std.specs.Prelude.{◌≡◌, IfOk};
     ghost use Rattle.definitions.specs.History.{viewed};
-    ghost use Rattle.definitions.specs.Lists.{list_served};
+    ghost use Rattle.server_state.specs.Servers.{list_served};
     ghost use Rattle.definitions.specs.declared.versions.At.TheVariants as at;
     ghost use Rattle.pages.specs.Seen.{asked_place};
     ghost use Rattle.selector.specs.Views.{view_of};

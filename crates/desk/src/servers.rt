@@ -19,8 +19,8 @@ pub struct Server {
 }
 
 impl Model for Server {
-    ghost use Rattle.definitions.specs.Servers as servers;
-    ghost use Rattle.definitions.specs.ServerCodes.{coded_server};
+    ghost use Rattle.server_state.specs.Servers as servers;
+    ghost use Rattle.server_state.specs.Codes.{coded_server};
     ghost use Rattle.desk.specs.Standing.{IsStanding};
 
     ghost Value = { servers.Server };
@@ -39,8 +39,9 @@ impl Server {
     ghost use Rattle.definitions.specs.History.{viewed};
     ghost use Rattle.definitions.specs.Names.{name_cmp};
     ghost use Rattle.definitions.specs.Revisions.{greatest_revision};
-    ghost use Rattle.definitions.specs.Servers.{opened_server, window_of, with_window};
-    ghost use Rattle.definitions.specs.Windows.{last_revision, recorded};
+    ghost use Rattle.server_state.specs.Servers.{opened_server, window_of, with_window};
+    ghost use Rattle.definitions.specs.Windows.{last_revision};
+    ghost use Rattle.server_state.specs.Recorded.{recorded};
     ghost use Rattle.meta.specs.Members.{member_of};
     ghost use Rattle.selector.specs.Views.{view_of};
     ghost use Rattle.watch_cache.specs.Changes.{kept_seen};

@@ -12,7 +12,7 @@ use watch_cache::Change;
 impl Server {
     ghost use Rattle.std.specs.Prelude.{◌≡◌, OnOk, OnErr, IfErr, IfSome, option_map, false};
     ghost use Rattle.answers.specs.Serves.{Serves};
-    ghost use Rattle.definitions.specs.Servers.{after_write, after_writing};
+    ghost use Rattle.server_state.specs.Servers.{after_write, after_writing};
     ghost use Rattle.definitions.specs.Verbs as outcomes;
     ghost use Rattle.definitions.specs.Verbs.{accept_at, overflows};
     ghost use Rattle.meta.specs.Writes.{write_of};

@@ -20,8 +20,8 @@ pub struct Watched {
 
 impl Server {
     ghost use Rattle.std.specs.Prelude.{◌+◌, map};
-    ghost use Rattle.definitions.specs.Servers.{watch_by, window_of};
-    ghost use Rattle.definitions.specs.Windows.{since_kept};
+    ghost use Rattle.server_state.specs.Servers.{watch_by, window_of};
+    ghost use Rattle.server_state.specs.Recorded.{since_kept};
     ghost use Rattle.revisions.specs.Events.{change_seen};
     ghost use Rattle.selector.specs.Views.{view_of};
     ghost use Rattle.watch_cache.specs.Served.{Serves};

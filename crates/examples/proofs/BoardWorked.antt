@@ -9,12 +9,13 @@ use Rattle.std.specs.declared.cmp.Ordering.{Ordering}
 use Rattle.std.specs.FinMap as map
 use Rattle.std.specs.FinMap.{find, put, get-entries, get-insert, get-empty, entries-insert, len-entries, len-empty}
 use Rattle.std.specs.FinSet.{contains-empty, contains-insert, contains-remove}
-use Rattle.definitions.specs.Board.{Task, task_cmp, Alarm, alarm_cmp, due, failures, delay_after, Delays, delayed, earlier}
+use Rattle.controllers.specs.WorkQueues.{Task, task_cmp}
+use Rattle.controllers.specs.Delays.{Alarm, alarm_cmp, due, failures, delay_after, Delays, delayed, earlier}
 use Rattle.examples.specs.BoardExamples.{task_x, task_y, task_d, failing, both_delayed, KeysWaitOnce, DelaysDouble, KeysComeDue, CreationsAreAwaited}
-use Rattle.definitions.specs.Expectations.{Owner, Table, creations_expected, is_met, satisfied}
-use Rattle.definitions.proofs.Alarms.{alarm_total}
-use Rattle.definitions.proofs.Expected.{get_put, expecting, after_one, after_both}
-use Rattle.definitions.proofs.TaskOrder.{task_total}
+use Rattle.controllers.specs.Expectations.{Owner, Table, creations_expected, is_met, satisfied}
+use Rattle.controllers.proofs.Alarms.{alarm_total}
+use Rattle.controllers.proofs.Expected.{get_put, expecting, after_one, after_both}
+use Rattle.controllers.proofs.TaskOrder.{task_total}
 
 -- ---- the queue
 

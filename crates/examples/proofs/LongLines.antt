@@ -3,7 +3,7 @@ use Rattle.std.proofs.Common.{◌≡◌, ◌==◌, ℕ, List, [], ◌∷◌, ◌
 use Rattle.std.proofs.lemmas.Bool.{lt-ltb, le-ltb}
 use Rattle.std.proofs.lemmas.List.Splits.{slice_split_none, slice_split_at}
 use Rattle.examples.specs.CutExamples.{has_no_newline, LongLinesEnd}
-use Rattle.definitions.specs.Frames.{cut_at_newlines, has_room, longest_frame}
+use Rattle.controllers.specs.ReadFrames.{cut_at_newlines, has_room, longest_frame}
 
 alone : (line : List ℕ) → has_no_newline line → cut_at_newlines line ≡ line ∷ []
 alone line none = slice_split_none (λ b. b == 10) line none

@@ -3,12 +3,12 @@ use Rattle.std.specs.Prelude.{◌≡◌, ◌==◌, ℕ, false, List, [], ◌∷�
 use Rattle.std.specs.List.{All}
 use Rattle.serde_json.specs.Data.{string, object, no_members, member}
 use Rattle.definitions.specs.declared.kinds.Kind.TheVariants.{ConfigMap}
-use Rattle.definitions.specs.declared.reflectors.Ask.TheVariants as ask
-use Rattle.definitions.specs.declared.reflectors.End.{End}
-use Rattle.definitions.specs.declared.reflectors.End.TheVariants.{Expired, Unreadable}
-use Rattle.definitions.specs.declared.reflectors.Phase.TheVariants.{Listing, Watching}
+use Rattle.controllers.specs.declared.reflectors.Ask.TheVariants as ask
+use Rattle.controllers.specs.declared.reflectors.End.{End}
+use Rattle.controllers.specs.declared.reflectors.End.TheVariants.{Expired, Unreadable}
+use Rattle.controllers.specs.declared.reflectors.Phase.TheVariants.{Listing, Watching}
 use Rattle.definitions.specs.Objects.{Object}
-use Rattle.definitions.specs.Reflectors.{Reflector, Fed, Delta, put, mark, asks, cut, expired, fed}
+use Rattle.controllers.specs.Reflectors.{Reflector, Fed, Delta, put, mark, asks, cut, expired, fed}
 
 -- a reflector of ConfigMaps that watches from revision 3, with bytes held
 abbrev pub at_three : List ℕ → Reflector

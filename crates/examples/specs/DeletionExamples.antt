@@ -1,6 +1,6 @@
 -- Worked facts of deletes, computed from the definitions: what is written for these lines.
 use Rattle.std.specs.Prelude.{◌≡◌, codes, ◌++◌}
-use Rattle.definitions.specs.Lines.{replay}
+use Rattle.line_protocol.specs.Lines.{replay}
 
 -- an object with a finalizer is marked and stays, gets no other finalizer, and is gone with its last one
 abbrev pub FinalizersKeepTheirObject : Type 0

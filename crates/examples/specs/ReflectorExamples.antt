@@ -2,11 +2,11 @@
 use Rattle.std.specs.Prelude.{◌≡◌, ℕ, List, [], ◌∷◌, ◌++◌, Some, None, codes}
 use Rattle.serde_json.specs.Data.{string, object, no_members, member}
 use Rattle.definitions.specs.declared.kinds.Kind.TheVariants.{ConfigMap, Pod}
-use Rattle.definitions.specs.declared.reflectors.End.{End}
-use Rattle.definitions.specs.declared.reflectors.End.TheVariants.{Expired, Unreadable}
-use Rattle.definitions.specs.declared.reflectors.Phase.TheVariants.{Listing, Watching}
+use Rattle.controllers.specs.declared.reflectors.End.{End}
+use Rattle.controllers.specs.declared.reflectors.End.TheVariants.{Expired, Unreadable}
+use Rattle.controllers.specs.declared.reflectors.Phase.TheVariants.{Listing, Watching}
 use Rattle.definitions.specs.Objects.{Object}
-use Rattle.definitions.specs.Reflectors.{Reflector, Fed, list_of, put, remove, mark, fed}
+use Rattle.controllers.specs.Reflectors.{Reflector, Fed, list_of, put, remove, mark, fed}
 
 -- the ConfigMap `a` with a value, at a version
 abbrev a_map : List ℕ → List ℕ → Object

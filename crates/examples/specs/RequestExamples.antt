@@ -14,7 +14,7 @@ use Rattle.definitions.specs.declared.kinds.Kind.{Kind}
 use Rattle.definitions.specs.Kinds.{kind_text, api_version, plural, resource, has_status, has_generation}
 use Rattle.definitions.specs.Reading.{is_body}
 use Rattle.definitions.specs.Targets.{collection, object_at, status_of, path_text}
-use Rattle.definitions.specs.Lines.{replay}
+use Rattle.line_protocol.specs.Lines.{replay}
 use Rattle.definitions.specs.Moments.{is_moment}
 use Rattle.definitions.specs.Names.{is_subdomain, is_namespace}
 use Rattle.definitions.specs.Uids.{uid_text}

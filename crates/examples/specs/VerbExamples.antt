@@ -3,7 +3,7 @@ use Rattle.std.specs.Prelude.{◌≡◌, ℕ, List, codes, ◌++◌}
 use Rattle.serde_json.specs.Data.{Data}
 use Rattle.definitions.specs.declared.kinds.Kind.TheVariants.{ConfigMap}
 use Rattle.definitions.specs.History.{History}
-use Rattle.definitions.specs.Lines.{replay}
+use Rattle.line_protocol.specs.Lines.{replay}
 use Rattle.definitions.specs.Refusals.{not_found}
 use Rattle.definitions.specs.Verbs.{update_status, refused, accept}
 

@@ -3,15 +3,16 @@ use Rattle.std.specs.Prelude.{◌≡◌, ℕ, List, [], ◌∷◌, ◌++◌, map
 use Rattle.serde_json.specs.Data.{Data, string, object, no_members, member}
 use Rattle.definitions.specs.declared.kinds.Kind.TheVariants.{ConfigMap, Pod, Deployment}
 use Rattle.definitions.specs.declared.frames.FrameKind.TheVariants.{Added, Error}
-use Rattle.definitions.specs.declared.frames.FrameFault.TheVariants.{NotAFrame}
+use Rattle.controllers.specs.declared.frame_fault.FrameFault.TheVariants.{NotAFrame}
 use Rattle.definitions.specs.Names.{Name}
 use Rattle.definitions.specs.History.{History, View, whole, write, compaction}
 use Rattle.definitions.specs.Refusals.{too_new}
 use Rattle.definitions.specs.Changes.{changes}
-use Rattle.definitions.specs.Frames.{frame_text, bookmark_event, error_event, reading}
+use Rattle.definitions.specs.Frames.{frame_text, bookmark_event, error_event}
+use Rattle.controllers.specs.ReadFrames.{reading}
 use Rattle.definitions.specs.Streams.{change, text_of}
 use Rattle.form_urlencoded.specs.Form.{raw_pairs}
-use Rattle.definitions.specs.Lines.{replay}
+use Rattle.line_protocol.specs.Lines.{replay}
 use Rattle.definitions.specs.declared.refusals.Part.{Part}
 use Rattle.definitions.specs.declared.refusals.Part.TheVariants as part
 use Rattle.definitions.specs.Collections.{Collection, watch, everything, collection_of}

@@ -7,7 +7,8 @@ use Rattle.definitions.specs.Names.{Name}
 use Rattle.definitions.specs.History.{History, Entry, write, compaction, View, Members, whole, list}
 use Rattle.definitions.specs.Refusals.{Refusal, expired, too_new}
 use Rattle.definitions.specs.Changes.{Change}
-use Rattle.definitions.specs.Windows.{Kept, writes_of, floor, since, list_within, Window, opened, recorded, since_kept, list_kept}
+use Rattle.definitions.specs.Windows.{Kept, writes_of, floor, since, list_within}
+use Rattle.server_state.specs.Recorded.{Window, opened, recorded, since_kept, list_kept}
 
 abbrev pub named : Kind → List ℕ → Name
 named kind name = record { kind = kind; namespace = codes "default"; name = name }

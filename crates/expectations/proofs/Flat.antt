@@ -6,9 +6,9 @@ use Rattle.std.specs.FinMap as map_of
 use Rattle.std.specs.FinMap.{find, is_sorted, entries_sorted, get-entries, get-from_entries, get-insert, get-retain_keys, same_map}
 use Rattle.std.specs.FinMap.Entries.{below_all}
 use Rattle.definitions.specs.Names.{Name, name_cmp, is_named}
-use Rattle.definitions.specs.Expectations.{Owner, owner_cmp, Expectation, change, forgotten}
-use Rattle.definitions.proofs.TaskOrder.{name_total, name_tells}
-use Rattle.definitions.proofs.Expected.{owner_total, owner_tells, keys_tied}
+use Rattle.controllers.specs.Expectations.{Owner, owner_cmp, Expectation, change, forgotten}
+use Rattle.controllers.proofs.TaskOrder.{name_total, name_tells}
+use Rattle.controllers.proofs.Expected.{owner_total, owner_tells, keys_tied}
 use Rattle.expectations.specs.Seen.{uid_cmp, Owners, Nested, inside, flattened, flat, changed_from, changed_at}
 use Rattle.expectations.proofs.SeenTexts.{uid_total, uid_tells}
 

@@ -10,10 +10,10 @@ use Rattle.std.specs.Map.{lookup, KeepsOthers}
 use Rattle.std.specs.FinMap as map_of
 use Rattle.std.specs.FinMap.{get-insert, same_map}
 use Rattle.definitions.specs.Names.{Name, name_cmp, is_named}
-use Rattle.definitions.specs.Expectations as spec
-use Rattle.definitions.specs.Expectations.{Owner, owner_cmp, Table, change, is_met, satisfied, forgotten}
-use Rattle.definitions.proofs.TaskOrder.{name_total, name_tells}
-use Rattle.definitions.proofs.Expected.{owner_total, owner_tells}
+use Rattle.controllers.specs.Expectations as spec
+use Rattle.controllers.specs.Expectations.{Owner, owner_cmp, Table, change, is_met, satisfied, forgotten}
+use Rattle.controllers.proofs.TaskOrder.{name_total, name_tells}
+use Rattle.controllers.proofs.Expected.{owner_total, owner_tells}
 use Rattle.meta.specs.Keys.{name_of}
 use Rattle.meta.specs.declared.keys.Key.{Key}
 use Rattle.meta.specs.contracts.keys.KeyOrd.TheImpl as key_ord

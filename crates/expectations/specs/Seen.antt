@@ -8,10 +8,10 @@ use Rattle.std.specs.Cmp.Lexicographic.{slice_cmp}
 use Rattle.std.specs.BTreeMap.{BTreeMap}
 use Rattle.std.specs.FinMap as map_of
 use Rattle.std.specs.FinSet as set
-use Rattle.definitions.specs.HistoryCodes.{coded_name}
+use Rattle.codes.specs.HistoryCodes.{coded_name}
 use Rattle.definitions.specs.Names.{Name, name_cmp}
-use Rattle.definitions.specs.Expectations as spec
-use Rattle.definitions.specs.Expectations.{Owner, owner_cmp, Table, Uids}
+use Rattle.controllers.specs.Expectations as spec
+use Rattle.controllers.specs.Expectations.{Owner, owner_cmp, Table, Uids}
 use Rattle.expectations.specs.declared.expectation.Expectation.{Expectation}
 use Rattle.meta.specs.Keys.{name_of}
 use Rattle.meta.specs.declared.keys.Key.{Key}

@@ -1,7 +1,7 @@
 //! What one ReplicaSet waits for.
 ghost use Rattle.std.specs.Prelude.{◌≡◌, ◌-◌, ◌==◌, ◌&&◌, Some};
 ghost use Rattle.std.specs.FinSet as set;
-ghost use Rattle.definitions.specs.Expectations.{is_met};
+ghost use Rattle.controllers.specs.Expectations.{is_met};
 ghost use Rattle.expectations.specs.Seen.{expectation_of};
 
 use std::collections::BTreeSet;

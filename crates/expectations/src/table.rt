@@ -1,7 +1,7 @@
 //! The table of all expectations.
 ghost use Rattle.std.specs.Prelude.{◌≡◌, OnOk, OnErr, string_bytes, map as list_map};
 ghost use Rattle.std.specs.FinMap as map;
-ghost use Rattle.definitions.specs.Expectations.{creations_expected, deletions_expected, created, deleted, satisfied, forgotten};
+ghost use Rattle.controllers.specs.Expectations.{creations_expected, deletions_expected, created, deleted, satisfied, forgotten};
 ghost use Rattle.meta.specs.Keys.{name_of};
 ghost use Rattle.std.specs.Prelude.{IfOk};
 ghost use Rattle.std.specs.FinSet as set;
@@ -23,7 +23,7 @@ pub struct Table {
 }
 
 impl Model for Table {
-    ghost use Rattle.definitions.specs.Expectations as spec;
+    ghost use Rattle.controllers.specs.Expectations as spec;
     ghost use Rattle.expectations.specs.Seen.{flat, nested_of, table_code};
 
     ghost Value = { spec.Table };

@@ -17,7 +17,8 @@ use Rattle.serde_json.specs.Read.{read, of_json, max_depth}
 use Rattle.serde_json.specs.Written.{compact_text, outline, items_outline, members_outline, has_float, IsInOrder}
 use Rattle.serde_json.proofs.Texts.{tokens_from_order, print-outline}
 use Rattle.serde_json.proofs.OnLiterals.{serde_json_on_literals}
-use Rattle.definitions.specs.Frames.{Event, frame_data, frame_text, event_in, kind_text, line_read, reading, next, longest_frame}
+use Rattle.definitions.specs.Frames.{Event, frame_data, frame_text, kind_text}
+use Rattle.controllers.specs.ReadFrames.{event_in, line_read, reading, next, longest_frame}
 use Rattle.framing.specs.Texts.{framed_text, IsWithin, ReadsAs}
 use Rattle.definitions.specs.declared.frames.FrameKind.{FrameKind}
 use Rattle.definitions.specs.declared.frames.FrameKind.TheVariants.{Added, Modified, Deleted, Bookmark, Error}

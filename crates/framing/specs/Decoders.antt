@@ -2,10 +2,11 @@
 use Rattle.std.specs.Prelude.{ℕ, List, [], ◌∷◌, ◌++◌, map, Option, Some, None, refl}
 use Rattle.std.specs.Coded.{Coded, code_by, coded×, coded_option}
 use Rattle.serde_json.specs.View.{view}
-use Rattle.definitions.specs.Codes.{coded_text}
-use Rattle.definitions.specs.Frames.{Event, Read, reading, failed, onto}
-use Rattle.definitions.specs.declared.frames.FrameFault.{FrameFault}
-use Rattle.definitions.specs.contracts.frames.FrameFault as fault
+use Rattle.codes.specs.Codes.{coded_text}
+use Rattle.definitions.specs.Frames.{Event}
+use Rattle.controllers.specs.ReadFrames.{Read, reading, failed, onto}
+use Rattle.controllers.specs.declared.frame_fault.FrameFault.{FrameFault}
+use Rattle.controllers.specs.contracts.frame_fault.FrameFault as fault
 use Rattle.framing.specs.declared.frames.Frame.{Frame}
 
 -- the bytes held of a line that is not whole, or the fault that is final

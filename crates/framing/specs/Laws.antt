@@ -1,7 +1,8 @@
 -- Laws of lines and frames.
 use Rattle.std.specs.Prelude.{◌++◌, ◌≡◌, ◌<◌, ◌↔◌, ℕ, List, flat_map, length, None, IsOk}
 use Rattle.std.specs.List.{AllByRecursion}
-use Rattle.definitions.specs.Frames.{Event, lines, rest, reading, line_read, longest_frame, frame_text}
+use Rattle.definitions.specs.Frames.{Event, frame_text}
+use Rattle.controllers.specs.ReadFrames.{lines, rest, reading, line_read, longest_frame}
 use Rattle.framing.specs.Lines.{Splits}
 use Rattle.framing.specs.Texts.{ReadsAs, ReadsAll}
 use Rattle.framing.specs.Decoders.{opened, all_fed}

@@ -10,7 +10,8 @@ pub mod texts;
 pub mod wants;
 
 pub use decoder::{Decoded, Decoder};
-pub use definitions::frames::{FrameFault, FrameKind};
+pub use controllers::frame_fault::FrameFault;
+use definitions::frames::FrameKind;
 pub use frames::Frame;
 pub use texts::{added_text, bookmark_text, error_text, frame_text};
 pub use wants::Want;

@@ -3,13 +3,14 @@ ghost use Rattle.std.specs.Prelude.{◌≡◌, ◌≤◌, ◌<◌, ◌+◌, ◌+
 ghost use Rattle.serde_json.specs.View.{view};
 ghost use Rattle.serde_json.specs.Find.{get};
 ghost use Rattle.framing.specs.Lines.{IsPartial};
-ghost use Rattle.definitions.specs.Frames.{object_at, event_in, line_read};
+ghost use Rattle.controllers.specs.ReadFrames.{object_at, event_in, line_read};
 ghost use Rattle.framing.specs.Decoders.{event_of};
 ghost use Rattle.framing.specs.Scans.{IsRead};
 
 use crate::frames::Frame;
 use crate::wants::Want;
-use definitions::frames::{FrameFault, FrameKind};
+use controllers::frame_fault::FrameFault;
+use definitions::frames::FrameKind;
 use memchr::memchr;
 use serde_json::{Category, Value};
 use std::alloc::Global;

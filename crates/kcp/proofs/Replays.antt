@@ -2,7 +2,8 @@
 use Rattle.std.proofs.Common.{◌≡◌, ℕ, List, [], ◌∷◌, ◌++◌, Option, Some, None, IfSome, Result, Ok, Err, OnOk, OnErr, IfErr, refl, ap, ap₂, sym, subst, ◌∙◌}
 use Rattle.std.proofs.lemmas.List.{append-nil}
 use Rattle.std.specs.Io.KnownBytes.{Appends}
-use Rattle.definitions.specs.Lines as lines
+use Rattle.line_protocol.specs.Lines as lines
+use Rattle.definitions.specs.Replies as answers
 use Rattle.kcp.specs.Replays.{AnswersSome}
 use Rattle.line_service.proofs.Progress.{want-other}
 use Rattle.line_service.proofs.Splitting.{replies-split}
@@ -16,18 +17,18 @@ use Rattle.session.specs.Laws.{Follows}
 
 -- ---- the definitions' session is a service
 
-replies-fold : (s : lines.Session) (ts : List (List ℕ)) → lines.replies s ts ≡ service.replies lines.reply lines.next s ts
+replies-fold : (s : answers.Session) (ts : List (List ℕ)) → lines.replies s ts ≡ service.replies lines.reply lines.next s ts
 replies-fold s [] = refl
 replies-fold s (t ∷ ts) = ap (λ r. lines.reply s t ++ r) (replies-fold (lines.next s t) ts)
 
 -- a replay is the run of a session over the lines that a service reads
-replay-run : (window : ℕ) (input : List ℕ) → service.replies lines.reply lines.next (lines.start window) (service.lines_of input) ≡ lines.replay_with window input
-replay-run window input = sym (replies-fold (lines.start window) (lines.lines_of input) ∙ replies-split lines.reply lines.next (λ s. refl) (lines.start window) input)
+replay-run : (window : ℕ) (input : List ℕ) → service.replies lines.reply lines.next (answers.start window) (service.lines_of input) ≡ lines.replay_with window input
+replay-run window input = sym (replies-fold (answers.start window) (lines.lines_of input) ∙ replies-split lines.reply lines.next (λ s. refl) (answers.start window) input)
 
 -- ---- a session that holds a server goes with it
 
 -- line by line its replies are the same
-same-replies : (held : Held) (s : lines.Session) → Follows held s → (ts : List (List ℕ))
+same-replies : (held : Held) (s : answers.Session) → Follows held s → (ts : List (List ℕ))
     → service.replies reply_held next_held held ts ≡ service.replies lines.reply lines.next s ts
 same-replies held s is [] = refl
 same-replies held s is (t ∷ ts) =
@@ -35,11 +36,11 @@ same-replies held s is (t ∷ ts) =
     ap₂ (λ x y. x ++ y) step.0 (same-replies (next_held held t) (lines.next s t) step.1 ts)
 
 -- and it goes on so
-goes-on : (held : Held) (s : lines.Session) → Follows held s → (ts : List (List ℕ)) → Follows (service.after next_held held ts) (service.after lines.next s ts)
+goes-on : (held : Held) (s : answers.Session) → Follows held s → (ts : List (List ℕ)) → Follows (service.after next_held held ts) (service.after lines.next s ts)
 goes-on held s is [] = is
 goes-on held s is (t ∷ ts) = goes-on (next_held held t) (lines.next s t) (sessions_follow.1 held s t is).1 ts
 
-same-cut : (held : Held) (s : lines.Session) → Follows held s → (old new : Option (List ℕ)) (answered : List (List ℕ))
+same-cut : (held : Held) (s : answers.Session) → Follows held s → (old new : Option (List ℕ)) (answered : List (List ℕ))
     → IsCutAtLast reply_held next_held held old new answered → IsCutAtLast lines.reply lines.next s old new answered
 same-cut held s is old new answered cut =
     let before = cut.0 in
@@ -55,8 +56,8 @@ same-cut held s is old new answered cut =
     )
 
 -- what ends the one early ends the other so
-same-end : (held last : Held) (s : lines.Session) → Follows held s → (why : RunFault) (old new : Option (List ℕ)) (ts : List (List ℕ))
-    → EndsEarly reply_held next_held why held last old new ts → (t : lines.Session) × EndsEarly lines.reply lines.next why s t old new ts
+same-end : (held last : Held) (s : answers.Session) → Follows held s → (why : RunFault) (old new : Option (List ℕ)) (ts : List (List ℕ))
+    → EndsEarly reply_held next_held why held last old new ts → (t : answers.Session) × EndsEarly lines.reply lines.next why s t old new ts
 same-end held last s is why old new ts e =
     let answered = e.0 in
     let same = same-replies held s is answered in (
@@ -69,7 +70,7 @@ same-end held last s is why old new ts e =
 held-run : (window : ℕ) (held : Held) → held ≡ begun window → (input : List ℕ) → service.replies reply_held next_held held (service.lines_of input) ≡ lines.replay_with window input
 held-run window held is input =
     ap (λ h. service.replies reply_held next_held h (service.lines_of input)) is
-    ∙ same-replies (begun window) (lines.start window) (sessions_follow.0 window) (service.lines_of input)
+    ∙ same-replies (begun window) (answers.start window) (sessions_follow.0 window) (service.lines_of input)
     ∙ replay-run window input
 
 along : (P : List ℕ → Type 0) (window : ℕ) (held : Held) → held ≡ begun window → (input : Option (List ℕ))
@@ -94,7 +95,7 @@ pub along-ended : {T : Type 0} (r : Result T RunFault) (window : ℕ) (held last
 along-ended (Ok v) window held last is input old new h = tt
 along-ended (Err why) window held last is None old new h = tt
 along-ended (Err why) window held last is (Some input) old new h =
-    same-end (begun window) last (lines.start window) (sessions_follow.0 window) why old new (service.lines_of input)
+    same-end (begun window) last (answers.start window) (sessions_follow.0 window) why old new (service.lines_of input)
     (subst (λ s. EndsEarly reply_held next_held why s last old new (service.lines_of input)) is h)
 
 -- nothing is appended
@@ -106,4 +107,4 @@ nothing (Some xs) = sym (append-nil xs)
 pub none-answered : (window : ℕ) (input old : Option (List ℕ)) → IfSome input (AnswersSome window fault.Want old old)
 none-answered window None old = tt
 none-answered window (Some input) old =
-    (lines.start window, ([], service.lines_of input, refl, refl, ([], [], nothing old, refl), λ _. nothing old, λ e. absurd (want-other e)))
+    (answers.start window, ([], service.lines_of input, refl, refl, ([], [], nothing old, refl), λ _. nothing old, λ e. absurd (want-other e)))

@@ -3,7 +3,8 @@
 
 ghost use Rattle.std.specs.Prelude.{◌≡◌, OnOk, OnErr, IfErr, IfSome, option_map, string_bytes};
 ghost use Rattle.std.specs.Io.KnownBytes.{Appends};
-ghost use Rattle.definitions.specs.Lines as lines;
+ghost use Rattle.definitions.specs.Replies.{default_window};
+ghost use Rattle.line_protocol.specs.Lines as lines;
 ghost use Rattle.line_service.specs.Replies.{AppendsBeginning};
 ghost use Rattle.kcp.specs.Replays.{asks_replay, fault_text, AnswersSome};
 
@@ -51,7 +52,7 @@ pub fn replay<R: BufRead, W: Write>(
         Appends (W.contents writer.old) (W.contents writer.new) (lines.replay input))) }
     ensures err { OnErr result (IfSome (R.remaining reader.old) (λ input.
         AppendsBeginning (W.contents writer.old) (W.contents writer.new) (lines.replay input))) }
-    ensures ended { IfErr result (λ fault. IfSome (R.remaining reader.old) (AnswersSome lines.default_window fault (W.contents writer.old) (W.contents writer.new))) }
+    ensures ended { IfErr result (λ fault. IfSome (R.remaining reader.old) (AnswersSome default_window fault (W.contents writer.old) (W.contents writer.new))) }
 {
     replay_with(alloc, DEFAULT_WINDOW, reader, writer)
 }

@@ -7,9 +7,9 @@ use Rattle.std.specs.Ordering.{eq_by_cmp}
 use Rattle.std.specs.FinSet as set
 use Rattle.std.specs.FinSet.{contains_tied, contains-insert, contains-remove, contains-empty}
 use Rattle.std.proofs.lemmas.Map.Keys.{IsDistinct-push, IsDistinct-head, IsDistinct-tail}
-use Rattle.definitions.specs.Board.{Task, task_cmp, Tasks, Work, idle, added, got_from, done, Call, add, get, finish, shut_down, after, after_all, front}
+use Rattle.controllers.specs.WorkQueues.{Task, task_cmp, Tasks, Work, idle, added, got_from, done, Call, add, get, finish, shut_down, after, after_all, front}
 use Rattle.laws.specs.BoardLaws.{is_key, hands_out, was_handed}
-use Rattle.definitions.proofs.TaskOrder.{task_total}
+use Rattle.controllers.proofs.TaskOrder.{task_total}
 
 abbrev pub same : Task → Task → Bool
 same = eq_by_cmp task_cmp

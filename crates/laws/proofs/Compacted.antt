@@ -1,7 +1,7 @@
 -- What a compaction leaves as it is.
 use Rattle.std.proofs.Common.{◌≡◌, ◌≤◌, ℕ, ◌+◌, ◌-◌, List, [], ◌∷◌, ◌++◌, length, take, sym, ◌∙◌, subst, arith, append-nil}
 use Rattle.definitions.specs.History.{History, Write, write, compaction, writes, Follows, present, after_all}
-use Rattle.definitions.specs.Snapshots.{snapshot}
+use Rattle.server_state.specs.Snapshots.{snapshot}
 use Rattle.laws.proofs.Past.{writes-append}
 
 pub writes-compaction : (h : History) (r : ℕ) → writes (h ++ compaction r ∷ []) ≡ writes h

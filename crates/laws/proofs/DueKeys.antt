@@ -13,11 +13,12 @@ use Rattle.std.specs.FinSet.{contains-from_list, same_set}
 use Rattle.std.specs.List.{filter, list_any, AllByRecursion}
 use Rattle.std.specs.List.Sorted.{IsStrictlySortedBy}
 use Rattle.std.specs.Ordering.{eq_by_cmp, is_eq, is_lt, ordering_reverse}
-use Rattle.definitions.specs.Board.{Task, task_cmp, Delays, Alarm, alarm_cmp, alarms, due, has_come}
+use Rattle.controllers.specs.WorkQueues.{Task, task_cmp}
+use Rattle.controllers.specs.Delays.{Delays, Alarm, alarm_cmp, alarms, due, has_come}
 use Rattle.laws.specs.DueLaws.{IsDue, alarm_at, AreInTurn, DueHaveCome, DueAreInTurn, DueAreTheOnlyList, StillDelayedAreLater}
-use Rattle.definitions.proofs.Alarms.{alarm_total, alarm_tells, alarm_of, contains-alarms, moment_of, find_mark, marked_entries, mark, is_moment, same_at_itself}
-use Rattle.definitions.proofs.Due.{AreAlarms, get-still}
-use Rattle.definitions.proofs.TaskOrder.{task_total, task_tells}
+use Rattle.controllers.proofs.Alarms.{alarm_total, alarm_tells, alarm_of, contains-alarms, moment_of, find_mark, marked_entries, mark, is_moment, same_at_itself}
+use Rattle.controllers.proofs.Due.{AreAlarms, get-still}
+use Rattle.controllers.proofs.TaskOrder.{task_total, task_tells}
 
 -- ---- lists in order
 

@@ -4,7 +4,8 @@ use Rattle.std.specs.Prelude.{nat_lt}
 use Rattle.std.proofs.lemmas.Bool.{ltb-true, ltb-false, lt-ltb}
 use Rattle.laws.specs.FloorLaws.{NonePassed, IsRemembered, RememberedAreServed}
 use Rattle.definitions.specs.History.{History, write, compaction, View, writes, present}
-use Rattle.definitions.specs.Windows.{Kept, writes_of, all_but, last_revision, IsRising, compacted, floor, above}
+use Rattle.definitions.specs.Windows.{Kept, writes_of, all_but, last_revision, IsRising, compacted, floor}
+use Rattle.server_state.specs.Recorded.{above}
 use Rattle.laws.proofs.KeptWrites.{rising, rising_least, rising_take, above_dropped}
 use Rattle.laws.proofs.ServedWindows.{revisions_served}
 

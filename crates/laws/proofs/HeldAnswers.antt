@@ -5,12 +5,13 @@ use Rattle.std.specs.Result.{result_map_both}
 use Rattle.std.proofs.lemmas.Bool.{le-ltb, ltb-false}
 use Rattle.definitions.specs.History.{History, View, Members, present, viewed, list}
 use Rattle.definitions.specs.Refusals.{Refusal}
-use Rattle.definitions.specs.Windows.{list_kept, list_within, since, since_kept}
+use Rattle.server_state.specs.Recorded.{list_kept, since_kept}
+use Rattle.definitions.specs.Windows.{list_within, since}
 use Rattle.definitions.specs.declared.versions.At.{At}
 use Rattle.definitions.specs.declared.versions.At.TheVariants.{Present, NotOlder, Exact}
 use Rattle.definitions.specs.Versions.{listed_as, once_present, listed_at, watched, watched_from}
 use Rattle.definitions.specs.Lists.{list_answer}
-use Rattle.definitions.specs.Servers.{Server, window_of, watch_by, Holds}
+use Rattle.server_state.specs.Servers.{Server, window_of, watch_by, Holds}
 use Rattle.definitions.specs.WatchReplies.{told_lines, added_lines, lines_by}
 use Rattle.laws.specs.ServerLaws.{ServersList, ServersWatch, ServersAnswerLists, ServersShow, ListsAreServed}
 use Rattle.laws.proofs.ServedWindows.{watch_served, list_undone, revisions_served}

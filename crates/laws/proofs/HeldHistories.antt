@@ -9,9 +9,10 @@ use Rattle.definitions.specs.Kinds.{rank}
 use Rattle.definitions.specs.History.{History, Write, write, compaction, Members, writes, CanHappen, present, members, found, after, after_all}
 use Rattle.definitions.specs.Refusals.{too_new}
 use Rattle.definitions.specs.Verbs.{accept_at, accept, write_of, with_write}
-use Rattle.definitions.specs.Snapshots.{Snapshot, snapshot, written}
-use Rattle.definitions.specs.Windows.{Kept, Window, is_of, kept_of, recorded, compacted_to}
-use Rattle.definitions.specs.Servers.{Server, opened_server, window_of, with_window, kept_at, after_write, after_writing, after_compaction, after_entries, IsWindow, Holds}
+use Rattle.server_state.specs.Snapshots.{Snapshot, snapshot, written}
+use Rattle.definitions.specs.Windows.{Kept, is_of, kept_of}
+use Rattle.server_state.specs.Recorded.{Window, recorded, compacted_to}
+use Rattle.server_state.specs.Servers.{Server, opened_server, window_of, with_window, kept_at, after_write, after_writing, after_compaction, after_entries, IsWindow, Holds}
 use Rattle.laws.specs.ServerLaws.{ServersOpen, ServersWrite, ServersFollow, HoldOrRefuse, ServersCompact, CompactionsHappen, ServersAccept}
 use Rattle.laws.proofs.Compacted.{snapshot-compaction, follows_compaction}
 use Rattle.laws.proofs.Past.{writes-append, whole}

@@ -9,7 +9,8 @@ use Rattle.definitions.specs.declared.kinds.Kind.{Kind}
 use Rattle.definitions.specs.Names.{Name}
 use Rattle.definitions.specs.History.{Write, View, Members, last_of, viewed, after_all, put_or_remove, seen}
 use Rattle.definitions.specs.Changes.{Change, changes_after, write_change, play}
-use Rattle.definitions.specs.Windows.{Kept, is_of, kept_of, kept_after, all_but, last_n, last_revision, IsRising, above, changes_kept, undone}
+use Rattle.definitions.specs.Windows.{Kept, is_of, kept_of, kept_after, all_but, last_n, last_revision, IsRising}
+use Rattle.server_state.specs.Recorded.{above, changes_kept, undone}
 use Rattle.laws.proofs.Played.{one_more}
 use Rattle.laws.proofs.Undone.{write_undone}
 

@@ -9,7 +9,9 @@ use Rattle.definitions.specs.declared.methods.Method.TheVariants.{Get, Post, Put
 use Rattle.definitions.specs.declared.refusals.Part.{Part}
 use Rattle.definitions.specs.declared.refusals.Part.TheVariants as part
 use Rattle.definitions.specs.History.{History, compaction, present}
-use Rattle.definitions.specs.Lines.{Session, start, default_window, history_of, Line, ask, at, compact, compact_at, unreadable, ask_if, cut, target_alone, target_and_body, line_from, line_of, reply_for, history_from, session_after, next, after_lines}
+use Rattle.definitions.specs.Replies.{Session, start, reply_for, history_from}
+use Rattle.line_protocol.specs.Lines.{history_of, Line, ask, at, compact, compact_at, unreadable, ask_if, cut, target_alone, target_and_body, line_from, line_of, session_after, next, after_lines}
+use Rattle.definitions.specs.Replies.{default_window}
 use Rattle.definitions.specs.Moments as moments
 use Rattle.definitions.specs.Moments.{has_form, is_day, is_digit, is_moment}
 use Rattle.definitions.specs.Names.{Name}

@@ -5,7 +5,8 @@ use Rattle.definitions.specs.declared.kinds.Kind.{Kind}
 use Rattle.definitions.specs.Collections.{ListOptions, WatchOptions}
 use Rattle.definitions.specs.History.{History, Entry, Write, View, write, compaction, present}
 use Rattle.laws.specs.HistoryLaws.{RunsOnlyAdd, WindowsOnlyForget}
-use Rattle.definitions.specs.Lines.{Session, start, Line, ask, at, compact, unreadable, line_of, outcome, reply_for, watch_reply, compact_reply, history_from, session_after, next, after_lines}
+use Rattle.definitions.specs.Replies.{Session, start, outcome, reply_for, watch_reply, compact_reply, history_from}
+use Rattle.line_protocol.specs.Lines.{Line, ask, at, compact, unreadable, line_of, session_after, next, after_lines}
 use Rattle.definitions.specs.Lists.{list_answer}
 use Rattle.definitions.specs.Refusals.{Refusal, too_new}
 use Rattle.definitions.specs.Streams as streams

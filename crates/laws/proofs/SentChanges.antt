@@ -14,7 +14,7 @@ use Rattle.definitions.specs.History.{Write, writes, present, up_to, last_of, in
 use Rattle.definitions.specs.Metadata.{at_revision, metadata_of, metadata_text, name, namespace, uid}
 use Rattle.definitions.specs.Names.{Name}
 use Rattle.definitions.specs.Reading.{reading, is_body, fits, tidied, filled, whole_of}
-use Rattle.definitions.specs.Reflectors.{shown, shown_read, has_identity, revision, name_in}
+use Rattle.controllers.specs.Reflectors.{shown, shown_read, has_identity, revision, name_in}
 use Rattle.definitions.specs.Revisions.{revision_of}
 use Rattle.laws.specs.SentLaws.{IsKept, IsTold, IsShort, ChangesAreTold, whole}
 use Rattle.definitions.specs.Values.{members_of}

@@ -23,7 +23,7 @@ use Rattle.definitions.specs.Reading.{reading, is_body, is_absent, fits, tidied,
 use Rattle.definitions.specs.Schemas.{kept, member_at}
 use Rattle.definitions.specs.Values.{members_of, without, is_null}
 use Rattle.definitions.specs.Verbs.{as_item, list_body}
-use Rattle.definitions.specs.Reflectors.{Shown, shown, shown_read, name_in, all_shown, apart, items_shown, repeats, is_list, revision, list_in, list_of, put_all}
+use Rattle.controllers.specs.Reflectors.{Shown, shown, shown_read, name_in, all_shown, apart, items_shown, repeats, is_list, revision, list_in, list_of, put_all}
 use Rattle.definitions.specs.Reached.{IsReached}
 use Rattle.laws.specs.SentLaws.{whole, objects_in, ListsArePut, ListsAreRead, ListsNest}
 use Rattle.definitions.proofs.JsonMembers.{get_member-without_other}

@@ -6,7 +6,8 @@ use Rattle.std.proofs.lemmas.Bool.{le-ltb, ltb-false}
 use Rattle.definitions.specs.History.{History, compaction, View, writes, present, up_to, last_of, viewed, after_all, list}
 use Rattle.definitions.specs.Changes.{changes, changes_after}
 use Rattle.laws.specs.WindowLaws.{WatchesAreServed, ListsAreUndone, RevisionsAreServed, CompactionsChangeNothing, WideWindowsServeAll}
-use Rattle.definitions.specs.Windows.{kept_after, writes_of, last_n, last_revision, all_but, floor, within, above, changes_kept, undone, Window, Tracks}
+use Rattle.definitions.specs.Windows.{kept_after, writes_of, last_n, last_revision, all_but, floor, within}
+use Rattle.server_state.specs.Recorded.{above, changes_kept, undone, Window, Tracks}
 use Rattle.laws.proofs.Past.{writes-append}
 use Rattle.laws.proofs.KeptWrites.{last_n_above, changes_of_kept, all_undone}
 

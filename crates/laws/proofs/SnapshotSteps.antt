@@ -2,7 +2,7 @@
 use Rattle.std.proofs.Common.{◌≡◌, ℕ, ◌+◌, ◌-◌, [], ◌∷◌, ◌++◌, length, take, refl, ◌∙◌, append-nil}
 use Rattle.definitions.specs.History.{History, Write, write, compaction, writes, after_all}
 use Rattle.laws.specs.SnapshotLaws.{SnapshotsFollow}
-use Rattle.definitions.specs.Snapshots.{snapshot, written}
+use Rattle.server_state.specs.Snapshots.{snapshot, written}
 use Rattle.laws.proofs.Limits.{members-write}
 use Rattle.laws.proofs.Past.{writes-append}
 use Rattle.laws.proofs.VerbLaws.{present-write}

@@ -4,7 +4,7 @@ use Rattle.std.specs.List.{list_any, list_all}
 use Rattle.std.specs.Str.{bytes_eq}
 use Rattle.std.specs.FinMap as map
 use Rattle.std.specs.FinSet as set
-use Rattle.definitions.specs.Expectations.{Owner, Expectation, Table, Uids, deletions_expected, deleted, satisfied}
+use Rattle.controllers.specs.Expectations.{Owner, Expectation, Table, Uids, deletions_expected, deleted, satisfied}
 use Rattle.laws.specs.ExpectationLaws.{Change, after_all, sets_none}
 
 abbrev pub deletions_of : Option Expectation → Uids

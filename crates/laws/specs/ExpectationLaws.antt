@@ -3,7 +3,7 @@ use Rattle.std.specs.Prelude.{◌≡◌, ◌≤◌, ◌&&◌, ℕ, Bool, true, f
 use Rattle.std.specs.Ordering.{is_eq}
 use Rattle.std.specs.FinMap as map
 use Rattle.definitions.specs.Names.{Name}
-use Rattle.definitions.specs.Expectations.{Owner, owner_cmp, Expectation, Table, creations_expected, deletions_expected, created, deleted, satisfied, forgotten}
+use Rattle.controllers.specs.Expectations.{Owner, owner_cmp, Expectation, Table, creations_expected, deletions_expected, created, deleted, satisfied, forgotten}
 
 -- the calls that change a table of expectations
 pub data Change : Type 0 where

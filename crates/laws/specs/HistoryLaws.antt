@@ -6,7 +6,8 @@ use Rattle.serde_json.specs.Data.{Data}
 use Rattle.serde_json.specs.Written.{compact_text}
 use Rattle.definitions.specs.declared.kinds.Kind.{Kind}
 use Rattle.definitions.specs.declared.methods.Method.{Method}
-use Rattle.definitions.specs.Lines.{Session, start, after_lines}
+use Rattle.definitions.specs.Replies.{Session, start}
+use Rattle.line_protocol.specs.Lines.{after_lines}
 use Rattle.definitions.specs.Names.{Name, name_cmp, is_named}
 use Rattle.definitions.specs.History.{History, Members, Write, write, present, found, members, state, View, list, seen}
 use Rattle.definitions.specs.Refusals.{Refusal}

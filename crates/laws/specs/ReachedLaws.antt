@@ -2,7 +2,7 @@
 use Rattle.std.specs.Prelude.{◌≡◌, ◌≤◌, ◌++◌, ℕ, List, length, true, Ok}
 use Rattle.definitions.specs.declared.methods.Method.{Method}
 use Rattle.definitions.specs.History.{History, CanHappen, writes, present, members}
-use Rattle.definitions.specs.Lines.{history_of}
+use Rattle.line_protocol.specs.Lines.{history_of}
 use Rattle.definitions.specs.Moments.{is_moment}
 use Rattle.definitions.specs.Reached.{IsAsked, IsTime, IsReached}
 use Rattle.definitions.specs.Targets.{request, read_request}

@@ -18,7 +18,7 @@ use Rattle.definitions.specs.Reached.{IsReached}
 use Rattle.definitions.specs.Streams.{Line, IsStream}
 use Rattle.definitions.specs.WatchReplies.{watch_lines}
 use Rattle.definitions.specs.Verbs.{list_body}
-use Rattle.definitions.specs.Reflectors.{Listed, shown, name_in, list_of, put_all}
+use Rattle.controllers.specs.Reflectors.{Listed, shown, name_in, list_of, put_all}
 
 -- ---- what is stored
 

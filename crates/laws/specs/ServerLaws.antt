@@ -10,9 +10,9 @@ use Rattle.definitions.specs.declared.versions.At.{At}
 use Rattle.definitions.specs.declared.versions.At.TheVariants.{Present, NotOlder, Exact}
 use Rattle.definitions.specs.Versions.{Watched, list_for, watched_from, lines_from, compacts}
 use Rattle.definitions.specs.Collections.{ListOptions, WatchOptions}
-use Rattle.definitions.specs.Lists.{list_outcome, list_served}
-use Rattle.definitions.specs.WatchReplies.{watch_lines, watch_served}
-use Rattle.definitions.specs.Servers.{Server, opened_server, after_write, after_writing, after_entries, list_by, watch_by, compact_by, Holds}
+use Rattle.definitions.specs.Lists.{list_outcome}
+use Rattle.server_state.specs.Servers.{list_served, watch_served, Server, opened_server, after_write, after_writing, after_entries, list_by, watch_by, compact_by, Holds}
+use Rattle.definitions.specs.WatchReplies.{watch_lines}
 
 -- a new server holds the empty history
 abbrev pub ServersOpen : Type 0

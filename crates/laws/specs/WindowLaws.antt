@@ -4,7 +4,8 @@ use Rattle.definitions.specs.declared.kinds.Kind.{Kind}
 use Rattle.definitions.specs.Names.{Name}
 use Rattle.definitions.specs.History.{History, Write, write, compaction, View, writes, present, state, list}
 use Rattle.definitions.specs.Changes.{changes}
-use Rattle.definitions.specs.Windows.{is_of, kept_of, writes_of, last_revision, compacted, floor, since, list_within, Window, since_kept, list_kept, opened, recorded, compacted_to, Tracks}
+use Rattle.definitions.specs.Windows.{is_of, kept_of, writes_of, last_revision, compacted, floor, since, list_within}
+use Rattle.server_state.specs.Recorded.{Window, since_kept, list_kept, opened, recorded, compacted_to, Tracks}
 
 -- a new window follows the empty history
 abbrev pub WindowsOpen : Type 0

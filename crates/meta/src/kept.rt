@@ -35,12 +35,13 @@ pub(crate) struct Kept {
 
 impl Model for Kept {
     ghost use Rattle.std.specs.Prelude.{option_map, string_bytes};
+    ghost use Rattle.codes.specs.Codes.{coded_object};
     ghost use Rattle.definitions.specs.Objects as objects;
     ghost use Rattle.meta.specs.Stored.{Keeps, data_kept, tree_view};
 
     ghost Value = { objects.Object };
 
-    ghost coded = { objects.coded_object };
+    ghost coded = { coded_object };
 
     ghost view = { λ k. record { kind = k.kind; value = data_kept (option_map tree_view k.tree) (string_bytes k.text) } };
 

@@ -34,6 +34,7 @@ pub struct Object {
 
 impl Model for Object {
     ghost use Rattle.std.specs.Prelude.{◌≡◌, true, false, is_some};
+    ghost use Rattle.codes.specs.Codes.{coded_object};
     ghost use Rattle.definitions.specs.Objects as objects;
     ghost use Rattle.serde_json.specs.Find.{as_object};
     ghost use Rattle.serde_json.specs.View as json;
@@ -41,7 +42,7 @@ impl Model for Object {
 
     ghost Value = { objects.Object };
 
-    ghost coded = { objects.coded_object };
+    ghost coded = { coded_object };
 
     ghost view = { λ o. record { kind = o.kind; value = json.view o.value } };
 

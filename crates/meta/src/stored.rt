@@ -22,11 +22,12 @@ pub struct StoredObject {
 
 impl Model for StoredObject {
     ghost use Rattle.std.specs.Arc.{arc_value};
+    ghost use Rattle.codes.specs.Codes.{coded_object};
     ghost use Rattle.definitions.specs.Objects as objects;
 
     ghost Value = { objects.Object };
 
-    ghost coded = { objects.coded_object };
+    ghost coded = { coded_object };
 
     ghost view = { λ s. arc_value s.kept };
 }

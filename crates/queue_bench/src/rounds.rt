@@ -1,6 +1,6 @@
 //! The loop that is measured.
 use crate::line::Line;
-use definitions::controllers::Controller;
+use controllers::controller::Controller;
 use definitions::kinds::Kind;
 use meta::keys::Key;
 use std::alloc::{AllocError, Global};

@@ -1,12 +1,13 @@
 -- What comes of pieces is what comes of all their bytes at once.
 use Rattle.std.proofs.Common.{◌≡◌, ℕ, List, [], ◌∷◌, ◌++◌, flat_map, Option, Some, None, Result, Ok, Err, refl, sym, ap, ◌∙◌, append_assoc, append-nil}
 use Rattle.definitions.specs.declared.kinds.Kind.{Kind}
-use Rattle.definitions.specs.declared.frames.FrameFault.{FrameFault}
-use Rattle.definitions.specs.declared.reflectors.Phase.{Phase}
-use Rattle.definitions.specs.declared.reflectors.Phase.TheVariants.{Listing, Watching}
-use Rattle.definitions.specs.declared.reflectors.End.{End}
-use Rattle.definitions.specs.Frames.{Event, Read, reading, onto}
-use Rattle.definitions.specs.Reflectors.{Delta, Step, Run, run, step, going_on, first_delta, Reflector, Fed, nothing, ran, watched, fed, joined, all_fed}
+use Rattle.controllers.specs.declared.frame_fault.FrameFault.{FrameFault}
+use Rattle.controllers.specs.declared.reflectors.Phase.{Phase}
+use Rattle.controllers.specs.declared.reflectors.Phase.TheVariants.{Listing, Watching}
+use Rattle.controllers.specs.declared.reflectors.End.{End}
+use Rattle.definitions.specs.Frames.{Event}
+use Rattle.controllers.specs.ReadFrames.{Read, reading, onto}
+use Rattle.controllers.specs.Reflectors.{Delta, Step, Run, run, step, going_on, first_delta, Reflector, Fed, nothing, ran, watched, fed, joined, all_fed}
 use Rattle.framing.specs.Decoders.{fed_after}
 use Rattle.framing.proofs.Reading.{no_cutting}
 use Rattle.reflector.proofs.Runs.{after_deltas}

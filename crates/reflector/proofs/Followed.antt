@@ -14,7 +14,7 @@ use Rattle.definitions.specs.Streams.{Line, change, bookmark, initial, initial_e
 use Rattle.definitions.specs.Revisions.{greatest_revision}
 use Rattle.laws.specs.WatchLaws.{AreBetween}
 use Rattle.laws.proofs.Played.{list_played, goes_on, lie_between}
-use Rattle.definitions.specs.Reflectors.{Shown, Step, Run, run, step, shown, if_above, or_unreadable, put_step, remove_step, name_in, play_delta, play_deltas, going_on, mark_step}
+use Rattle.controllers.specs.Reflectors.{Shown, Step, Run, run, step, shown, if_above, or_unreadable, put_step, remove_step, name_in, play_delta, play_deltas, going_on, mark_step}
 use Rattle.laws.specs.SentLaws.{whole, IsTold}
 use Rattle.reflector.proofs.Marks.{bookmark_step}
 

@@ -1,9 +1,10 @@
 -- What is held of a line that is not whole is shorter than a frame may be.
 use Rattle.std.proofs.Common.{◌≡◌, ◌<◌, ◌≤◌, ◌-◌, ℕ, List, [], ◌∷◌, length, drop, nat_lt, Bool, true, false, cond, Option, Some, None, Result, Ok, Err, refl, ap, arith, length-drop}
-use Rattle.definitions.specs.declared.frames.FrameFault.{FrameFault}
-use Rattle.definitions.specs.declared.frames.FrameFault.TheVariants.{TooLong}
-use Rattle.definitions.specs.declared.reflectors.End.{End}
-use Rattle.definitions.specs.Frames.{Event, Read, read_lines, line_read, next, holding, failed, lines, rest, reading, longest_frame}
+use Rattle.controllers.specs.declared.frame_fault.FrameFault.{FrameFault}
+use Rattle.controllers.specs.declared.frame_fault.FrameFault.TheVariants.{TooLong}
+use Rattle.controllers.specs.declared.reflectors.End.{End}
+use Rattle.definitions.specs.Frames.{Event}
+use Rattle.controllers.specs.ReadFrames.{Read, read_lines, line_read, next, holding, failed, lines, rest, reading, longest_frame}
 use Rattle.framing.specs.Decoders.{given}
 use Rattle.reflector.specs.Pieces.{kept_after}
 

@@ -5,7 +5,7 @@ use Rattle.definitions.specs.declared.kinds.Kind.TheVariants.{ConfigMap, Pod, Re
 use Rattle.definitions.specs.Revisions.{revision_of}
 use Rattle.definitions.specs.Frames.{bookmark_data, bookmark_event}
 use Rattle.definitions.proofs.RevisionTexts.{revision_is}
-use Rattle.definitions.specs.Reflectors.{step, marked, is_of, revision, if_reached, or_unreadable, mark_step}
+use Rattle.controllers.specs.Reflectors.{step, marked, is_of, revision, if_reached, or_unreadable, mark_step}
 
 calls_itself : (k : Kind) (r : ℕ) → is_of k (bookmark_data k false r) ≡ true
 calls_itself ConfigMap r = refl

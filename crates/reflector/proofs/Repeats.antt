@@ -8,8 +8,8 @@ use Rattle.std.specs.FinSet as set
 use Rattle.std.specs.FinSet.{FinSet, contains-insert, contains-empty}
 use Rattle.definitions.specs.Names.{Name, name_cmp, is_named}
 use Rattle.definitions.specs.Objects.{Object}
-use Rattle.definitions.specs.Reflectors.{repeats, name_in}
-use Rattle.definitions.proofs.TaskOrder.{name_total, name_tells}
+use Rattle.controllers.specs.Reflectors.{repeats, name_in}
+use Rattle.controllers.proofs.TaskOrder.{name_total, name_tells}
 use Rattle.meta.specs.contracts.keys.KeyOrd.TheImpl as key_ord
 use Rattle.meta.specs.declared.keys.Key.{Key}
 use Rattle.meta.specs.Keys.{name_of}

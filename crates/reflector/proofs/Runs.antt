@@ -1,9 +1,9 @@
 -- Runs of frames, one frame after another.
 use Rattle.std.proofs.Common.{◌≡◌, ℕ, List, [], ◌∷◌, ◌++◌, Some, None, Ok, Err, sym, ap, ◌∙◌, append_assoc, append-nil}
 use Rattle.definitions.specs.declared.kinds.Kind.{Kind}
-use Rattle.definitions.specs.declared.reflectors.End.{End}
+use Rattle.controllers.specs.declared.reflectors.End.{End}
 use Rattle.definitions.specs.Frames.{Event}
-use Rattle.definitions.specs.Reflectors.{Delta, Step, Run, run, step, going_on}
+use Rattle.controllers.specs.Reflectors.{Delta, Step, Run, run, step, going_on}
 
 -- a run after these deltas
 abbrev pub after_deltas : List Delta → Run → Run

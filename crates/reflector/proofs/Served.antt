@@ -8,7 +8,7 @@ use Rattle.definitions.specs.declared.frames.FrameKind.TheVariants.{Added, Modif
 use Rattle.definitions.specs.Changes.{Change, changes}
 use Rattle.definitions.specs.Frames.{kind_text, frame_kind}
 use Rattle.definitions.specs.History.{History, present}
-use Rattle.definitions.specs.Reflectors.{with_list, all_fed, play_deltas}
+use Rattle.controllers.specs.Reflectors.{with_list, all_fed, play_deltas}
 use Rattle.laws.specs.SentLaws.{whole, IsShort, listed_at}
 use Rattle.definitions.specs.Streams.{Line, change, bookmark, initial, initial_end, Goes, change_event}
 use Rattle.laws.proofs.Limited.{limited}

@@ -2,13 +2,14 @@
 use Rattle.std.proofs.Common.{◌≡◌, ℕ, List, [], ◌∷◌, ◌++◌, map, Option, Some, None, refl, sym, ap, ◌∙◌, subst, append-nil, append_assoc}
 use Rattle.std.specs.List.{AllByRecursion}
 use Rattle.definitions.specs.declared.kinds.Kind.{Kind}
-use Rattle.definitions.specs.declared.frames.FrameFault.{FrameFault}
-use Rattle.definitions.specs.declared.reflectors.Phase.TheVariants.{Watching}
+use Rattle.controllers.specs.declared.frame_fault.FrameFault.{FrameFault}
+use Rattle.controllers.specs.declared.reflectors.Phase.TheVariants.{Watching}
 use Rattle.definitions.specs.History.{History, list}
-use Rattle.definitions.specs.Frames.{Event, Read, frame_text, reading, onto}
+use Rattle.definitions.specs.Frames.{Event, frame_text}
+use Rattle.controllers.specs.ReadFrames.{Read, reading, onto}
 use Rattle.definitions.specs.Streams.{Line, event_of, text_of}
 use Rattle.definitions.specs.Changes.{changes}
-use Rattle.definitions.specs.Reflectors.{Reflector, Fed, Run, run, ran, all_fed, play_deltas}
+use Rattle.controllers.specs.Reflectors.{Reflector, Fed, Run, run, ran, all_fed, play_deltas}
 use Rattle.framing.specs.Decoders.{fed_after}
 use Rattle.laws.specs.SentLaws.{whole}
 use Rattle.reflector.specs.Laws.{IsReadBack, IsSent, IsAt, GoesOn}

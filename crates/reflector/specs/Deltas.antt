@@ -1,10 +1,10 @@
 -- What deltas, objects that were shown, and steps say.
 use Rattle.std.specs.Prelude.{◌≡◌, ◌⊎◌, ◌-◌, ℕ, List, length, drop, map, None, Result, Ok, Err}
 use Rattle.definitions.specs.declared.kinds.Kind.{Kind}
-use Rattle.definitions.specs.Frames.{reading}
-use Rattle.definitions.specs.Reflectors as reflectors
-use Rattle.definitions.specs.Reflectors.{replace, put, remove, mark, list_of, run, end_of, phase_after, held_after}
-use Rattle.definitions.specs.declared.reflectors.End.{End}
+use Rattle.controllers.specs.ReadFrames.{reading}
+use Rattle.controllers.specs.Reflectors as reflectors
+use Rattle.controllers.specs.Reflectors.{replace, put, remove, mark, list_of, run, end_of, phase_after, held_after}
+use Rattle.controllers.specs.declared.reflectors.End.{End}
 use Rattle.meta.specs.Keys.{name_of}
 use Rattle.reflector.specs.declared.deltas.Delta.{Delta}
 use Rattle.reflector.specs.declared.deltas.Delta.TheVariants as delta

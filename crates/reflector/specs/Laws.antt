@@ -2,13 +2,13 @@
 use Rattle.std.specs.Prelude.{◌≡◌, ◌≤◌, ℕ, List, [], ◌∷◌, ◌++◌, flat_map, Some, None}
 use Rattle.std.specs.List.{AllByRecursion}
 use Rattle.definitions.specs.declared.kinds.Kind.{Kind}
-use Rattle.definitions.specs.declared.reflectors.Phase.TheVariants.{Watching}
+use Rattle.controllers.specs.declared.reflectors.Phase.TheVariants.{Watching}
 use Rattle.definitions.specs.History.{History, Members, list, present}
 use Rattle.definitions.specs.Changes.{changes}
 use Rattle.definitions.specs.Frames.{frame_text}
 use Rattle.definitions.specs.Streams.{Line, IsStream, event_of, text_of}
 use Rattle.definitions.specs.Revisions.{greatest_revision}
-use Rattle.definitions.specs.Reflectors.{Reflector, Fed, Listed, list_of, list_delta, with_list, play_deltas, fed, all_fed}
+use Rattle.controllers.specs.Reflectors.{Reflector, Fed, Listed, list_of, list_delta, with_list, play_deltas, fed, all_fed}
 use Rattle.definitions.specs.Reached.{IsReached}
 use Rattle.laws.specs.SentLaws.{whole, IsTold, IsListText}
 use Rattle.framing.specs.Texts.{ReadsAs, IsWithin}

@@ -1,6 +1,6 @@
 -- How many bytes are kept.
 use Rattle.std.specs.Prelude.{ℕ, Option, Some, None}
-use Rattle.definitions.specs.declared.reflectors.End.{End}
+use Rattle.controllers.specs.declared.reflectors.End.{End}
 
 -- an end keeps none
 abbrev pub kept_after : Option End → ℕ → ℕ

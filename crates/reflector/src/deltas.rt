@@ -1,6 +1,6 @@
 //! What becomes of a map of objects.
 
-use definitions::reflectors::End;
+use controllers::reflectors::End;
 use meta::{Key, Object};
 
 /// What becomes of a map of objects, with the revision at which the map is then the server's.

@@ -1,15 +1,15 @@
 //! What frames do.
 ghost use Rattle.std.specs.Prelude.{◌≡◌, ◌≤◌, ◌-◌, ◌++◌, IfOk, option_map, option_and_then, length, take, drop};
 ghost use Rattle.serde_json.specs.View.{view};
-ghost use Rattle.definitions.specs.Frames.{reading};
-ghost use Rattle.definitions.specs.Reflectors.{shown_above, is_of, code, is_expiry, error_end, marked, step, run, or_unreadable, put_step, remove_step, mark_step};
+ghost use Rattle.controllers.specs.ReadFrames.{reading};
+ghost use Rattle.controllers.specs.Reflectors.{shown_above, is_of, code, is_expiry, error_end, marked, step, run, or_unreadable, put_step, remove_step, mark_step};
 ghost use Rattle.framing.specs.Decoders.{event_of, events_of};
 ghost use Rattle.reflector.specs.Deltas.{shown_of, step_of, run_of, IsStep};
 
 use crate::deltas::Delta;
 use crate::shown::{Shown, key_of, revision, says, show};
 use definitions::frames::FrameKind;
-use definitions::reflectors::End;
+use controllers::reflectors::End;
 use framing::{Frame, Want};
 use meta::Kind;
 use serde_json::Value;

@@ -12,7 +12,7 @@ pub mod reflector_laws;
 pub mod reflectors;
 pub(crate) mod shown;
 
-pub use definitions::reflectors::{Ask, End};
+pub use controllers::reflectors::{Ask, End};
 pub use deltas::{Delta, Fed};
 pub use faults::ListFault;
 pub use framing::Want;

@@ -2,7 +2,7 @@
 ghost use Rattle.std.specs.Prelude.{◌≡◌, IfOk, codes, map, option_map, option_and_then};
 ghost use Rattle.serde_json.specs.Find.{get, as_array};
 ghost use Rattle.serde_json.specs.View.{view, items_view};
-ghost use Rattle.definitions.specs.Reflectors.{list_kind, is_list, all_shown, name_in, repeats, apart, items_shown, list_in, list_of};
+ghost use Rattle.controllers.specs.Reflectors.{list_kind, is_list, all_shown, name_in, repeats, apart, items_shown, list_in, list_of};
 ghost use Rattle.reflector.specs.Deltas.{listed_of};
 
 use crate::shown::{key_of, revision, says, show};

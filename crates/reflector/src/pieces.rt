@@ -1,15 +1,15 @@
 //! What is taken in of the bytes of a watch.
 ghost use Rattle.std.specs.Prelude.{◌≡◌, ◌≤◌, ◌<◌, ◌-◌, IfOk, length, take, drop};
-ghost use Rattle.definitions.specs.Frames.{longest_frame};
-ghost use Rattle.definitions.specs.Reflectors.{end_of, phase_after};
+ghost use Rattle.controllers.specs.ReadFrames.{longest_frame};
+ghost use Rattle.controllers.specs.Reflectors.{end_of, phase_after};
 ghost use Rattle.framing.specs.Lines.{IsPartial};
 ghost use Rattle.reflector.specs.Deltas.{IsTaken};
 ghost use Rattle.reflector.specs.Pieces.{kept_after};
 
 use crate::deltas::Delta;
 use crate::frames::take_frames;
-use definitions::frames::FrameFault;
-use definitions::reflectors::{End, Phase};
+use controllers::frame_fault::FrameFault;
+use controllers::reflectors::{End, Phase};
 use framing::Want;
 use framing::lines::read_lines;
 use meta::Kind;

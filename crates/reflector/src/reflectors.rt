@@ -4,7 +4,7 @@ use crate::deltas::{Delta, Fed};
 use crate::faults::ListFault;
 use crate::lists::{Listed, read_list};
 use crate::pieces::take_in;
-use definitions::reflectors::{Ask, Phase};
+use controllers::reflectors::{Ask, Phase};
 use framing::Want;
 use framing::lines::keep_last;
 use meta::Kind;
@@ -24,9 +24,9 @@ pub struct Reflector {
 impl Model for Reflector {
     ghost use Rattle.std.specs.Prelude.{◌<◌, length};
     ghost use Rattle.framing.specs.Lines.{IsPartial};
-    ghost use Rattle.definitions.specs.Frames.{longest_frame};
-    ghost use Rattle.definitions.specs.Reflectors as reflectors;
-    ghost use Rattle.definitions.specs.ReflectorCodes.{coded_reflector};
+    ghost use Rattle.controllers.specs.ReadFrames.{longest_frame};
+    ghost use Rattle.controllers.specs.Reflectors as reflectors;
+    ghost use Rattle.controllers.specs.Codes.{coded_reflector};
 
     ghost Value = { reflectors.Reflector };
 
@@ -39,9 +39,9 @@ impl Model for Reflector {
 
 impl Reflector {
     ghost use Rattle.std.specs.Prelude.{◌≡◌, ◌<◌, length, Some, IfOk, IfErr, OnOk, OnErr, IsSome, option_map};
-    ghost use Rattle.definitions.specs.Frames.{longest_frame};
-    ghost use Rattle.definitions.specs.Reflectors.{begun, asks, list_of, list_delta, with_list, cut, expired, turned, fed};
-    ghost use Rattle.definitions.specs.declared.reflectors.Phase.TheVariants.{Watching};
+    ghost use Rattle.controllers.specs.ReadFrames.{longest_frame};
+    ghost use Rattle.controllers.specs.Reflectors.{begun, asks, list_of, list_delta, with_list, cut, expired, turned, fed};
+    ghost use Rattle.controllers.specs.declared.reflectors.Phase.TheVariants.{Watching};
     ghost use Rattle.reflector.specs.Deltas.{delta_of, deltas_of, RefusesList};
 
     /// A reflector that took nothing in yet: it wants a list, and its revision is 0.

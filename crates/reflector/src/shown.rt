@@ -2,7 +2,7 @@
 ghost use Rattle.std.specs.Prelude.{◌≡◌, IfOk, Ok, option_map};
 ghost use Rattle.serde_json.specs.View.{view};
 ghost use Rattle.definitions.specs.Metadata.{text_at};
-ghost use Rattle.definitions.specs.Reflectors.{says, revision, shown, shown_read, name_in, has_identity};
+ghost use Rattle.controllers.specs.Reflectors.{says, revision, shown, shown_read, name_in, has_identity};
 ghost use Rattle.meta.specs.Keys.{name_of};
 ghost use Rattle.reflector.specs.Deltas.{shown_of};
 

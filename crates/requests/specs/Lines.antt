@@ -1,7 +1,7 @@
 -- What a line that was read says.
 use Rattle.std.specs.Prelude.{ℕ, List}
 use Rattle.std.specs.Borrow.{Bor}
-use Rattle.definitions.specs.Lines as said
+use Rattle.line_protocol.specs.Lines as said
 use Rattle.requests.specs.declared.line.Line.{Line}
 use Rattle.requests.specs.declared.line.Line.TheVariants.{Ask, At, Compact, Unreadable}
 

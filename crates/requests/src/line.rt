@@ -1,7 +1,7 @@
 //! Lines of a replay.
 ghost use Rattle.std.specs.Prelude.{◌≡◌, codes, option_map, if◌then◌else◌};
 ghost use Rattle.std.specs.Str.{bytes_eq};
-ghost use Rattle.definitions.specs.Lines.{cut, ask_if, target_alone, target_and_body, compact_at, line_of, at, unreadable};
+ghost use Rattle.line_protocol.specs.Lines.{cut, ask_if, target_alone, target_and_body, compact_at, line_of, at, unreadable};
 ghost use Rattle.definitions.specs.Moments.{is_moment};
 ghost use Rattle.definitions.specs.Revisions.{revision_of};
 ghost use Rattle.requests.specs.Lines.{both_now, line_seen};

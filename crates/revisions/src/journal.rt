@@ -17,7 +17,7 @@ pub struct Journal {
 
 impl Model for Journal {
     ghost use Rattle.definitions.specs.History.{History};
-    ghost use Rattle.definitions.specs.HistoryCodes.{coded_history};
+    ghost use Rattle.codes.specs.HistoryCodes.{coded_history};
 
     ghost Value = { History };
 

@@ -29,7 +29,7 @@ pub struct Fields {
 
 impl Model for Fields {
     ghost use Rattle.std.specs.Prelude.{List};
-    ghost use Rattle.definitions.specs.SelectorCodes.{coded_field_requirements};
+    ghost use Rattle.codes.specs.SelectorCodes.{coded_field_requirements};
     ghost use Rattle.definitions.specs.SelectorFields as meaning;
     ghost use Rattle.selector.specs.Seen.{field_requirements_of};
 

@@ -24,7 +24,7 @@ pub struct Selector {
 
 impl Model for Selector {
     ghost use Rattle.std.specs.Prelude.{List};
-    ghost use Rattle.definitions.specs.SelectorCodes.{coded_requirements};
+    ghost use Rattle.codes.specs.SelectorCodes.{coded_requirements};
     ghost use Rattle.definitions.specs.Selectors as meaning;
     ghost use Rattle.selector.specs.Seen.{requirements_of};
 

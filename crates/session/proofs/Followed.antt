@@ -3,17 +3,19 @@ use Rattle.std.proofs.Common.{◌≡◌, ℕ, List, [], Bool, true, false, Resul
 use Rattle.definitions.specs.Collections.{ListOptions}
 use Rattle.definitions.specs.declared.kinds.Kind.{Kind}
 use Rattle.definitions.specs.History.{History, View}
-use Rattle.definitions.specs.Lines as lines
-use Rattle.definitions.specs.Lines.{Line, ask, at, compact, unreadable, line_of, outcome, reply_text, watch_reply, compact_reply, history_from}
+use Rattle.line_protocol.specs.Lines as lines
+use Rattle.definitions.specs.Replies as answers
+use Rattle.line_protocol.specs.Lines.{Line, ask, at, compact, unreadable, line_of, reply_text}
+use Rattle.definitions.specs.Replies.{outcome, watch_reply, compact_reply, history_from}
 use Rattle.definitions.specs.Lists.{list_answer}
 use Rattle.definitions.specs.Refusals.{Refusal}
 use Rattle.laws.specs.ServerLaws.{HoldOrRefuse}
-use Rattle.definitions.specs.Servers.{Server, Holds, after_writing, list_by, compact_by}
+use Rattle.server_state.specs.Servers.{Server, Holds, after_writing, list_by, compact_by, watch_served}
 use Rattle.definitions.specs.Streams as streams
 use Rattle.definitions.specs.Targets.{Asked, request, list, watch, read_request}
 use Rattle.definitions.specs.Verbs.{Request, refused, write_of, accept_at, accept, history_after}
 use Rattle.definitions.specs.Versions.{Listed, list_for, compacts}
-use Rattle.definitions.specs.WatchReplies.{watch_lines, watch_served}
+use Rattle.definitions.specs.WatchReplies.{watch_lines}
 use Rattle.laws.proofs.HeldAnswers.{pages_held, lines_held}
 use Rattle.laws.proofs.HeldHistories.{opened_holds, accepted_holds, compaction_holds}
 use Rattle.session.specs.Held.{Held, accepted, reply_for, reply_to, server_from, server_or, held_after, compact_text}
@@ -22,12 +24,12 @@ use Rattle.session.specs.Laws.{Follows, SessionsFollow}
 -- ---- what is asked
 
 -- a request is answered the same
-same_outcome : (held : Held) (s : lines.Session) → Follows held s → (q : Request) → accepted held q ≡ accept q s.history s.moment
+same_outcome : (held : Held) (s : answers.Session) → Follows held s → (q : Request) → accepted held q ≡ accept q s.history s.moment
 same_outcome held s is q =
     ap (λ m. accept_at q held.server.snapshot.members held.server.snapshot.revision m) is.1 ∙ (accepted_holds s.window held.server s.history q s.moment is.0).0
 
 -- and all else that is asked
-same_reply : (held : Held) (s : lines.Session) → Follows held s → (a : Result Asked Refusal) → reply_for held a ≡ lines.reply_for s a
+same_reply : (held : Held) (s : answers.Session) → Follows held s → (a : Result Asked Refusal) → reply_for held a ≡ answers.reply_for s a
 same_reply held s is (Err f) = refl
 same_reply held s is (Ok (request q)) = ap outcome (same_outcome held s is q)
 same_reply held s is (Ok (list v o)) = ap outcome (pages_held s.window held.server s.history v o is.0)
@@ -49,8 +51,8 @@ watch_still k size s h (Ok ls) (Err g) is = is
 watch_still k size s h (Ok ls) (Ok ms) is = is
 
 -- what is held after what is asked
-holds_after : (held : Held) (s : lines.Session) → Follows held s → (a : Result Asked Refusal)
-    → Holds s.window (server_from held.server (reply_for held a)) (history_from s.history (lines.reply_for s a))
+holds_after : (held : Held) (s : answers.Session) → Follows held s → (a : Result Asked Refusal)
+    → Holds s.window (server_from held.server (reply_for held a)) (history_from s.history (answers.reply_for s a))
 holds_after held s is (Err f) = is.0
 holds_after held s is (Ok (request q)) =
     subst (λ o. Holds s.window (after_writing held.server (write_of o)) (history_after s.history (accept q s.history s.moment))) (sym (same_outcome held s is q))
@@ -77,20 +79,20 @@ holds_compacted size s h (Ok t) (Ok more) e is = e
 
 -- ---- lines
 
-same_line : (held : Held) (s : lines.Session) → Follows held s → (l : Line) → reply_to held l ≡ lines.reply_to s l
+same_line : (held : Held) (s : answers.Session) → Follows held s → (l : Line) → reply_to held l ≡ lines.reply_to s l
 same_line held s is (ask method target body) = ap reply_text (same_reply held s is (read_request method target body))
 same_line held s is (at moment) = refl
 same_line held s is (compact r) = same_compaction s.window (compact_by held.server r) (compacts s.history r) (compaction_holds s.window held.server s.history r is.0)
 same_line held s is unreadable = refl
 
-follows_line : (held : Held) (s : lines.Session) → Follows held s → (l : Line) → Follows (held_after held l) (lines.session_after s l)
+follows_line : (held : Held) (s : answers.Session) → Follows held s → (l : Line) → Follows (held_after held l) (lines.session_after s l)
 follows_line held s is (ask method target body) = (holds_after held s is (read_request method target body), is.1)
 follows_line held s is (at moment) = (is.0, refl)
 follows_line held s is (compact r) =
     (holds_compacted s.window held.server s.history (compact_by held.server r) (compacts s.history r) (compaction_holds s.window held.server s.history r is.0) is.0, is.1)
 follows_line held s is unreadable = is
 
-same_if : (empty : Bool) (held : Held) (s : lines.Session) → Follows held s → (l : Line)
+same_if : (empty : Bool) (held : Held) (s : answers.Session) → Follows held s → (l : Line)
     → ((if empty then [] else reply_to held l) ≡ (if empty then [] else lines.reply_to s l))
     × Follows (if empty then held else held_after held l) (if empty then s else lines.session_after s l)
 same_if true held s is l = (refl, is)

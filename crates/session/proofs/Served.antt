@@ -2,8 +2,9 @@
 use Rattle.std.proofs.Common.{◌≡◌, ◌≢◌, ◌∙◌, ℕ, List, [], ◌∷◌, ◌++◌, false, Option, Result, Ok, Err, IfOk, IfSome, decimal, option_map, string_bytes, ap, ap₂, sym, subst}
 use Rattle.answers.specs.Serves.{Serves}
 use Rattle.laws.proofs.Limits.{room}
-use Rattle.definitions.specs.Lines.{outcome, reply_text}
-use Rattle.definitions.specs.Servers.{Server, after_writing}
+use Rattle.definitions.specs.Replies.{outcome}
+use Rattle.line_protocol.specs.Lines.{reply_text}
+use Rattle.server_state.specs.Servers.{Server, after_writing}
 use Rattle.definitions.specs.Verbs as verbs
 use Rattle.definitions.specs.Verbs.{Answer, Outcome, Request, answered, refused, overflows}
 use Rattle.desk.specs.Replies.{Lists}

@@ -1,17 +1,15 @@
 -- A session as it is held, and how it goes on: a server stands in the place of all that has happened.
 use Rattle.std.specs.Prelude.{ℕ, List, [], ◌==◌, length, Result, Ok, Err, None, refl, if◌then◌else◌}
 use Rattle.std.specs.Coded.{Coded, code_by, coded×}
-use Rattle.definitions.specs.Codes.{coded_text}
+use Rattle.codes.specs.Codes.{coded_text}
 use Rattle.definitions.specs.declared.refusals.Part.TheVariants as part
-use Rattle.definitions.specs.Lines as lines
-use Rattle.definitions.specs.Lines.{Line, ask, at, compact, unreadable, line_of, start, Reply, outcome, shown, compacted, watch_reply, line_text, reply_text}
-use Rattle.definitions.specs.Lists.{list_served}
+use Rattle.line_protocol.specs.Lines.{Line, ask, at, compact, unreadable, line_of, line_text, reply_text}
+use Rattle.definitions.specs.Replies.{start, Reply, outcome, shown, compacted, watch_reply}
+use Rattle.server_state.specs.Servers.{list_served, Server, opened_server, after_writing, compact_by, watch_served}
 use Rattle.definitions.specs.Refusals.{Refusal, bad_request, success_body}
-use Rattle.definitions.specs.ServerCodes.{coded_server}
-use Rattle.definitions.specs.Servers.{Server, opened_server, after_writing, compact_by}
+use Rattle.server_state.specs.Codes.{coded_server}
 use Rattle.definitions.specs.Targets.{Asked, request, list, watch, read_request}
 use Rattle.definitions.specs.Verbs.{Request, Outcome, refused, write_of, accept_at}
-use Rattle.definitions.specs.WatchReplies.{watch_served}
 
 -- a server, and the moment that it is
 pub record Held : Type 0 where

@@ -1,7 +1,8 @@
 //! Reply lines.
 ghost use Rattle.std.specs.Prelude.{◌≡◌, ◌≢◌, ◌++◌, ◌∷◌, [], IfOk, OnOk, None, codes, map, decimal, string_bytes};
 ghost use Rattle.definitions.specs.Frames.{frame_text};
-ghost use Rattle.definitions.specs.Lines.{line_text, reply_text, outcome, shown};
+ghost use Rattle.line_protocol.specs.Lines.{line_text, reply_text};
+ghost use Rattle.definitions.specs.Replies.{outcome, shown};
 ghost use Rattle.definitions.specs.Refusals.{success_body};
 ghost use Rattle.definitions.specs.Streams.{change, event_of, text_of};
 ghost use Rattle.definitions.specs.Verbs.{refused};

@@ -43,13 +43,12 @@ impl Session {
     ghost use Rattle.desk.specs.Replies.{Lists};
     ghost use Rattle.desk.specs.Seen.{watched_of};
     ghost use Rattle.watch_cache.specs.Served.{Serves};
-    ghost use Rattle.definitions.specs.Lines.{outcome, reply_text, watch_reply};
-    ghost use Rattle.definitions.specs.Lists.{list_served};
-    ghost use Rattle.definitions.specs.Servers.{after_writing, compact_by, watch_by};
+    ghost use Rattle.definitions.specs.Replies.{outcome, watch_reply};
+    ghost use Rattle.line_protocol.specs.Lines.{reply_text};
+    ghost use Rattle.server_state.specs.Servers.{list_served, after_writing, compact_by, watch_by, watch_served};
     ghost use Rattle.definitions.specs.Targets as targets;
     ghost use Rattle.definitions.specs.Verbs as outcomes;
     ghost use Rattle.definitions.specs.Verbs.{overflows};
-    ghost use Rattle.definitions.specs.WatchReplies.{watch_served};
     ghost use Rattle.meta.specs.Writes.{write_of};
     ghost use Rattle.requests.specs.Collected.{list_seen, watch_seen};
     ghost use Rattle.selector.specs.Views.{view_of};

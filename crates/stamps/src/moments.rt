@@ -110,7 +110,8 @@ fn is_moment(text: &[u8]) -> bool
 
 impl Moment {
     ghost use Rattle.std.specs.Prelude.{◌≡◌, true, if◌then◌else◌};
-    ghost use Rattle.definitions.specs.Lines.{start, default_window};
+    ghost use Rattle.definitions.specs.Replies.{start};
+    ghost use Rattle.definitions.specs.Replies.{default_window};
     ghost use Rattle.definitions.specs.Moments.{is_moment};
 
     /// The moment at which a session begins, `2026-01-01T00:00:00Z`.

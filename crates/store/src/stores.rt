@@ -25,8 +25,8 @@ pub struct Store {
 }
 
 impl Model for Store {
-    ghost use Rattle.definitions.specs.Snapshots.{Snapshot};
-    ghost use Rattle.definitions.specs.SnapshotCodes.{coded_snapshot};
+    ghost use Rattle.server_state.specs.Snapshots.{Snapshot};
+    ghost use Rattle.server_state.specs.Codes.{coded_snapshot};
 
     ghost Value = { Snapshot };
 
@@ -48,7 +48,7 @@ impl Store {
     ghost use Rattle.selector.specs.Views.{view_of};
     ghost use Rattle.definitions.specs.History.{found, viewed};
     ghost use Rattle.definitions.specs.Revisions.{greatest_revision};
-    ghost use Rattle.definitions.specs.Snapshots.{empty, written};
+    ghost use Rattle.server_state.specs.Snapshots.{empty, written};
     ghost use Rattle.definitions.specs.Verbs.{most_objects, overflows};
     ghost use Rattle.store.specs.Chunks.{IsPage, after_key};
 

@@ -4,7 +4,8 @@ use Rattle.std.specs.Prelude.{option_map, slice_get}
 use Rattle.std.proofs.lemmas.List.{drop-append-le, length-map}
 use Rattle.meta.specs.Keys.{name_of}
 use Rattle.definitions.specs.History.{View, Members, put_or_remove, seen}
-use Rattle.definitions.specs.Windows.{Kept, undone}
+use Rattle.definitions.specs.Windows.{Kept}
+use Rattle.server_state.specs.Recorded.{undone}
 use Rattle.watch_cache.specs.Changes.{kept_seen}
 use Rattle.watch_cache.specs.declared.changes.Change.{Change}
 use Rattle.watch_cache.proofs.Rising.{take_at}

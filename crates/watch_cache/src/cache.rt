@@ -25,8 +25,9 @@ pub struct Cache {
 
 impl Model for Cache {
     ghost use Rattle.std.specs.Prelude.{◌≤◌, map};
-    ghost use Rattle.definitions.specs.Windows.{Window, IsRising};
-    ghost use Rattle.definitions.specs.WindowCodes.{coded_window};
+    ghost use Rattle.server_state.specs.Recorded.{Window};
+    ghost use Rattle.definitions.specs.Windows.{IsRising};
+    ghost use Rattle.server_state.specs.Codes.{coded_window};
     ghost use Rattle.watch_cache.specs.Changes.{kept_seen};
 
     ghost Value = { Window };
@@ -43,7 +44,8 @@ impl Cache {
     ghost use Rattle.std.specs.List.Sorted.{IsStrictlySortedBy};
     ghost use Rattle.std.specs.Map.{keys_of};
     ghost use Rattle.definitions.specs.Names.{name_cmp};
-    ghost use Rattle.definitions.specs.Windows.{above, opened, recorded, compacted_to, last_revision, since_kept, list_kept, within};
+    ghost use Rattle.server_state.specs.Recorded.{above, opened, recorded, compacted_to, since_kept, list_kept};
+    ghost use Rattle.definitions.specs.Windows.{last_revision, within};
     ghost use Rattle.meta.specs.Members.{member_of};
     ghost use Rattle.meta.specs.declared.faults.Fault.TheVariants as fault;
     ghost use Rattle.selector.specs.Views.{view_of};

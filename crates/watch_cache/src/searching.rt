@@ -1,6 +1,7 @@
 //! The kept changes above a revision, found by halving.
 ghost use Rattle.std.specs.Prelude.{◌≡◌, ◌<◌, ◌≤◌, ◌+◌, ◌++◌, IfOk, OnOk, IfSome, length, map, take, drop, nat_lt, slice_get};
-ghost use Rattle.definitions.specs.Windows.{IsRising, above, change_kept, changes_kept};
+ghost use Rattle.definitions.specs.Windows.{IsRising};
+ghost use Rattle.server_state.specs.Recorded.{above, change_kept, changes_kept};
 ghost use Rattle.selector.specs.Views.{view_of};
 ghost use Rattle.revisions.specs.Events.{change_seen};
 ghost use Rattle.watch_cache.specs.Changes.{kept_seen};

@@ -1,5 +1,6 @@
 //! Streams that are cut, the limits of frames, and frames byte for byte.
-use definitions::frames::{ChangeKind, FrameFault};
+use controllers::frame_fault::FrameFault;
+use definitions::frames::ChangeKind;
 use definitions::kinds::Kind;
 use framing::Want;
 use framing::decoder::Decoder;

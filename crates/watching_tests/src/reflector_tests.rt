@@ -1,6 +1,6 @@
 //! Reflectors that are given bodies and frames from outside.
 use definitions::kinds::Kind;
-use definitions::reflectors::{Ask, End};
+use controllers::reflectors::{Ask, End};
 use reflector::deltas::{Delta, Fed};
 use reflector::faults::ListFault;
 use reflector::reflectors::Reflector;

@@ -9,8 +9,8 @@ use Rattle.std.specs.Map.{lookup}
 use Rattle.std.specs.Set as key_set
 use Rattle.std.specs.FinMap as map_of
 use Rattle.std.specs.FinSet as set
-use Rattle.definitions.specs.Board.{task_cmp}
-use Rattle.definitions.proofs.TaskOrder.{task_total, task_tells}
+use Rattle.controllers.specs.WorkQueues.{task_cmp}
+use Rattle.controllers.proofs.TaskOrder.{task_total, task_tells}
 use Rattle.work_keys.specs.declared.work_key.WorkKey.{WorkKey}
 use Rattle.work_keys.specs.Tasks.{task_of}
 use Rattle.work_keys.specs.Seen.{tasks_of, by_task}

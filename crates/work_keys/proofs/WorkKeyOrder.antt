@@ -1,8 +1,8 @@
 -- The derived order of keys of work is that of what they say.
 use Rattle.std.proofs.Common.{◌≡◌, nat_cmp, rules, Ordering}
-use Rattle.definitions.specs.contracts.controllers.ControllerOrd.TheImpl as controller_ord
-use Rattle.definitions.specs.declared.controllers.Controller.{Controller}
-use Rattle.definitions.specs.Board.{task_cmp, turn}
+use Rattle.controllers.specs.contracts.controller.ControllerOrd.TheImpl as controller_ord
+use Rattle.controllers.specs.declared.controller.Controller.{Controller}
+use Rattle.controllers.specs.WorkQueues.{task_cmp, turn}
 use Rattle.meta.proofs.KeyOrder.{key_cmp-name_cmp}
 use Rattle.work_keys.specs.contracts.work_key.WorkKeyOrd.TheImpl as work_key_ord
 use Rattle.work_keys.specs.declared.work_key.WorkKey.{WorkKey}

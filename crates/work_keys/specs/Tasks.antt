@@ -1,5 +1,5 @@
 -- What a key of work says.
-use Rattle.definitions.specs.Board.{Task}
+use Rattle.controllers.specs.WorkQueues.{Task}
 use Rattle.meta.specs.Keys.{name_of}
 use Rattle.work_keys.specs.declared.work_key.WorkKey.{WorkKey}
 

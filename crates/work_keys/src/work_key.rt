@@ -2,7 +2,7 @@
 ghost use Rattle.std.specs.Prelude.{◌≡◌, IfOk};
 ghost use Rattle.work_keys.specs.Tasks.{task_of};
 
-use definitions::controllers::Controller;
+use controllers::controller::Controller;
 use meta::keys::Key;
 use std::alloc::AllocError;
 

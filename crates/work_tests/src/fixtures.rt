@@ -1,5 +1,5 @@
 //! Keys for the tests.
-use definitions::controllers::Controller;
+use controllers::controller::Controller;
 use definitions::kinds::Kind;
 use meta::Key;
 use std::alloc::{AllocError, Global};

@@ -4,7 +4,7 @@ use mathlib.Core.List.{map-append}
 use Rattle.std.specs.List.{list_any}
 use Rattle.std.specs.BTreeMap.{is_at}
 use Rattle.std.specs.FinSet as set
-use Rattle.definitions.specs.Board.{Task, Work, added, got, done}
+use Rattle.controllers.specs.WorkQueues.{Task, Work, added, got, done}
 use Rattle.work_keys.specs.Tasks.{task_of}
 use Rattle.work_keys.specs.declared.work_key.WorkKey.{WorkKey}
 use Rattle.work_keys.specs.Seen.{tasks_of}

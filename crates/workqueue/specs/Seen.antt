@@ -1,6 +1,6 @@
 -- A work queue, by the keys in its list and in its two sets.
 use Rattle.std.specs.Prelude.{Bool, List, map}
-use Rattle.definitions.specs.Board.{Work}
+use Rattle.controllers.specs.WorkQueues.{Work}
 use Rattle.work_keys.specs.Seen.{tasks_of}
 use Rattle.work_keys.specs.Tasks.{task_of}
 use Rattle.work_keys.specs.declared.work_key.WorkKey.{WorkKey}

@@ -1,7 +1,7 @@
 //! The queue.
 ghost use Rattle.std.specs.Prelude.{◌≡◌, IfOk, OnOk, OnErr, length, option_map, ◌+◌, ◌<◌, ◌≤◌, ◌∷◌, ◌++◌, [], Some, IsSome};
 ghost use Rattle.std.specs.VecDeque.{deque_len, deque_capacity};
-ghost use Rattle.definitions.specs.Board.{idle, added, got, handed, done, shut};
+ghost use Rattle.controllers.specs.WorkQueues.{idle, added, got, handed, done, shut};
 ghost use Rattle.work_keys.specs.Tasks.{task_of};
 
 use std::alloc::{AllocError, Global};
@@ -22,7 +22,8 @@ pub struct Queue {
 impl Model for Queue {
     ghost use Rattle.std.specs.Prelude.{◌+◌, ◌≤◌, length};
     ghost use Rattle.std.specs.VecDeque.{deque_len, deque_capacity};
-    ghost use Rattle.definitions.specs.Board.{Work, work_code};
+    ghost use Rattle.controllers.specs.WorkQueues.{Work};
+    ghost use Rattle.controllers.specs.Codes.{work_code};
 
     ghost Value = { Work };
 

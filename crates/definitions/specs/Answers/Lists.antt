@@ -8,8 +8,6 @@ use Rattle.definitions.specs.Requests.Collections.{ListOptions}
 use Rattle.definitions.specs.State.Pages.{Place, Page, page_of, remaining}
 use Rattle.definitions.specs.Requests.PageTokens.{Token, token_text}
 use Rattle.definitions.specs.Answers.Refusals.{Refusal}
-use Rattle.definitions.specs.Answers.Servers as servers
-use Rattle.definitions.specs.Answers.Servers.{Server}
 use Rattle.definitions.specs.Answers.Verbs.{Outcome, answered, refused, list_with}
 use Rattle.definitions.specs.Answers.Versions.{Listed, list_for}
 
@@ -57,7 +55,3 @@ list_answer v o (Ok l) = page_answer v o l
 -- what a list is answered after all that has happened, with windows of this size
 abbrev pub list_outcome : ℕ → History → View → ListOptions → Outcome
 list_outcome size h v o = list_answer v o (list_for size h v o.at)
-
--- and what a server answers
-abbrev pub list_served : Server → View → ListOptions → Outcome
-list_served s v o = list_answer v o (servers.list_by s v o.at)

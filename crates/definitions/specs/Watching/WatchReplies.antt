@@ -2,10 +2,9 @@
 use Rattle.std.specs.Prelude.{ℕ, List, map, Bool, Option, Some, None, Result, Ok, if◌then◌else◌}
 use Rattle.std.specs.Result.{result_map_both}
 use Rattle.definitions.specs.State.History as history
-use Rattle.definitions.specs.State.History.{History, View, present, list, viewed}
+use Rattle.definitions.specs.State.History.{History, View, present, list}
 use Rattle.definitions.specs.Requests.Collections.{WatchOptions}
 use Rattle.definitions.specs.Answers.Refusals.{Refusal}
-use Rattle.definitions.specs.Answers.Servers.{Server, watch_by}
 use Rattle.definitions.specs.Watching.Streams.{Line, change, initial}
 use Rattle.definitions.specs.Answers.Versions.{Watched, watched_from, lines_from}
 
@@ -25,7 +24,3 @@ lines_by ms watched bookmarks (Some a) = result_map_both (told_lines bookmarks a
 -- a watch's lines after all that has happened, with windows of this size: a history has fewer changes than its revision
 abbrev pub watch_lines : ℕ → History → View → WatchOptions → Result (List Line) Refusal
 watch_lines size h v o = lines_by (list h v (present h)) (λ a. watched_from size h v a (present h)) o.bookmarks o.from
-
--- and those that a server gives
-abbrev pub watch_served : Server → View → WatchOptions → Result (List Line) Refusal
-watch_served s v o = lines_by (viewed v s.snapshot.members) (λ a. watch_by s v a s.snapshot.revision) o.bookmarks o.from

@@ -1,4 +1,4 @@
-use Rattle.definitions.specs.Board.{idle, added, after_all}
+use Rattle.controllers.specs.WorkQueues.{idle, added, after_all}
 use Rattle.laws.proofs.BoardRuns.{wanted_is_served, added-wanted}
 use Rattle.laws.proofs.board_laws.added_is_served.Goals as goal
 

@@ -1,5 +1,5 @@
 use Rattle.std.proofs.Common.{refl}
-use Rattle.definitions.specs.Board.{idle, shut, after_all}
+use Rattle.controllers.specs.WorkQueues.{idle, shut, after_all}
 use Rattle.laws.proofs.BoardRuns.{sound, runs_are_sound, queued_is_wanted, front_is_queued, shut-wanted}
 use Rattle.laws.proofs.board_laws.shut_adds_nothing.Goals as goal
 

@@ -4,9 +4,9 @@ use Rattle.std.specs.Ordering.{is_eq}
 use Rattle.std.specs.FinMap as map
 use Rattle.std.specs.FinMap.{get-retain_keys}
 use Rattle.definitions.specs.Names.{is_named}
-use Rattle.definitions.specs.Expectations.{is_met}
-use Rattle.definitions.proofs.TaskOrder.{name_total}
-use Rattle.definitions.proofs.Expected.{keys_tied}
+use Rattle.controllers.specs.Expectations.{is_met}
+use Rattle.controllers.proofs.TaskOrder.{name_total}
+use Rattle.controllers.proofs.Expected.{keys_tied}
 use Rattle.laws.proofs.expectation_laws.forgets_all.Goals as goal
 
 pub returns : goal.returns

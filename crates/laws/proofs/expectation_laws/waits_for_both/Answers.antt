@@ -1,4 +1,4 @@
-use Rattle.definitions.proofs.Expected.{after_one, after_both}
+use Rattle.controllers.proofs.Expected.{after_one, after_both}
 use Rattle.laws.proofs.expectation_laws.waits_for_both.Goals as goal
 
 pub returns : goal.returns

@@ -1,5 +1,5 @@
 use Rattle.std.proofs.Common.{◌≡◌}
-use Rattle.definitions.specs.Reflectors.{run}
+use Rattle.controllers.specs.Reflectors.{run}
 use Rattle.framing.specs.Decoders.{events_of}
 use Rattle.reflector.specs.Deltas.{deltas_of}
 use Rattle.reflector.proofs.Runs.{after_deltas}

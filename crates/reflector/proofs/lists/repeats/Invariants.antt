@@ -1,6 +1,6 @@
 use Rattle.std.proofs.Common.{◌≡◌, drop, map}
 use Rattle.definitions.specs.Names.{name_cmp}
-use Rattle.definitions.specs.Reflectors.{name_in, repeats}
+use Rattle.controllers.specs.Reflectors.{name_in, repeats}
 use Rattle.meta.specs.Keys.{name_of}
 use Rattle.work_keys.specs.Seen.{seen_set}
 use Rattle.reflector.proofs.Repeats.{clashes}

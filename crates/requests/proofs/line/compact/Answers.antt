@@ -1,5 +1,5 @@
 use Rattle.std.proofs.Common.{sym, ap}
-use Rattle.definitions.specs.Lines.{compact_at}
+use Rattle.line_protocol.specs.Lines.{compact_at}
 use Rattle.requests.proofs.Texts.{revision_of-other}
 use Rattle.requests.proofs.line.compact.Goals as goal
 

@@ -1,5 +1,5 @@
 use Rattle.std.proofs.Common.{◌≡◌, ℕ, List, Bool, true, false, Some, None, if◌then◌else◌, unwrap_or, refl, ap}
-use Rattle.definitions.specs.Lines.{at, unreadable}
+use Rattle.line_protocol.specs.Lines.{at, unreadable}
 use Rattle.definitions.specs.Moments.{is_moment}
 use Rattle.requests.proofs.line.moment.Goals as goal
 

@@ -1,5 +1,5 @@
 use Rattle.std.proofs.Common.{◌≡◌, ◌≤◌, ◌++◌, map, drop, length}
-use Rattle.definitions.specs.Windows.{changes_kept}
+use Rattle.server_state.specs.Recorded.{changes_kept}
 use Rattle.selector.specs.Views.{view_of}
 use Rattle.revisions.specs.Events.{change_seen}
 use Rattle.watch_cache.specs.Changes.{kept_seen}

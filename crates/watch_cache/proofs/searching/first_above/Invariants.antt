@@ -1,5 +1,5 @@
 use Rattle.std.proofs.Common.{◌≡◌, ◌≤◌, ◌-◌, [], map, take, drop, length}
-use Rattle.definitions.specs.Windows.{above}
+use Rattle.server_state.specs.Recorded.{above}
 use Rattle.watch_cache.specs.Changes.{kept_seen}
 use Rattle.watch_cache.proofs.searching.first_above.Given as goal
 

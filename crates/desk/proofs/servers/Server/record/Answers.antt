@@ -1,5 +1,5 @@
 use Rattle.std.proofs.Common.{◌≡◌, ap, arith}
-use Rattle.definitions.specs.Servers.{Server}
+use Rattle.server_state.specs.Servers.{Server}
 use Rattle.watch_cache.specs.Changes.{kept_seen}
 use Rattle.desk.proofs.Windows.{stands_config_maps, stands_pods, stands_replica_sets, stands_deployments}
 use Rattle.desk.proofs.servers.Server.record.Goals as goal

@@ -1,5 +1,5 @@
 use Rattle.std.proofs.Common.{◌≡◌, false, subst}
-use Rattle.definitions.specs.Servers.{Server}
+use Rattle.server_state.specs.Servers.{Server}
 use Rattle.definitions.specs.Verbs.{overflows}
 use Rattle.meta.specs.Writes.{write_of}
 use Rattle.verbs.specs.Requests.{request_of}

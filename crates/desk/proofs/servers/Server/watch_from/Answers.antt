@@ -1,8 +1,8 @@
 use Rattle.std.proofs.Common.{◌≡◌, ◌<◌, ◌+◌, length, map, take, ap, sym, ◌∙◌, Ok, arith}
 use Rattle.std.proofs.lemmas.List.{length-map, take-map}
 use Rattle.definitions.specs.Versions.{last_change}
-use Rattle.definitions.specs.Servers.{window_of}
-use Rattle.definitions.specs.Windows.{since_kept}
+use Rattle.server_state.specs.Servers.{window_of}
+use Rattle.server_state.specs.Recorded.{since_kept}
 use Rattle.revisions.specs.Events.{change_seen}
 use Rattle.selector.specs.Views.{view_of}
 use Rattle.watch_cache.specs.Served.{Serves}

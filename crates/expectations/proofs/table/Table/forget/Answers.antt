@@ -1,5 +1,5 @@
 use Rattle.std.proofs.Common.{ap, ◌∙◌}
-use Rattle.definitions.specs.Expectations.{forgotten}
+use Rattle.controllers.specs.Expectations.{forgotten}
 use Rattle.meta.specs.Keys.{name_of}
 use Rattle.expectations.proofs.Steps.{forgot}
 use Rattle.expectations.proofs.table.Table.forget.Goals as goal

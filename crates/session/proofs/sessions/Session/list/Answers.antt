@@ -1,4 +1,4 @@
-use Rattle.definitions.specs.Lists.{list_served}
+use Rattle.server_state.specs.Servers.{list_served}
 use Rattle.requests.specs.Collected.{list_seen}
 use Rattle.selector.specs.Views.{view_of}
 use Rattle.session.proofs.Served.{list-refused}

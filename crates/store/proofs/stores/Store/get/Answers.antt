@@ -1,6 +1,6 @@
 use Rattle.std.proofs.Common.{◌∙◌, ap, option_map}
 use Rattle.definitions.specs.History.{found}
-use Rattle.definitions.specs.Snapshots.{Snapshot}
+use Rattle.server_state.specs.Snapshots.{Snapshot}
 use Rattle.meta.specs.Keys.{name_of}
 use Rattle.meta.specs.declared.stored.StoredObject.{StoredObject}
 use Rattle.store.proofs.SeenMaps.{option_map-copied}

@@ -1,7 +1,7 @@
 use Rattle.std.proofs.Common.{◌∙◌, ap, map}
 use Rattle.definitions.specs.History.{viewed}
 use Rattle.definitions.specs.Pages.{after_place}
-use Rattle.definitions.specs.Snapshots.{Snapshot}
+use Rattle.server_state.specs.Snapshots.{Snapshot}
 use Rattle.definitions.specs.Verbs.{most_objects}
 use Rattle.meta.specs.Members.{member_of}
 use Rattle.selector.specs.Views.{view_of}

@@ -1,5 +1,5 @@
 use Rattle.std.proofs.Common.{ap, sym, ◌∙◌, map, ◌++◌, ◌∷◌, []}
-use Rattle.definitions.specs.Board.{added}
+use Rattle.controllers.specs.WorkQueues.{added}
 use Rattle.work_keys.specs.Tasks.{task_of}
 use Rattle.work_keys.proofs.SeenTasks.{insert-tasks}
 use Rattle.work_keys.specs.Seen.{tasks_of}

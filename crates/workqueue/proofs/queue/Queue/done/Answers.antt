@@ -1,6 +1,6 @@
 use Rattle.std.proofs.Common.{ap, sym, ◌∙◌, map}
 use Rattle.std.specs.Ordering.{is_eq}
-use Rattle.definitions.specs.Board.{done}
+use Rattle.controllers.specs.WorkQueues.{done}
 use Rattle.work_keys.specs.Tasks.{task_of}
 use Rattle.workqueue.specs.Seen.{work_of}
 use Rattle.work_keys.proofs.SeenTasks.{same_task, remove-tasks}

@@ -1,6 +1,6 @@
 use Rattle.std.proofs.Common.{ap, ◌∙◌}
 use Rattle.std.specs.FinSet as set
-use Rattle.definitions.specs.Board.{got}
+use Rattle.controllers.specs.WorkQueues.{got}
 use Rattle.work_keys.proofs.SeenTasks.{insert-tasks, remove-tasks}
 use Rattle.work_keys.specs.Seen.{tasks_of}
 use Rattle.workqueue.proofs.Steps.{get_from_front}

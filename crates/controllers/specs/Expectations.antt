@@ -5,7 +5,7 @@ use Rattle.std.specs.Cmp.Lexicographic.{slice_cmp}
 use Rattle.std.specs.FinMap as map
 use Rattle.std.specs.FinSet as set
 use Rattle.std.specs.declared.cmp.Ordering.{Ordering}
-use Rattle.definitions.specs.Texts.Names.{Name, name_cmp, is_named}
+use Rattle.definitions.specs.Names.{Name, name_cmp, is_named}
 
 -- one ReplicaSet: its key and its uid
 pub record Owner : Type 0 where

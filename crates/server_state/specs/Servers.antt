@@ -1,14 +1,20 @@
 -- A server: what is there, and a window of each kind, and what it answers by these in the place of a history.
-use Rattle.std.specs.Prelude.{◌≡◌, ℕ, ◌+◌, [], ◌∷◌, Option, Some, None, Result}
+use Rattle.std.specs.Prelude.{◌≡◌, List, ℕ, ◌+◌, [], ◌∷◌, Option, Some, None, Result}
 use Rattle.std.specs.Result.{result_map_both}
 use Rattle.definitions.specs.declared.kinds.Kind.{Kind}
 use Rattle.definitions.specs.declared.kinds.Kind.TheVariants.{ConfigMap, Pod, ReplicaSet, Deployment}
-use Rattle.definitions.specs.State.History.{History, Write, write, compaction, View, viewed, found}
-use Rattle.definitions.specs.Answers.Refusals.{Refusal}
-use Rattle.definitions.specs.State.Snapshots.{Snapshot, empty, snapshot, written}
+use Rattle.definitions.specs.History.{History, Write, write, compaction, View, viewed, found}
+use Rattle.definitions.specs.Refusals.{Refusal}
+use Rattle.definitions.specs.Verbs.{Outcome}
+use Rattle.definitions.specs.Lists.{list_answer}
+use Rattle.definitions.specs.Collections.{ListOptions, WatchOptions}
+use Rattle.definitions.specs.Streams.{Line}
+use Rattle.definitions.specs.WatchReplies.{lines_by}
+use Rattle.server_state.specs.Snapshots.{Snapshot, empty, snapshot, written}
 use Rattle.definitions.specs.declared.versions.At.{At}
-use Rattle.definitions.specs.Answers.Versions.{Listed, Watched, once_present, listed_at, watched}
-use Rattle.definitions.specs.State.Windows.{Kept, Window, opened, recorded, compacted_to, since_kept, list_kept, Tracks}
+use Rattle.definitions.specs.Versions.{Listed, Watched, once_present, listed_at, watched}
+use Rattle.definitions.specs.Windows.{Kept}
+use Rattle.server_state.specs.Recorded.{Window, opened, recorded, compacted_to, since_kept, list_kept, Tracks}
 
 -- what is there, and the last writes of each kind
 pub record Server : Type 0 where
@@ -80,6 +86,14 @@ list_by s v at =
 -- the first n changes of the view after a, and where the watch then stands
 abbrev pub watch_by : Server → View → ℕ → ℕ → Result Watched Refusal
 watch_by s v a n = result_map_both (watched s.snapshot.revision a n) (λ f. f) (since_kept (window_of v.kind s) s.snapshot.revision v a (n + 1))
+
+-- the page of a list that is asked
+abbrev pub list_served : Server → View → ListOptions → Outcome
+list_served s v o = list_answer v o (list_by s v o.at)
+
+-- the lines of a watch up to the present revision
+abbrev pub watch_served : Server → View → WatchOptions → Result (List Line) Refusal
+watch_served s v o = lines_by (viewed v s.snapshot.members) (λ a. watch_by s v a s.snapshot.revision) o.bookmarks o.from
 
 -- the server after a compaction to r, which may not be above the present revision
 abbrev pub compact_by : Server → ℕ → Result Server Refusal

@@ -5,9 +5,9 @@ use Rattle.std.proofs.Common.{◌⊎◌, inl, inr, ◌≡◌}
 use Rattle.serde_json.specs.Data.{Data}
 use Rattle.definitions.specs.declared.kinds.Kind.{Kind}
 use Rattle.definitions.specs.contracts.kinds.Kind as kind
-use Rattle.definitions.specs.Codes.{coded_data, coded_text}
-use Rattle.definitions.specs.Texts.Names.{Name}
-use Rattle.definitions.specs.State.History.{Write, Entry, write, compaction, History}
+use Rattle.codes.specs.Codes.{coded_data, coded_text}
+use Rattle.definitions.specs.Names.{Name}
+use Rattle.definitions.specs.History.{Write, Entry, write, compaction, History}
 
 abbrev pub coded_name : Coded Name
 coded_name =

@@ -10,8 +10,9 @@ use Rattle.std.specs.FinMap.{IsAntisymmetric, nat_cmp-IsAntisymmetric, find, put
 use Rattle.std.specs.FinMap.Entries.{below_all, by_order}
 use Rattle.std.specs.FinSet as set
 use Rattle.std.specs.FinSet.{contains-from_list, contains-insert, contains-remove, same_set}
-use Rattle.definitions.specs.Board.{Task, task_cmp, Delays, Alarm, alarm_cmp, alarms}
-use Rattle.definitions.proofs.TaskOrder.{task_total, task_tells, then_Equal}
+use Rattle.controllers.specs.WorkQueues.{Task, task_cmp}
+use Rattle.controllers.specs.Delays.{Delays, Alarm, alarm_cmp, alarms}
+use Rattle.controllers.proofs.TaskOrder.{task_total, task_tells, then_Equal}
 
 pub alarm_total : IsTotalOrder alarm_cmp
 alarm_total = then_total (on_total (λ (a : Alarm). a.at) nat_cmp_total) (on_total (λ (a : Alarm). a.task) task_total)

@@ -1,24 +1,21 @@
 -- What is written for what is read: request lines to reply lines, one after another.
-use Rattle.std.specs.Prelude.{ℕ, List, [], ◌∷◌, ◌++◌, ◌&&◌, ◌==◌, length, Option, Some, None, option_map, Result, Ok, Err, codes, decimal, if◌then◌else◌}
+use Rattle.std.specs.Prelude.{ℕ, List, [], ◌∷◌, ◌++◌, ◌&&◌, ◌==◌, length, Option, Some, None, option_map, codes, decimal, if◌then◌else◌}
 use Rattle.std.specs.List.{slice_split}
 use Rattle.std.specs.Str.{bytes_eq}
 use Rattle.serde_json.specs.Written.{compact_text}
 use Rattle.serde_json.specs.Data.{Data}
-use Rattle.definitions.specs.declared.kinds.Kind.{Kind}
-use Rattle.definitions.specs.State.History.{History}
-use Rattle.definitions.specs.Answers.Lists.{list_outcome}
-use Rattle.definitions.specs.Texts.Moments.{is_moment}
+use Rattle.definitions.specs.History.{History}
+use Rattle.definitions.specs.Moments.{is_moment}
 use Rattle.definitions.specs.declared.methods.Method.{Method}
 use Rattle.definitions.specs.declared.methods.Method.TheVariants.{Get, Post, Put, Patch, Delete}
 use Rattle.definitions.specs.declared.refusals.Part.TheVariants as part
-use Rattle.definitions.specs.Answers.Refusals.{Refusal, bad_request, success_body}
-use Rattle.definitions.specs.Texts.Revisions.{revision_of}
-use Rattle.definitions.specs.Watching.Streams as streams
-use Rattle.definitions.specs.Watching.Streams.{text_of}
-use Rattle.definitions.specs.Requests.Targets.{Asked, request, list, watch, read_request}
-use Rattle.definitions.specs.Answers.Versions.{compacts}
-use Rattle.definitions.specs.Watching.WatchReplies.{watch_lines}
-use Rattle.definitions.specs.Answers.Verbs.{Outcome, refused, outcome_code, outcome_body, history_after, accept}
+use Rattle.definitions.specs.Refusals.{bad_request, success_body}
+use Rattle.definitions.specs.Revisions.{revision_of}
+use Rattle.definitions.specs.Streams.{text_of}
+use Rattle.definitions.specs.Targets.{watch, read_request}
+use Rattle.definitions.specs.Versions.{compacts}
+use Rattle.definitions.specs.Verbs.{refused, outcome_code, outcome_body}
+use Rattle.definitions.specs.Replies.{default_window, Session, start, Reply, outcome, shown, compacted, reply_for, compact_reply, history_from}
 
 -- ---- what a line says
 
@@ -70,37 +67,7 @@ line_from (Some p) =
 abbrev pub line_of : List ℕ → Line
 line_of t = line_from (cut t)
 
--- ---- a session
-
--- what has happened, the moment that it is, and how many of the last writes of each kind are kept for watches and older lists
-pub record Session : Type 0 where
-  pub history : History
-  pub moment : List ℕ
-  pub window : ℕ
-
--- a session begins with nothing, at the start of 2026
-abbrev pub start : ℕ → Session
-start window = record { history = []; moment = codes "2026-01-01T00:00:00Z"; window = window }
-
--- what is answered: an outcome, the lines of a watch of a kind, or a compaction, with what has happened then
-pub data Reply : Type 0 where
-  outcome : Outcome → Reply
-  shown : Kind → List streams.Line → Reply
-  compacted : History → Reply
-
-abbrev pub watch_reply : Kind → Result (List streams.Line) Refusal → Reply
-watch_reply k (Err f) = outcome (refused f)
-watch_reply k (Ok ls) = shown k ls
-
-abbrev pub reply_for : Session → Result Asked Refusal → Reply
-reply_for s (Err f) = outcome (refused f)
-reply_for s (Ok (request q)) = outcome (accept q s.history s.moment)
-reply_for s (Ok (list v o)) = outcome (list_outcome s.window s.history v o)
-reply_for s (Ok (watch v o)) = watch_reply v.kind (watch_lines s.window s.history v o)
-
-abbrev pub compact_reply : Result History Refusal → Reply
-compact_reply (Err f) = outcome (refused f)
-compact_reply (Ok more) = compacted more
+-- ---- what is written
 
 -- a line of a code, a space, a body as compact JSON
 abbrev pub line_text : ℕ → Data → List ℕ
@@ -112,10 +79,7 @@ reply_text (outcome o) = line_text (outcome_code o) (outcome_body o)
 reply_text (shown k ls) = codes "200 watch " ++ (decimal (length ls) ++ (10 ∷ text_of k ls))
 reply_text (compacted more) = line_text 200 (success_body None)
 
-abbrev pub history_from : History → Reply → History
-history_from h (outcome o) = history_after h o
-history_from h (shown k ls) = h
-history_from h (compacted more) = more
+-- ---- a session
 
 abbrev pub reply_to : Session → Line → List ℕ
 reply_to s (ask method target body) = reply_text (reply_for s (read_request method target body))
@@ -149,10 +113,6 @@ replies s (t ∷ ts) = reply s t ++ replies (next s t) ts
 abbrev pub after_lines : Session → List (List ℕ) → Session
 after_lines s [] = s
 after_lines s (t ∷ ts) = after_lines (next s t) ts
-
--- how many writes of each kind are kept where nothing else is said
-abbrev pub default_window : ℕ
-default_window = 1024
 
 -- what has happened once these lines were read; no window changes it
 abbrev pub history_of : List (List ℕ) → History

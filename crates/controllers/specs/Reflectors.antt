@@ -9,22 +9,23 @@ use Rattle.definitions.specs.declared.kinds.Kind.{Kind}
 use Rattle.definitions.specs.declared.refusals.Part.{Part}
 use Rattle.definitions.specs.declared.frames.FrameKind.{FrameKind}
 use Rattle.definitions.specs.declared.frames.FrameKind.TheVariants.{Added, Modified, Deleted, Bookmark, Error}
-use Rattle.definitions.specs.declared.frames.FrameFault.{FrameFault}
-use Rattle.definitions.specs.declared.reflectors.Ask.{Ask}
-use Rattle.definitions.specs.declared.reflectors.Ask.TheVariants as ask
-use Rattle.definitions.specs.declared.reflectors.Phase.{Phase}
-use Rattle.definitions.specs.declared.reflectors.Phase.TheVariants.{Listing, Watching}
-use Rattle.definitions.specs.declared.reflectors.End.{End}
-use Rattle.definitions.specs.declared.reflectors.End.TheVariants.{Expired, Unreadable}
-use Rattle.definitions.specs.Texts.Kinds.{api_version, kind_text}
-use Rattle.definitions.specs.Texts.Names.{Name, is_named}
-use Rattle.definitions.specs.State.History.{Members, put_or_remove}
-use Rattle.definitions.specs.Objects.Metadata.{name, namespace, uid, version}
+use Rattle.controllers.specs.declared.frame_fault.FrameFault.{FrameFault}
+use Rattle.controllers.specs.declared.reflectors.Ask.{Ask}
+use Rattle.controllers.specs.declared.reflectors.Ask.TheVariants as ask
+use Rattle.controllers.specs.declared.reflectors.Phase.{Phase}
+use Rattle.controllers.specs.declared.reflectors.Phase.TheVariants.{Listing, Watching}
+use Rattle.controllers.specs.declared.reflectors.End.{End}
+use Rattle.controllers.specs.declared.reflectors.End.TheVariants.{Expired, Unreadable}
+use Rattle.definitions.specs.Kinds.{api_version, kind_text}
+use Rattle.definitions.specs.Names.{Name, is_named}
+use Rattle.definitions.specs.History.{Members, put_or_remove}
+use Rattle.definitions.specs.Metadata.{name, namespace, uid, version}
 use Rattle.definitions.specs.Objects.{Object}
-use Rattle.definitions.specs.Objects.Reading.{reading}
-use Rattle.definitions.specs.Texts.Revisions.{revision_of}
-use Rattle.definitions.specs.Watching.Frames as frames
-use Rattle.definitions.specs.Watching.Frames.{Event, Read}
+use Rattle.definitions.specs.Reading.{reading}
+use Rattle.definitions.specs.Revisions.{revision_of}
+use Rattle.controllers.specs.ReadFrames as frames
+use Rattle.definitions.specs.Frames.{Event}
+use Rattle.controllers.specs.ReadFrames.{Read}
 
 -- ---- what values say
 

@@ -11,9 +11,10 @@ use Rattle.std.specs.FinMap as map_of
 use Rattle.std.specs.FinMap.{get-remove, get-retain_keys, get_tied, same_map}
 use Rattle.std.specs.FinSet as set
 use Rattle.std.specs.FinSet.{contains-from_list, contains-insert, contains-remove, same_set}
-use Rattle.definitions.specs.Board.{Task, task_cmp, Delays, Alarm, alarm_cmp, due, has_come, still_delayed}
-use Rattle.definitions.proofs.TaskOrder.{task_total, task_tells}
-use Rattle.definitions.proofs.Alarms.{alarm_total, alarm_tells, alarm_set, alarm_of, contains-alarms, moment_of, alarms_removed, alarms_are, same_at_itself, same_tells, is_moment}
+use Rattle.controllers.specs.WorkQueues.{Task, task_cmp}
+use Rattle.controllers.specs.Delays.{Delays, Alarm, alarm_cmp, due, has_come, still_delayed}
+use Rattle.controllers.proofs.TaskOrder.{task_total, task_tells}
+use Rattle.controllers.proofs.Alarms.{alarm_total, alarm_tells, alarm_set, alarm_of, contains-alarms, moment_of, alarms_removed, alarms_are, same_at_itself, same_tells, is_moment}
 
 abbrev same : Alarm → Alarm → Bool
 same = eq_by_cmp alarm_cmp

@@ -5,9 +5,9 @@ use Rattle.definitions.specs.declared.selectors.Operator.{Operator}
 use Rattle.definitions.specs.declared.selectors.SelectableField.{SelectableField}
 use Rattle.definitions.specs.contracts.selectors.Operator as operator
 use Rattle.definitions.specs.contracts.selectors.SelectableField as field
-use Rattle.definitions.specs.Codes.{coded_text}
-use Rattle.definitions.specs.Texts.SelectorFields.{FieldRequirement}
-use Rattle.definitions.specs.Texts.Selectors.{Requirement}
+use Rattle.codes.specs.Codes.{coded_text}
+use Rattle.definitions.specs.SelectorFields.{FieldRequirement}
+use Rattle.definitions.specs.Selectors.{Requirement}
 
 abbrev pub coded_requirement : Coded Requirement
 coded_requirement =

@@ -1,0 +1,4 @@
+pub mod TaskOrder
+pub mod Alarms
+pub mod Due
+pub mod Expected

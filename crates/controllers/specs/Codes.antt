@@ -1,0 +1,34 @@
+-- Codes by which models may store reflectors, keys of work and queues of them.
+use Rattle.std.specs.Prelude.{ℕ, List, refl, Bool}
+use Rattle.std.specs.Coded.{Coded, code_by, coded×, coded_ℕ, coded_list, coded_bool}
+use Rattle.definitions.specs.declared.kinds.Kind.{Kind}
+use Rattle.controllers.specs.declared.reflectors.Phase.{Phase}
+use Rattle.definitions.specs.contracts.kinds.Kind as kind
+use Rattle.controllers.specs.contracts.reflectors.Phase as phase
+use Rattle.codes.specs.Codes.{coded_text}
+use Rattle.controllers.specs.Reflectors.{Reflector}
+use Rattle.std.specs.FinMap as map
+use Rattle.std.specs.FinSet as set
+use Rattle.controllers.specs.contracts.controller.Controller as controller
+use Rattle.controllers.specs.declared.controller.Controller.{Controller}
+use Rattle.codes.specs.HistoryCodes.{coded_name}
+use Rattle.definitions.specs.Names.{Name}
+use Rattle.controllers.specs.WorkQueues.{Task, Tasks, Work, task_cmp}
+
+abbrev pub coded_reflector : Coded Reflector
+coded_reflector =
+    code_by ((Kind × ℕ) × (Phase × List ℕ)) (coded× (coded× kind.the_row.coded coded_ℕ) (coded× phase.the_row.coded coded_text)) (λ s. ((s.kind, s.revision), (s.phase, s.held)))
+    (λ p. record { kind = p.0.0; revision = p.0.1; phase = p.1.0; held = p.1.1 }) (λ _. refl)
+
+abbrev pub task_code : Coded Task
+task_code = code_by (Controller × Name) (coded× controller.the_row.coded coded_name) (λ t. (t.controller, t.key)) (λ p. record { controller = p.0; key = p.1 }) (λ _. refl)
+
+abbrev pub tasks_code : Coded Tasks
+tasks_code = set.code task_code
+
+abbrev pub work_code : Coded Work
+work_code =
+    code_by ((List Task × Tasks) × (Tasks × Bool)) (coded× (coded× (coded_list task_code) tasks_code) (coded× tasks_code coded_bool)) (λ w. ((w.queue, w.dirty), (w.processing, w.is_shut))) (λ p. record { queue = p.0.0; dirty = p.0.1; processing = p.1.0; is_shut = p.1.1 }) (λ _. refl)
+
+abbrev pub counts_code : Coded (map.FinMap task_cmp ℕ)
+counts_code = map.code task_code coded_ℕ

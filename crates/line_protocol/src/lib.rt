@@ -1,0 +1,2 @@
+//! What request lines ask, and the reply lines that are written for them.
+#![tactic(auto)]

@@ -1,0 +1,4 @@
+pub mod Snapshots
+pub mod Recorded
+pub mod Servers
+pub mod Codes
