@@ -10,16 +10,27 @@ import sys
 from pathlib import Path
 
 DOCS = Path(__file__).resolve().parent
-SPECS = DOCS.parent / "crates/definitions/specs"
-LAWS = DOCS.parent / "crates/laws/src"
+CRATES = DOCS.parent / "crates"
+SPECS = CRATES / "definitions/specs"
+LAWS = CRATES / "laws/src"
+
+# The crates of definitions beside the first, each with those of its files that say what is meant.
+BESIDE = {
+    "line_protocol": ["Lines"],
+    "chunked": ["Bodies"],
+    "connections": ["Heads", "Checks", "Connections", "Replies"],
+    "server_state": ["Snapshots", "Recorded", "Servers"],
+    "controllers": ["ReadFrames", "Reflectors", "WorkQueues", "Delays", "Expectations"],
+}
 
 HEAD = """# Definitions
 
 What a reader has to believe: the words by which contracts speak. What follows from them is in [LAWS.md](LAWS.md).
 `docs/definitions.py` makes both pages of the comments of the files.
 
-The words are in `crates/definitions/specs`, in reading order; a row has those that other definitions or laws use. Texts are lists
-of bytes, and numbers are natural, unless a definition says otherwise.
+What the API server does is in `crates/definitions/specs`, in reading order; what is said over lines and over connections, what a
+server stores, and what controllers work by stand in crates of their own. A row has the words that other definitions or laws use.
+Texts are lists of bytes, and numbers are natural, unless a definition says otherwise.
 """
 
 LAWS_HEAD = """# Laws
@@ -42,42 +53,53 @@ def comment_of(path):
     return re.sub(r" \([^()]*[A-Z][^()]*\)", "", first.removeprefix("-- "))
 
 
+def sentence_of(path):
+    """What a file of code says of itself at its head."""
+    return " ".join(line.removeprefix("//!").strip() for line in text_of(path).splitlines() if line.startswith("//!"))
+
+
 def modules_of(path):
     """The modules that a file names, in its order."""
     return re.findall(r"^pub mod (\w+)$", text_of(path), re.M)
 
 
 def used_words():
-    """The words that definitions and laws import of each module."""
+    """The words that definitions and laws import of each module, by crate and module."""
     used = {}
-    for path in [*SPECS.rglob("*.antt"), *LAWS.parent.glob("specs/*.antt")]:
-        for module, words in re.findall(r"^use Rattle\.definitions\.specs\.(?:\w+\.)?(\w+)\.\{(.*)\}$", text_of(path), re.M):
-            used.setdefault(module, set()).update(re.findall(r"[^\s,]+", words))
+    paths = [path for crate in ["definitions", "laws", *BESIDE] for path in (CRATES / crate / "specs").rglob("*.antt")]
+    for path in paths:
+        for crate, module, words in re.findall(r"^use Rattle\.(\w+)\.specs\.(?:\w+\.)?(\w+)\.\{(.*)\}$", text_of(path), re.M):
+            used.setdefault((crate, module), set()).update(re.findall(r"[^\s,]+", words))
     return used
 
 
-def words_of(path, used):
+def words_of(crate, path, used):
     """The words of a file that are used elsewhere and that a comment stands above, as code."""
     words = re.findall(r"^--[^\n]*\n(?:abbrev )?pub (?:data |record )?(?!mod |use )([^\s:]+)", text_of(path), re.M)
-    return "".join(f" `{word}`" for word in words if word in used.get(path.stem, ()))
+    return "".join(f" `{word}`" for word in words if word in used.get((crate, path.stem), ()))
+
+
+def row_of(crate, path, used):
+    """The row of a file: its name, what it says of itself, and its words."""
+    return f"- **{path.stem}**: {comment_of(path)}{words_of(crate, path, used)}"
 
 
 def folder_rows(name, used):
-    """The heading of a folder, and a row for each of its files; of codes, which say nothing new, the names alone."""
+    """The heading of a folder, and a row for each of its files."""
     head = SPECS / f"{name}.antt"
-    rows = ["", f"## {name}", "", comment_of(head) + words_of(head, used), ""]
-    if name == "Codes":
-        return rows + [", ".join(modules_of(head)) + "."]
-    for module in modules_of(head):
-        path = SPECS / name / f"{module}.antt"
-        rows.append(f"- **{module}**: {comment_of(path)}{words_of(path, used)}")
-    return rows
+    rows = ["", f"## {name}", "", comment_of(head) + words_of("definitions", head, used), ""]
+    return rows + [row_of("definitions", SPECS / name / f"{module}.antt", used) for module in modules_of(head)]
+
+
+def crate_rows(crate, modules, used):
+    """The heading of a crate of definitions, its own sentence, and a row for each of its files."""
+    rows = ["", f"## `{crate}`", "", sentence_of(CRATES / crate / "src/lib.rt"), ""]
+    return rows + [row_of(crate, CRATES / crate / f"specs/{module}.antt", used) for module in modules]
 
 
 def law_rows(path):
     """The heading of a file of laws, its own sentence, and for each law its name and what it says."""
-    said = " ".join(line.removeprefix("//!").strip() for line in text_of(path).splitlines() if line.startswith("//!"))
-    rows = ["", f"## `{path.name}`", "", said, ""]
+    rows = ["", f"## `{path.name}`", "", sentence_of(path), ""]
     for lines, name in re.findall(r"((?:^///.*\n)+)pub fn (\w+)", text_of(path), re.M):
         sentence = " ".join(line.removeprefix("///").strip() for line in lines.splitlines())
         rows.append(f"- `{name}`: {sentence}")
@@ -90,6 +112,8 @@ def pages():
     words, laws = [HEAD.rstrip("\n")], [LAWS_HEAD.rstrip("\n")]
     for folder in modules_of(SPECS / "Lib.antt"):
         words += folder_rows(folder, used)
+    for crate, modules in BESIDE.items():
+        words += crate_rows(crate, modules, used)
     for path in sorted(LAWS.glob("*_laws.rt")):
         laws += law_rows(path)
     return {"DEFINITIONS.md": "\n".join(words) + "\n", "LAWS.md": "\n".join(laws) + "\n"}

@@ -14,7 +14,6 @@ pub use Rattle.definitions.specs.Texts.Uids
 pub use Rattle.definitions.specs.Texts.GeneratedNames
 pub use Rattle.definitions.specs.Texts.Selectors
 pub use Rattle.definitions.specs.Texts.SelectorTexts
-pub use Rattle.definitions.specs.Texts.SelectorGrammar
 pub use Rattle.definitions.specs.Texts.SelectorFields
 pub use Rattle.definitions.specs.Objects.Values
 pub use Rattle.definitions.specs.Objects.Metadata

@@ -8,5 +8,4 @@ pub mod Uids
 pub mod GeneratedNames
 pub mod Selectors
 pub mod SelectorTexts
-pub mod SelectorGrammar
 pub mod SelectorFields

@@ -4,7 +4,7 @@ use Rattle.std.proofs.lemmas.Bool.Decides.{nat_tests}
 use Rattle.std.proofs.lemmas.List.{length-reverse, reverse-append, reverse-reverse}
 use Rattle.std.proofs.lemmas.List.Folds.{list_all-append}
 use Rattle.std.specs.List.{list_all, list_any}
-use Rattle.definitions.specs.SelectorGrammar.{AreBlanks}
+use Rattle.laws.specs.SelectorGrammar.{AreBlanks}
 use Rattle.definitions.specs.SelectorTexts.{is_blank, is_comma, is_equals, is_opening, without_first_blanks, trimmed}
 use Rattle.laws.proofs.SelectorForms.{first, second}
 use Rattle.laws.proofs.SelectorPlain.{is_plain, is_closing, is_mark, and-true, begins, begins-plain, no-blank-first, ends-in}

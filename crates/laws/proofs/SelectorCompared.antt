@@ -7,7 +7,7 @@ use Rattle.std.specs.List.{list_all, list_any}
 use Rattle.definitions.specs.declared.selectors.Operator.{Operator}
 use Rattle.definitions.specs.declared.selectors.Operator.TheVariants.{In, NotIn, Exists, DoesNotExist}
 use Rattle.definitions.specs.Labels.{is_label_key, is_label_value}
-use Rattle.definitions.specs.SelectorGrammar.{AreBlanks, IsValueText, IsKeyText, IsNegatedText, IsComparedText}
+use Rattle.laws.specs.SelectorGrammar.{AreBlanks, IsValueText, IsKeyText, IsNegatedText, IsComparedText}
 use Rattle.definitions.specs.Selectors.{label_key, label_value, each_read, put_first, requiring}
 use Rattle.definitions.specs.SelectorTexts as texts
 use Rattle.definitions.specs.SelectorTexts.{is_blank, is_comma, is_equals, is_opening, trimmed, still_inside, parts, before_last, compared_requirement, without_equals, set_operator, value_in, listed_values, set_requirement, plain_requirement, unblanked_requirement, requirement, said_by_text}

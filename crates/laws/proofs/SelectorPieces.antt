@@ -7,7 +7,7 @@ use Rattle.std.proofs.lemmas.List.Sums.{split_at_first, passes_at_first}
 use Rattle.std.specs.List.{list_any, before_first, after_first, count_by, join_with_byte, position_or_len, slice_split}
 use Rattle.definitions.specs.declared.selectors.Operator.{Operator}
 use Rattle.definitions.specs.Labels.{is_label_key, is_label_value}
-use Rattle.definitions.specs.SelectorGrammar.{AreBlanks, IsValueText, AreValuesText, IsKeyText}
+use Rattle.laws.specs.SelectorGrammar.{AreBlanks, IsValueText, AreValuesText, IsKeyText}
 use Rattle.definitions.specs.Selectors.{Requirement, label_key, label_value, each_read, only_if, put_first, requiring}
 use Rattle.definitions.specs.SelectorTexts.{is_blank, is_comma, trimmed, before_last, value_in}
 use Rattle.laws.proofs.SelectorBlanks.{all-append, trims}

@@ -6,7 +6,7 @@ use Rattle.std.specs.List.{list_all, list_any, before_first, after_first, join_w
 use Rattle.definitions.specs.declared.selectors.Operator.{Operator}
 use Rattle.definitions.specs.declared.selectors.Operator.TheVariants.{In, NotIn, Exists, DoesNotExist}
 use Rattle.laws.specs.GrammarLaws.{ReadTextsAreWritten}
-use Rattle.definitions.specs.SelectorGrammar.{AreBlanks, IsKeyText, IsSign, IsWord, IsRequirementText, alone, negated, compared, listed, IsSelectorText}
+use Rattle.laws.specs.SelectorGrammar.{AreBlanks, IsKeyText, IsSign, IsWord, IsRequirementText, alone, negated, compared, listed, IsSelectorText}
 use Rattle.definitions.specs.Selectors.{Requirement, label_key, label_value, each_read, only_if, requiring}
 use Rattle.definitions.specs.SelectorTexts as texts
 use Rattle.definitions.specs.SelectorTexts.{is_blank, is_comma, is_equals, is_opening, trimmed, still_inside, parts_from, parts, before_last, compared_requirement, without_equals, set_operator, value_in, listed_values, set_requirement, in_requirement, plain_requirement, unblanked_requirement, requirement, said_by_text}

@@ -5,7 +5,7 @@ use Rattle.std.specs.List.{list_all, list_any, before_first, after_first, slice_
 use Rattle.definitions.specs.declared.selectors.Operator.{Operator}
 use Rattle.definitions.specs.declared.selectors.Operator.TheVariants.{In, NotIn, Exists, DoesNotExist}
 use Rattle.laws.specs.GrammarLaws.{WrittenTextsAreRead, TextsAreClear}
-use Rattle.definitions.specs.SelectorGrammar.{AreBlanks, IsValueText, AreValuesText, IsWord, IsListedText, IsRequirementText, alone, negated, compared, listed, IsSelectorText}
+use Rattle.laws.specs.SelectorGrammar.{AreBlanks, IsValueText, AreValuesText, IsWord, IsListedText, IsRequirementText, alone, negated, compared, listed, IsSelectorText}
 use Rattle.definitions.specs.Selectors.{Requirement, label_key, label_value, each_read, put_first, requiring}
 use Rattle.definitions.specs.SelectorTexts.{is_blank, is_comma, is_opening, trimmed, parts, before_last, set_operator, value_in, listed_values, set_requirement, plain_requirement, unblanked_requirement, requirement, said_by_text}
 use Rattle.laws.proofs.SelectorBlanks.{is_soft, soft-no-comma, soft-no-opening, all-append, all-weaker, all-none, soft-plain, soft-blanks, trimmed-around, trimmed-plain-around, all-blank}

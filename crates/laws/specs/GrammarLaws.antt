@@ -1,6 +1,6 @@
 -- What the text of a selector says, by how it is written.
 use Rattle.std.specs.Prelude.{◌≡◌, ℕ, List, Some}
-use Rattle.definitions.specs.SelectorGrammar.{IsSelectorText}
+use Rattle.laws.specs.SelectorGrammar.{IsSelectorText}
 use Rattle.definitions.specs.SelectorTexts.{said_by_text}
 use Rattle.definitions.specs.Selectors.{Requirement}
 

@@ -16,6 +16,7 @@ pub mod ReachedLaws
 pub mod ReplacementLaws
 pub mod ReplyLaws
 pub mod SelectorForms
+pub mod SelectorGrammar
 pub mod SelectorLaws
 pub mod SentLaws
 pub mod ServerLaws

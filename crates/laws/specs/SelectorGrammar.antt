@@ -3,9 +3,9 @@ use Rattle.std.specs.Prelude.{◌≡◌, ◌⊎◌, ◌<◌, ℕ, List, [], ◌�
 use Rattle.std.specs.List.{list_all}
 use Rattle.definitions.specs.declared.selectors.Operator.{Operator}
 use Rattle.definitions.specs.declared.selectors.Operator.TheVariants.{In, NotIn, Exists, DoesNotExist}
-use Rattle.definitions.specs.Texts.Labels.{is_label_key, is_label_value}
-use Rattle.definitions.specs.Texts.SelectorTexts.{is_blank}
-use Rattle.definitions.specs.Texts.Selectors.{Requirement}
+use Rattle.definitions.specs.Labels.{is_label_key, is_label_value}
+use Rattle.definitions.specs.SelectorTexts.{is_blank}
+use Rattle.definitions.specs.Selectors.{Requirement}
 
 -- spaces and tabs, or nothing
 abbrev pub AreBlanks : List ℕ → Type 0
