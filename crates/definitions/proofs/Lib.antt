@@ -3,6 +3,7 @@ pub mod Due
 pub mod EscapedTexts
 pub mod Expected
 pub mod FirstStatus
+pub mod FoundMembers
 pub mod JsonMembers
 pub mod NoFloatsRead
 pub mod OnLiterals
