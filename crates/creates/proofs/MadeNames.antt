@@ -1,8 +1,8 @@
 -- Names that are made, one after another.
-use Rattle.std.proofs.Common.{◌≡◌, ℕ, zero, suc, ◌+◌, ◌-◌, ◌<◌, List, [], ◌∷◌, Bool, true, false, cond, ◌&&◌, nat_lt, Some, slice_get, unwrap_or, refl, sym, ap, ◌∙◌, arith}
+use Rattle.std.proofs.Common.{◌≡◌, ℕ, zero, suc, ◌+◌, ◌-◌, ◌<◌, List, [], ◌∷◌, Bool, true, false, cond, ◌&&◌, nat_lt, Some, find, slice_get, unwrap_or, refl, sym, ap, ◌∙◌, arith}
 use Rattle.std.proofs.lemmas.Bool.Decides.{nat_tests}
 use Rattle.std.specs.List.{list_all}
-use Rattle.definitions.specs.GeneratedNames.{alphabet, made, tried, first_where, made_name}
+use Rattle.definitions.specs.GeneratedNames.{alphabet, made, tried, made_name}
 use Rattle.definitions.specs.History.{Members}
 use Rattle.definitions.specs.Verbs.{is_free}
 use Rattle.definitions.specs.declared.kinds.Kind.{Kind}
@@ -24,28 +24,28 @@ small i = small_at alphabet i refl
 
 -- a name that is not free leaves those after it
 pub next_try : (test : List ℕ → Bool) (given : List ℕ) (first k : ℕ) → k < 8 → test (made given (first + k)) ≡ false
-    → first_where test (tried given (8 - k) (first + k)) ≡ first_where test (tried given (8 - (k + 1)) (first + (k + 1)))
+    → find test (tried given (8 - k) (first + k)) ≡ find test (tried given (8 - (k + 1)) (first + (k + 1)))
 next_try test given first k below taken =
     let e : 8 - k ≡ suc (8 - (k + 1)) = omega (arith, below) in
     let n : first + k + 1 ≡ first + (k + 1) = omega arith in
-    ap (λ m. first_where test (tried given m (first + k))) e ∙ ap (λ b. cond b (Some (made given (first + k))) (first_where test (tried given (8 - (k + 1)) (first + k + 1)))) taken
-    ∙ ap (λ m. first_where test (tried given (8 - (k + 1)) m)) n
+    ap (λ m. find test (tried given m (first + k))) e ∙ ap (λ b. cond b (Some (made given (first + k))) (find test (tried given (8 - (k + 1)) (first + k + 1)))) taken
+    ∙ ap (λ m. find test (tried given (8 - (k + 1)) m)) n
 
 -- and one that is free is the first
 first_try : (test : List ℕ → Bool) (given : List ℕ) (first k : ℕ) → k < 8 → test (made given (first + k)) ≡ true
-    → first_where test (tried given (8 - k) (first + k)) ≡ Some (made given (first + k))
+    → find test (tried given (8 - k) (first + k)) ≡ Some (made given (first + k))
 first_try test given first k below free =
     let e : 8 - k ≡ suc (8 - (k + 1)) = omega (arith, below) in
-    ap (λ m. first_where test (tried given m (first + k))) e ∙ ap (λ b. cond b (Some (made given (first + k))) (first_where test (tried given (8 - (k + 1)) (first + k + 1)))) free
+    ap (λ m. find test (tried given m (first + k))) e ∙ ap (λ b. cond b (Some (made given (first + k))) (find test (tried given (8 - (k + 1)) (first + k + 1)))) free
 
 -- the names from one on are those that are left
 abbrev pub Left : (List ℕ → Bool) → List ℕ → ℕ → ℕ → Type 0
-Left test given first k = first_where test (tried given 8 first) ≡ first_where test (tried given (8 - k) (first + k))
+Left test given first k = find test (tried given 8 first) ≡ find test (tried given (8 - k) (first + k))
 
 pub begins : (test : List ℕ → Bool) (given : List ℕ) (first : ℕ) → Left test given first 0
 begins test given first =
     let e : first ≡ first + 0 = omega arith in
-    ap (λ n. first_where test (tried given 8 n)) e
+    ap (λ n. find test (tried given 8 n)) e
 
 pub taken : (test : List ℕ → Bool) (given name : List ℕ) (first k : ℕ) → k < 8 → name ≡ made given (first + k) → test name ≡ false → Left test given first k → Left test given first (k + 1)
 taken test given name first k below named not_free left = left ∙ next_try test given first k below (ap test (sym named) ∙ not_free)

@@ -1,6 +1,7 @@
 //! The names that the server makes.
-ghost use Rattle.std.specs.Prelude.{◌≡◌, ◌+◌, ◌<◌, ◌%◌, ◌++◌, IfOk, OnOk, string_bytes, slice_get, unwrap_or};
-ghost use Rattle.definitions.specs.GeneratedNames.{alphabet, suffix, base, made_name};
+ghost use Rattle.std.specs.Prelude.{◌≡◌, ◌+◌, ◌<◌, ◌%◌, ◌++◌, IfOk, OnOk, string_bytes, slice_get, take, unwrap_or};
+ghost use Rattle.std.specs.Str.Lossy.{utf8_lossy};
+ghost use Rattle.definitions.specs.GeneratedNames.{alphabet, suffix, made_name};
 ghost use Rattle.definitions.specs.Verbs.{is_free};
 
 use definitions::kinds::Kind;
@@ -41,7 +42,7 @@ fn push_suffix(name: &mut String, letters: u32, number: u64) -> Result<(), Alloc
 
 /// What is given, cut to 58 bytes; a character that is cut through becomes U+FFFD.
 fn base(alloc: Global, given: &str) -> Result<String, AllocError>
-    ensures { IfOk result (λ b. string_bytes b ≡ base given.now) }
+    ensures { IfOk result (λ b. string_bytes b ≡ utf8_lossy (take 58 given.now)) }
 {
     let bytes = given.as_bytes();
     if bytes.len() <= LONGEST_BASE {

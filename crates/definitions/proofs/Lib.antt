@@ -1,5 +1,6 @@
 pub mod EscapedTexts
 pub mod FirstStatus
+pub mod FoundMembers
 pub mod JsonMembers
 pub mod NoFloatsRead
 pub mod OnLiterals

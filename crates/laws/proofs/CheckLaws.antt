@@ -1,8 +1,9 @@
 -- What follows where no check finds a fault.
-use Rattle.std.proofs.Common.{◌≡◌, IfSome, subst, inl, inr, ◌≤◌, ◌^◌, ℕ, List, [], ◌∷◌, Bool, true, false, cond, not, ◌&&◌, ◌||◌, length, nat_le, nat_lt, Option, Some, None, is_some, unwrap_or, option_and_then, codes, refl, sym, ap, ◌∙◌, arith}
+use Rattle.std.proofs.Common.{◌≡◌, IfSome, subst, inl, inr, ◌≤◌, ◌^◌, ℕ, List, [], ◌∷◌, Bool, true, false, cond, not, ◌&&◌, ◌||◌, length, nat_le, nat_lt, Option, Some, None, is_some, unwrap_or, option_and_then, option_map, codes, refl, sym, ap, ◌∙◌, arith}
 use Rattle.std.proofs.lemmas.Bool.Decides.{nat_tests}
 use Rattle.std.specs.Prelude.{decimal}
 use Rattle.std.specs.List.{list_all}
+use Rattle.std.specs.Result.{result_ok}
 use Rattle.std.specs.Str.{bytes_eq}
 use Rattle.serde_json.specs.Data.{Data, string, object, Members, put, no_items}
 use Rattle.serde_json.specs.Find.{get, get_member, as_array}
@@ -11,7 +12,7 @@ use Rattle.definitions.specs.declared.kinds.Kind.{Kind}
 use Rattle.definitions.specs.declared.kinds.Kind.TheVariants.{ConfigMap, Pod, ReplicaSet, Deployment}
 use Rattle.definitions.specs.declared.refusals.Field.{Field}
 use Rattle.laws.specs.CheckLaws.{HasTemplate, SelectsItsTemplate, CreatedSelectTheirTemplates, UpdatedSelectTheirTemplates, StoredPassAgain}
-use Rattle.definitions.specs.Checks.{is_generating_byte, Check, first_fault, checks, checks_of, in_spec, requirements, if_ok, is_template, is_template_valid, are_labels, are_labels_valid, is_selector_valid, adds_no_finalizer, is_selector_kept, is_known_uid, is_not_empty, is_owner, are_owners_valid, controllers, generate_name, is_name, is_name_valid, generates, passes_if_there, is_generate_name_valid, are_finalizers_valid, is_finalizer, text_is, is_not_negative, counts, is_strategy}
+use Rattle.definitions.specs.Checks.{is_generating_byte, Check, first_fault, checks, checks_of, in_spec, requirements, is_selected, is_template_valid, are_labels, are_labels_valid, is_selector_valid, adds_no_finalizer, is_selector_kept, is_known_uid, is_not_empty, is_owner, are_owners_valid, controllers, generate_name, is_name_valid, generates, passes_if_there, is_generate_name_valid, are_finalizers_valid, is_finalizer, text_is, is_not_negative, counts, is_strategy}
 use Rattle.definitions.specs.Labels.{labels_of}
 use Rattle.definitions.specs.Metadata.{Owner, metadata, metadata_of, name, owners, owners_in}
 use Rattle.definitions.specs.Selectors.{Requirement, meets_all}
@@ -59,8 +60,8 @@ and-second false v h = cc
 
 selects : (d : Data) → is_template_valid d ≡ true → SelectsItsTemplate d
 selects d h s t rs selector template said =
-    let reads : requirements d ≡ Some rs = ap (option_and_then (λ x. if_ok (said_by_value x))) selector ∙ ap if_ok said in
-    let both : is_template (Some rs) (Some t) ≡ true = sym (ap (λ o. is_template o (in_spec (codes "template") d)) reads ∙ ap (is_template (Some rs)) template) ∙ h in
+    let reads : requirements d ≡ Some rs = ap (option_and_then (λ x. result_ok (said_by_value x))) selector ∙ ap result_ok said in
+    let both : passes (is_selected rs) (Some t) ≡ true = sym (ap (λ o. passes (λ (rs : List Requirement). passes (is_selected rs) (in_spec (codes "template") d)) o) reads ∙ ap (passes (is_selected rs)) template) ∙ h in
     and-second (are_labels_valid t) (meets_all rs (labels_of t)) both
 
 pub created_select : CreatedSelectTheirTemplates
@@ -129,7 +130,7 @@ by_generated : (under : List ℕ) (g : Option (List ℕ)) → is_some g ≡ true
 by_generated under None h p = cc
 by_generated under (Some t) h p = and-second (list_all is_generating_byte t) (is_subdomain under) p
 
-by_name : (under : List ℕ) (o : Option (List ℕ)) (d : Data) → IfSome o (λ n. n ≡ under) → is_name o d ≡ true → (is_some o || passes_if_there (generates under) (generate_name d)) ≡ true
+by_name : (under : List ℕ) (o : Option (List ℕ)) (d : Data) → IfSome o (λ n. n ≡ under) → unwrap_or (option_map is_subdomain o) (is_some (generate_name d)) ≡ true → (is_some o || passes_if_there (generates under) (generate_name d)) ≡ true
     → is_subdomain under ≡ true
 by_name under None d is valid made = by_generated under (generate_name d) valid made
 by_name under (Some n) d is valid made = subst (λ t. is_subdomain t ≡ true) is valid
@@ -179,7 +180,7 @@ module _ (k : Kind) (r : ℕ) (ns under moment : List ℕ) (d : Data) where
       get-first q k (created k r ns under moment d) b ∙ get_member-put_other q (codes "metadata") _ (with_status (first_status k) (members_of d)) (apart q (codes "metadata") a)
 
   names : is_subdomain under ≡ true → is_name_valid made_of ≡ true
-  names valid = ap (λ o. is_name o made_of) name_is ∙ valid
+  names valid = ap (λ o. unwrap_or (option_map is_subdomain o) (is_some (generate_name made_of))) name_is ∙ valid
 
   generated : is_generate_name_valid under made_of ≡ true
   generated = ap (λ o. is_some o || passes_if_there (generates under) (generate_name made_of)) name_is
@@ -199,13 +200,15 @@ module _ (k : Kind) (r : ℕ) (ns under moment : List ℕ) (d : Data) where
   in_spec_same q = ap (option_and_then (get q)) (same_part (codes "spec") refl refl)
 
   said_same : requirements made_of ≡ requirements first
-  said_same = ap (option_and_then (λ s. if_ok (said_by_value s))) (in_spec_same (codes "selector"))
+  said_same = ap (option_and_then (λ s. result_ok (said_by_value s))) (in_spec_same (codes "selector"))
 
   selector : (is_selector_valid made_of && true) ≡ (is_selector_valid first && true)
   selector = ap (λ (o : Option (List Requirement)). passes (λ (rs : List Requirement). nat_lt 0 (length rs)) o && true) said_same
 
   template : is_template_valid made_of ≡ is_template_valid first
-  template = ap (λ o. is_template o (in_spec (codes "template") made_of)) said_same ∙ ap (is_template (requirements first)) (in_spec_same (codes "template"))
+  template =
+      ap (λ o. passes (λ (rs : List Requirement). passes (is_selected rs) (in_spec (codes "template") made_of)) o) said_same
+      ∙ ap (λ t. passes (λ (rs : List Requirement). passes (is_selected rs) t) (requirements first)) (in_spec_same (codes "template"))
 
 -- the first status counts nothing below 0
 status_is : (k : Kind) (s : Data) (d : Data) → first_status k ≡ Some s → get (codes "status") (with_first_status k d) ≡ Some s

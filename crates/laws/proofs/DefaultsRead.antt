@@ -12,7 +12,8 @@ use Rattle.definitions.specs.declared.schemas.Shape.TheVariants.{Object}
 use Rattle.definitions.specs.declared.schemas.Schema.{Schema}
 use Rattle.definitions.specs.declared.schemas.Schema.TheVariants.{Root, ReplicaSetSpec, DeploymentSpec, Strategy, Unknown}
 use Rattle.laws.specs.CheckLaws.{DefaultsReadAgain}
-use Rattle.definitions.specs.Defaults.{whole, with_found, with_changed, rolling_defaults, is_rolling_update, with_rolling, strategy_defaults, replica_set_defaults, deployment_defaults, defaulted}
+use Rattle.definitions.specs.Defaults.{whole, with_changed, rolling_defaults, is_rolling_update, with_rolling, strategy_defaults, replica_set_defaults, deployment_defaults, defaulted}
+use Rattle.definitions.proofs.FoundMembers.{with_found}
 use Rattle.definitions.specs.Schemas.{member_at}
 use Rattle.definitions.specs.Values.{with_default, is_null}
 use Rattle.definitions.specs.Reading.{fits, members_fit, tidied, tidied_members, is_absent, filled, is_body, empty, reading}

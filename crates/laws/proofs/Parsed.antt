@@ -14,7 +14,8 @@ use Rattle.definitions.specs.declared.schemas.Schema.{Schema}
 use Rattle.definitions.specs.declared.schemas.Schema.TheVariants.{Root}
 use Rattle.definitions.specs.declared.schemas.Shape.{Shape}
 use Rattle.definitions.specs.Defaults as defaults
-use Rattle.definitions.specs.Defaults.{whole, with_found, replica_set_defaults, deployment_defaults, strategy_defaults, rolling_defaults, is_rolling_update}
+use Rattle.definitions.specs.Defaults.{whole, replica_set_defaults, deployment_defaults, strategy_defaults, rolling_defaults, is_rolling_update}
+use Rattle.definitions.proofs.FoundMembers.{with_found}
 use Rattle.definitions.specs.Kinds.{api_version, kind_text}
 use Rattle.definitions.specs.Reading.{is_absent, schema_of, item_of, tidied, tidied_items, tidied_members, empty, reading}
 use Rattle.definitions.specs.Schemas.{member_at}

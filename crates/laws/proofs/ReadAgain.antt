@@ -21,7 +21,7 @@ use Rattle.definitions.specs.declared.schemas.Schema.TheVariants.{Root}
 use Rattle.definitions.specs.Kinds.{api_version, kind_text}
 use Rattle.definitions.specs.Schemas.{member_at}
 use Rattle.definitions.specs.Values.{with_default, is_null}
-use Rattle.definitions.specs.Reading.{fits, items_fit, members_fit, tidied, tidied_items, tidied_members, is_absent, item_of, schema_of, filled, with_spec, is_body, empty, reading, whole_of, IsSettled}
+use Rattle.definitions.specs.Reading.{fits, items_fit, members_fit, tidied, tidied_items, tidied_members, is_absent, item_of, schema_of, filled, with_spec, is_body, empty, reading}
 use Rattle.definitions.proofs.NoFloatsRead.{has_float-tidied, has_float-filled, has_float-is_body, both_true}
 
 -- ---- tidy values
@@ -402,6 +402,3 @@ reads_again k (object ms) e h =
     ap has_float (sym (filled-object k left)) ∙ has_float-filled k (object left) (has_float-tidied root (object ms) whole) in
     subst (λ x. reading k x ≡ Ok x) is (settled k (filled_members k left) (Good-filled k left good) (Filled-filled k left) still)
 reads_again k d e h = cc
-
-pub settles : (k : Kind) (d e : Data) → reading k d ≡ Ok e → IsSettled k e
-settles k d e h = opened (is_body e) (fits (whole_of k) e) (filled k (tidied (whole_of k) e)) e (reads_again k d e h)

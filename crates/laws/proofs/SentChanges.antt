@@ -8,12 +8,14 @@ use Rattle.serde_json.specs.Find.{as_object}
 use Rattle.serde_json.specs.Written.{compact_text, has_float}
 use Rattle.definitions.specs.declared.kinds.Kind.{Kind}
 use Rattle.definitions.specs.declared.kinds.Kind.TheVariants.{ConfigMap, Pod, ReplicaSet, Deployment}
+use Rattle.definitions.specs.declared.schemas.Shape.TheVariants.{Object}
+use Rattle.definitions.specs.declared.schemas.Schema.TheVariants.{Root}
 use Rattle.definitions.specs.Kinds.{rank}
 use Rattle.definitions.specs.Changes.{Change, change_of, changes_after, gone_at}
 use Rattle.definitions.specs.History.{Write, writes, present, up_to, last_of, in_view, seen}
 use Rattle.definitions.specs.Metadata.{at_revision, metadata_of, metadata_text, name, namespace, uid}
 use Rattle.definitions.specs.Names.{Name}
-use Rattle.definitions.specs.Reading.{reading, is_body, fits, tidied, filled, whole_of}
+use Rattle.definitions.specs.Reading.{reading, is_body, fits, tidied, filled}
 use Rattle.controllers.specs.Reflectors.{shown, shown_read, has_identity, revision, name_in}
 use Rattle.definitions.specs.Revisions.{revision_of}
 use Rattle.laws.specs.SentLaws.{IsKept, IsTold, IsShort, ChangesAreTold, whole}
@@ -81,7 +83,7 @@ is_object (string s) h = cc
 is_object (array ds) h = cc
 
 pub read_body : (k : Kind) (d e : Data) → reading k d ≡ Ok e → is_body d ≡ true
-read_body k d e h = (opened (is_body d) (fits (whole_of k) d) (filled k (tidied (whole_of k) d)) e h).0
+read_body k d e h = (opened (is_body d) (fits (Object (Root k)) d) (filled k (tidied (Object (Root k)) d)) e h).0
 
 pub nests : (d : Data) → is_body d ≡ true → depth d ≤ 100
 nests d h = leb-true (depth d) 100 (both_true (is_some (as_object d) && not (has_float d)) (nat_le (depth d) 100) h).1

@@ -1,5 +1,5 @@
 -- Objects as they are stored: what holds of each.
-use Rattle.std.proofs.Common.{◌≡◌, ◌≤◌, ◌<◌, ◌+◌, ◌||◌, ℕ, List, [], ◌∷◌, length, Bool, true, false, cond, codes, decimal, is_some, Option, Some, None, refl, sym, ap, ap₂, ◌∙◌, arith}
+use Rattle.std.proofs.Common.{◌≡◌, ◌≤◌, ◌<◌, ◌+◌, ◌||◌, ℕ, List, [], ◌∷◌, length, Bool, true, false, cond, codes, decimal, is_some, option_map, unwrap_or, Option, Some, None, refl, sym, ap, ap₂, ◌∙◌, arith}
 use Rattle.std.proofs.lemmas.Bool.{ne_eqb}
 use Rattle.std.proofs.lemmas.Fmt.{decimal_nonempty}
 use Rattle.std.specs.List.{list_all}
@@ -10,7 +10,7 @@ use Rattle.definitions.specs.declared.refusals.Field.{Field}
 use Rattle.definitions.specs.declared.refusals.Field.TheVariants as field
 use Rattle.definitions.specs.declared.refusals.Mismatch.TheVariants as mismatch
 use Rattle.definitions.specs.declared.schemas.Schema.TheVariants.{Metadata}
-use Rattle.definitions.specs.Checks.{create_fault, generate_name, generates, is_generating_byte, is_name, is_name_valid, is_generate_name_valid, passes_if_there}
+use Rattle.definitions.specs.Checks.{create_fault, generate_name, generates, is_generating_byte, is_name_valid, is_generate_name_valid, passes_if_there}
 use Rattle.definitions.specs.Defaults.{whole}
 use Rattle.definitions.specs.GeneratedNames.{name_from}
 use Rattle.definitions.specs.Kinds.{has_generation}
@@ -108,7 +108,7 @@ filled_name [] h = cc
 filled_name (b ∷ bs) h = filled_long (b ∷ bs) (omega arith)
 
 -- what is named is valid where the name that is given is, and where none is the one that is made
-valid_name : (test : List ℕ → Bool) (o g : Option (List ℕ)) (r : ℕ) (d : Data) → generate_name d ≡ g → is_name o d ≡ true → (is_some o || passes_if_there (generates (name_from test o g r)) g) ≡ true
+valid_name : (test : List ℕ → Bool) (o g : Option (List ℕ)) (r : ℕ) (d : Data) → generate_name d ≡ g → unwrap_or (option_map is_subdomain o) (is_some (generate_name d)) ≡ true → (is_some o || passes_if_there (generates (name_from test o g r)) g) ≡ true
     → is_subdomain (name_from test o g r) ≡ true
 valid_name test (Some n) g r d is named made = named
 valid_name test None (Some given) r d is named made = (both_true (list_all is_generating_byte given) (is_subdomain (name_from test None (Some given) r)) made).1
@@ -126,7 +126,7 @@ created_valid kind ns o ms r now none =
     let second = met (is_generate_name_valid made d) field.GenerateName _ first.1 in
     let named : name o ≡ name d = ap (text_in (codes "name")) (sym (metadata_of-first kind o)) in
     let given : generate_name o ≡ generate_name d = ap (text_in (codes "generateName")) (sym (metadata_of-first kind o)) in
-    valid_name (is_free kind ns ms) (name o) (generate_name o) (r + 1) d (sym given) (ap (λ n. is_name n d) named ∙ first.0)
+    valid_name (is_free kind ns ms) (name o) (generate_name o) (r + 1) d (sym given) (ap (λ n. unwrap_or (option_map is_subdomain n) (is_some (generate_name d))) named ∙ first.0)
     (ap₂ (λ n g. is_some n || passes_if_there (generates made) g) named given ∙ second.0)
 
 pub filled_new : (kind : Kind) (ns : List ℕ) (o : Data) (ms : history.Members) (r now : ℕ) → create_fault kind (new_name kind ns o ms r).name now (with_first_status kind o) ≡ None → IsFilled (new_name kind ns o ms r).name

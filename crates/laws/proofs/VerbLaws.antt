@@ -10,7 +10,8 @@ use Rattle.definitions.specs.declared.kinds.Kind.{Kind}
 use Rattle.definitions.specs.declared.kinds.Kind.TheVariants.{ConfigMap, Pod, ReplicaSet, Deployment}
 use Rattle.definitions.specs.declared.refusals.Part.{Part}
 use Rattle.serde_json.specs.Written.{compact_text}
-use Rattle.definitions.specs.Defaults.{defaulted, with_found, replica_set_defaults, deployment_defaults}
+use Rattle.definitions.specs.Defaults.{defaulted, replica_set_defaults, deployment_defaults}
+use Rattle.definitions.proofs.FoundMembers.{with_found}
 use Rattle.definitions.specs.Checks.{finalizers}
 use Rattle.definitions.specs.Deletion.{left_by, marked, with_deletion}
 use Rattle.definitions.specs.Kinds.{has_generation}

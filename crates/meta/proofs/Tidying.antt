@@ -12,7 +12,7 @@ use Rattle.serde_json.proofs.Views.{Entry}
 use Rattle.definitions.specs.declared.schemas.Shape.{Shape}
 use Rattle.definitions.specs.declared.schemas.Schema.{Schema}
 use Rattle.definitions.specs.Schemas.{member_at}
-use Rattle.definitions.specs.Reading.{tidied, tidied_items, tidied_members, is_absent, with_if_there}
+use Rattle.definitions.specs.Reading.{tidied, tidied_items, tidied_members, is_absent}
 
 pub tidied_items-items_of : (s : Shape) (ds : List Data) → tidied_items s (items_of ds) ≡ items_of (map (tidied s) ds)
 tidied_items-items_of s [] = refl
@@ -55,5 +55,5 @@ one_more_at false p done e more h is = tidied_members-put_last p done e more h i
 
 -- one more member, above those before it
 pub tidied_members-one_more : (p : Schema) (done : List Entry) (e : Entry) (more : List Entry) → IsStrictlySortedBy string_cmp (keys_of (done ++ e ∷ more))
-    → with_if_there (member_at p (string_bytes e.0)) (string_bytes e.0) (left p e) (tidied_members p (members_view done)) ≡ tidied_members p (members_view (done ++ e ∷ []))
+    → cond (is_absent (member_at p (string_bytes e.0)) (left p e)) (tidied_members p (members_view done)) (put (string_bytes e.0) (left p e) (tidied_members p (members_view done))) ≡ tidied_members p (members_view (done ++ e ∷ []))
 tidied_members-one_more p done e more h = one_more_at _ p done e more h refl

@@ -1,9 +1,10 @@
 //! Reading an object: what is wanted of it, and what is left out of it and filled in.
-ghost use Rattle.std.specs.Prelude.{◌≡◌, true, false, IfOk, IfErr, OnOk, Ok, is_some, string_bytes};
+ghost use Rattle.std.specs.Prelude.{◌≡◌, true, false, IfOk, IfErr, OnOk, Ok, is_some, string_bytes, if◌then◌else◌};
+ghost use Rattle.serde_json.specs.Data.{put};
 ghost use Rattle.serde_json.specs.Find.{as_object};
 ghost use Rattle.serde_json.specs.Written.{has_float};
 ghost use Rattle.serde_json.specs.View.{view, items_view, members_view};
-ghost use Rattle.definitions.specs.Reading.{fits, items_fit, members_fit, tidied, tidied_items, tidied_members, is_empty, is_absent, with_if_there, schema_of, item_of, with_spec, filled, is_body, reading};
+ghost use Rattle.definitions.specs.Reading.{fits, items_fit, members_fit, tidied, tidied_items, tidied_members, is_empty, is_absent, schema_of, item_of, with_spec, filled, is_body, reading};
 ghost use Rattle.meta.specs.Faults.{RefusesReading};
 
 use crate::faults::Fault;
@@ -151,8 +152,8 @@ fn put_if_there(
     described: Member,
     inner: Value,
 ) -> Result<(), AllocError>
-    ensures { OnOk result (members_view kept.new.entries
-        ≡ with_if_there described (string_bytes key) (view inner) (members_view kept.old.entries)) }
+    ensures { OnOk result (members_view kept.new.entries ≡ if is_absent described (view inner)
+        then members_view kept.old.entries else put (string_bytes key) (view inner) (members_view kept.old.entries)) }
 {
     if is_absent(described, &inner) {
         return Ok(());

@@ -1,6 +1,7 @@
 //! What is said of the members of an object, by tables.
 ghost use Rattle.std.specs.Prelude.{◌≡◌};
-ghost use Rattle.definitions.specs.Schemas.{kept, unless_empty, described, member_at, root, metadata, owner_reference, pod_spec, pod_status, condition, replica_set_spec, replica_set_status, deployment_spec, deployment_status, selector, expression, template, template_metadata, strategy, delete_options, preconditions};
+ghost use Rattle.definitions.specs.Schemas.{kept, unless_empty, member_at};
+ghost use Rattle.definitions.specs.declared.schemas.Schema.TheVariants.{Root, Metadata, OwnerReference, PodSpec, PodStatus, Condition, ReplicaSetSpec, ReplicaSetStatus, DeploymentSpec, DeploymentStatus, Selector, Expression, Template, TemplateMetadata, Strategy, DeleteOptions, Preconditions};
 
 use definitions::kinds::Kind;
 use definitions::schemas::{Member, Schema, Shape};
@@ -30,7 +31,7 @@ fn unless_empty(shape: Shape) -> Member
 }
 
 fn metadata_member(name: &str) -> Member
-    ensures { result ≡ described metadata name.now }
+    ensures { result ≡ member_at Metadata name.now }
 {
     match name {
         "name"
@@ -48,7 +49,7 @@ fn metadata_member(name: &str) -> Member
 }
 
 fn owner_reference_member(name: &str) -> Member
-    ensures { result ≡ described owner_reference name.now }
+    ensures { result ≡ member_at OwnerReference name.now }
 {
     match name {
         "controller" | "blockOwnerDeletion" => kept(Shape::Truth),
@@ -57,7 +58,7 @@ fn owner_reference_member(name: &str) -> Member
 }
 
 fn pod_spec_member(name: &str) -> Member
-    ensures { result ≡ described pod_spec name.now }
+    ensures { result ≡ member_at PodSpec name.now }
 {
     match name {
         "nodeName" => kept(Shape::Text),
@@ -66,7 +67,7 @@ fn pod_spec_member(name: &str) -> Member
 }
 
 fn pod_status_member(name: &str) -> Member
-    ensures { result ≡ described pod_status name.now }
+    ensures { result ≡ member_at PodStatus name.now }
 {
     match name {
         "phase" => kept(Shape::Text),
@@ -76,7 +77,7 @@ fn pod_status_member(name: &str) -> Member
 }
 
 fn condition_member(name: &str) -> Member
-    ensures { result ≡ described condition name.now }
+    ensures { result ≡ member_at Condition name.now }
 {
     match name {
         "type" | "status" => kept(Shape::Text),
@@ -85,7 +86,7 @@ fn condition_member(name: &str) -> Member
 }
 
 fn replica_set_spec_member(name: &str) -> Member
-    ensures { result ≡ described replica_set_spec name.now }
+    ensures { result ≡ member_at ReplicaSetSpec name.now }
 {
     match name {
         "replicas" => kept(COUNT),
@@ -96,7 +97,7 @@ fn replica_set_spec_member(name: &str) -> Member
 }
 
 fn replica_set_status_member(name: &str) -> Member
-    ensures { result ≡ described replica_set_status name.now }
+    ensures { result ≡ member_at ReplicaSetStatus name.now }
 {
     match name {
         "replicas" | "readyReplicas" | "availableReplicas" => kept(COUNT),
@@ -106,7 +107,7 @@ fn replica_set_status_member(name: &str) -> Member
 }
 
 fn deployment_spec_member(name: &str) -> Member
-    ensures { result ≡ described deployment_spec name.now }
+    ensures { result ≡ member_at DeploymentSpec name.now }
 {
     match name {
         "replicas" | "revisionHistoryLimit" => kept(COUNT),
@@ -119,7 +120,7 @@ fn deployment_spec_member(name: &str) -> Member
 }
 
 fn deployment_status_member(name: &str) -> Member
-    ensures { result ≡ described deployment_status name.now }
+    ensures { result ≡ member_at DeploymentStatus name.now }
 {
     match name {
         "replicas"
@@ -134,7 +135,7 @@ fn deployment_status_member(name: &str) -> Member
 }
 
 fn selector_member(name: &str) -> Member
-    ensures { result ≡ described selector name.now }
+    ensures { result ≡ member_at Selector name.now }
 {
     match name {
         "matchLabels" => kept(Shape::Object(Schema::Texts)),
@@ -144,7 +145,7 @@ fn selector_member(name: &str) -> Member
 }
 
 fn expression_member(name: &str) -> Member
-    ensures { result ≡ described expression name.now }
+    ensures { result ≡ member_at Expression name.now }
 {
     match name {
         "key" | "operator" => kept(Shape::Text),
@@ -154,7 +155,7 @@ fn expression_member(name: &str) -> Member
 }
 
 fn template_member(name: &str) -> Member
-    ensures { result ≡ described template name.now }
+    ensures { result ≡ member_at Template name.now }
 {
     match name {
         "metadata" => kept(Shape::Object(Schema::TemplateMetadata)),
@@ -164,7 +165,7 @@ fn template_member(name: &str) -> Member
 }
 
 fn template_metadata_member(name: &str) -> Member
-    ensures { result ≡ described template_metadata name.now }
+    ensures { result ≡ member_at TemplateMetadata name.now }
 {
     match name {
         "labels" | "annotations" => unless_empty(Shape::Object(Schema::Texts)),
@@ -174,7 +175,7 @@ fn template_metadata_member(name: &str) -> Member
 }
 
 fn strategy_member(name: &str) -> Member
-    ensures { result ≡ described strategy name.now }
+    ensures { result ≡ member_at Strategy name.now }
 {
     match name {
         "type" => kept(Shape::Text),
@@ -184,7 +185,7 @@ fn strategy_member(name: &str) -> Member
 }
 
 fn delete_options_member(name: &str) -> Member
-    ensures { result ≡ described delete_options name.now }
+    ensures { result ≡ member_at DeleteOptions name.now }
 {
     match name {
         "preconditions" => kept(Shape::Object(Schema::Preconditions)),
@@ -195,7 +196,7 @@ fn delete_options_member(name: &str) -> Member
 }
 
 fn preconditions_member(name: &str) -> Member
-    ensures { result ≡ described preconditions name.now }
+    ensures { result ≡ member_at Preconditions name.now }
 {
     match name {
         "uid" | "resourceVersion" => kept(Shape::Text),
@@ -204,7 +205,7 @@ fn preconditions_member(name: &str) -> Member
 }
 
 fn root_member(kind: Kind, name: &str) -> Member
-    ensures { result ≡ described (root kind) name.now }
+    ensures { result ≡ member_at (Root kind) name.now }
 {
     match name {
         "apiVersion" => kept(Shape::VersionOf(kind)),

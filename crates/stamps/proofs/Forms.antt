@@ -1,9 +1,11 @@
 -- What a text of a form has at its places.
-use Rattle.std.proofs.Common.{◌≡◌, ℕ, zero, suc, ◌+◌, ◌-◌, ◌*◌, ◌<◌, ◌≤◌, ◌^◌, List, [], ◌∷◌, length, take, drop, Bool, true, false, ◌&&◌, ◌==◌, nat_le, refl, ap, arith, codes, add-one, drop-cons, get_or, nat_lt, IsAscii, lit≤}
+use Rattle.std.proofs.Common.{◌≡◌, ℕ, zero, suc, ◌+◌, ◌-◌, ◌*◌, ◌<◌, ◌≤◌, ◌^◌, List, [], ◌∷◌, length, take, drop, Bool, true, false, ◌&&◌, ◌==◌, nat_le, refl, sym, ap, arith, codes, add-one, drop-cons, get_or, nat_lt, IsAscii, lit≤}
 use Rattle.std.proofs.Math.Nat.{pow-suc}
 use Rattle.std.proofs.lemmas.Bool.Decides.{nat_tests}
+use Rattle.std.specs.Char.{digit_value}
 use Rattle.std.specs.List.{list_all}
-use Rattle.definitions.specs.Moments.{is_digit, has_form, number_from, part, is_day, is_moment}
+use Rattle.std.specs.Str.Parse.{digits_value_after}
+use Rattle.definitions.specs.Moments.{is_digit, has_form, part, is_day, is_moment}
 use Rattle.stamps.specs.Forms.{fits}
 
 -- both of two tests
@@ -88,9 +90,16 @@ digit-value (d ∷ ds) zero h l =
     (grind (arith, nat_tests), grind (arith, nat_tests))
 digit-value (d ∷ ds) (suc i) h l = digit-value ds i (both (is_digit d) (list_all is_digit ds) h).1 (omega arith)
 
+-- what a digit says
+value-is : (x : ℕ) → 48 ≤ x → x ≤ 57 → digit_value x ≡ x - 48
+value-is x low high = grind (arith, nat_tests)
+
 -- one digit more
-pub number_from-drop : (n i : ℕ) (ds : List ℕ) → i < length ds → number_from n (drop i ds) ≡ number_from (n * 10 + (get_or ds i 0 - 48)) (drop (i + 1) ds)
-number_from-drop n i ds h = rw (add-one, drop-cons ds i 0) refl
+pub value-drop : (n i : ℕ) (ds : List ℕ) → i < length ds → (48 ≤ get_or ds i 0) × (get_or ds i 0 ≤ 57)
+    → digits_value_after 10 n (drop i ds) ≡ digits_value_after 10 (n * 10 + (get_or ds i 0 - 48)) (drop (i + 1) ds)
+value-drop n i ds h digit =
+    let is : digit_value (get_or ds i 0) ≡ get_or ds i 0 - 48 = value-is (get_or ds i 0) digit.0 digit.1 in
+    rw (add-one, drop-cons ds i 0, sym is) refl
 
 -- one power more
 pub power-more : (i : ℕ) → 10 ^ (i + 1) ≡ 10 ^ i * 10

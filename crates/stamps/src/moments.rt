@@ -1,7 +1,8 @@
 //! Moments, to the second, in UTC.
 ghost use Rattle.std.specs.Prelude.{◌≡◌, ◌<◌, ◌≤◌, ◌^◌, ◌&&◌, length, nat_le, true, codes};
 ghost use Rattle.std.specs.List.{list_all, zip};
-ghost use Rattle.definitions.specs.Moments.{is_digit, has_form, number_from, is_day, is_moment};
+ghost use Rattle.std.specs.Str.Parse.{digits_value};
+ghost use Rattle.definitions.specs.Moments.{is_digit, has_form, is_day, is_moment};
 ghost use Rattle.stamps.specs.Forms.{fits};
 
 use jiff::civil::Date;
@@ -65,7 +66,7 @@ fn has_form(text: &[u8]) -> bool
 fn number(digits: &[u8]) -> u16
     requires few { length digits.now ≤ 4 }
     requires digits { list_all is_digit digits.now ≡ true }
-    ensures value { result ≡ number_from 0 digits.now }
+    ensures value { result ≡ digits_value 10 digits.now }
     ensures small { result < 10 ^ length digits.now }
 {
     let mut number: u16 = 0;

@@ -5,7 +5,8 @@ use Rattle.serde_json.specs.Find.{get, as_object}
 use Rattle.serde_json.specs.Written.{has_float}
 use Rattle.definitions.specs.declared.kinds.Kind.{Kind}
 use Rattle.definitions.specs.declared.kinds.Kind.TheVariants.{ConfigMap, Pod, ReplicaSet, Deployment}
-use Rattle.definitions.specs.Defaults.{whole, with_found, with_changed, rolling_defaults, is_rolling_update, with_rolling, strategy_defaults, replica_set_defaults, deployment_defaults, defaulted}
+use Rattle.definitions.specs.Defaults.{whole, with_changed, rolling_defaults, is_rolling_update, with_rolling, strategy_defaults, replica_set_defaults, deployment_defaults, defaulted}
+use Rattle.definitions.proofs.FoundMembers.{with_found}
 use Rattle.definitions.specs.Reading.{empty}
 use Rattle.definitions.specs.Values.{with_member, with_default}
 use Rattle.definitions.proofs.NoFloatsRead.{has_float-with_member}

@@ -1,8 +1,10 @@
 //! Templates of Pods.
-ghost use Rattle.std.specs.Prelude.{◌≡◌, codes, option_map};
+ghost use Rattle.std.specs.Prelude.{◌≡◌, List, codes, option_map};
 ghost use Rattle.serde_json.specs.View.{view};
-ghost use Rattle.definitions.specs.Checks.{in_spec, is_selected, is_template};
+ghost use Rattle.definitions.specs.Checks.{in_spec, is_selected};
 ghost use Rattle.definitions.specs.Metadata.{metadata};
+ghost use Rattle.definitions.specs.SelectorValues.{passes};
+ghost use Rattle.definitions.specs.Selectors.{Requirement};
 
 use crate::labels::are_labels;
 use crate::parts::in_spec;
@@ -25,7 +27,8 @@ fn is_selected(selector: &Selector, template: &Value) -> bool
 
 /// Whether an object's template is there, has valid labels, and is matched by the object's selector.
 pub(crate) fn is_template(object: &Object, selector: &Option<Selector>) -> bool
-    ensures { result ≡ is_template selector.now (in_spec (codes "template") object.now.value) }
+    ensures { result
+        ≡ passes (λ (rs : List Requirement). passes (is_selected rs) (in_spec (codes "template") object.now.value)) selector.now }
 {
     match selector {
         Some(selector) => match in_spec(object, "template") {

@@ -1,15 +1,15 @@
 -- What an object has to be before it is stored: eleven checks in their order, and the first field that fails its check.
-use Rattle.std.specs.Prelude.{ℕ, suc, ℤ, pos, int_le, List, [], ◌∷◌, Bool, true, false, not, ◌&&◌, ◌||◌, ◌==◌, ◌^◌, length, nat_le, nat_lt, Option, Some, None, Result, Ok, Err, option_and_then, is_some, codes, if◌then◌else◌}
+use Rattle.std.specs.Prelude.{ℕ, suc, ℤ, pos, int_le, List, [], ◌∷◌, ◌++◌, Bool, true, false, not, ◌&&◌, ◌||◌, ◌==◌, ◌^◌, length, nat_le, nat_lt, Option, Some, None, option_and_then, option_map, unwrap_or, is_some, codes, if◌then◌else◌}
 use Rattle.std.specs.List.{list_all, list_any, before_first, after_first}
+use Rattle.std.specs.Option.{option_or}
+use Rattle.std.specs.Result.{result_ok}
 use Rattle.std.specs.Str.{bytes_eq}
 use Rattle.std.specs.Str.Parse.{digits_value}
-use Rattle.serde_json.specs.Data.{Data, Items, no_items, item, Members, no_members, member}
-use Rattle.serde_json.specs.Find.{get, as_str, as_number, as_i64}
-use Rattle.serde_json.specs.Written.{compact_text}
+use Rattle.definitions.specs.Objects.Values.{Data, Items, no_items, item, Members, no_members, member, get, as_str, as_number, as_i64, compact_text}
 use Rattle.definitions.specs.declared.amounts.Amount.{Amount}
 use Rattle.definitions.specs.declared.amounts.Amount.TheVariants.{Pods, Percent}
 use Rattle.definitions.specs.declared.kinds.Kind.{Kind}
-use Rattle.definitions.specs.declared.kinds.Kind.TheVariants.{ConfigMap, Pod, ReplicaSet, Deployment}
+use Rattle.definitions.specs.declared.kinds.Kind.TheVariants.{ReplicaSet, Deployment}
 use Rattle.definitions.specs.declared.refusals.Field.{Field}
 use Rattle.definitions.specs.declared.refusals.Field.TheVariants as field
 use Rattle.definitions.specs.Texts.Labels.{is_label_key, is_label_value, labels_of}
@@ -17,7 +17,7 @@ use Rattle.definitions.specs.Objects.Metadata.{Owner, metadata, metadata_text, n
 use Rattle.definitions.specs.Texts.Moments.{is_digit}
 use Rattle.definitions.specs.Texts.Names.{is_letter_or_digit, is_subdomain}
 use Rattle.definitions.specs.Texts.Selectors.{Requirement, meets_all}
-use Rattle.definitions.specs.Objects.SelectorValues.{Flaw, all_items, items_in, passes, said_by_value}
+use Rattle.definitions.specs.Objects.SelectorValues.{all_items, items_in, passes, said_by_value}
 use Rattle.definitions.specs.Texts.Uids.{uid_text, uid_revision, cluster_word}
 
 -- the test of what is there; what is absent passes
@@ -31,20 +31,12 @@ in_spec k d = option_and_then (get k) (get (codes "spec") d)
 abbrev pub in_status : List ℕ → Data → Option Data
 in_status k d = option_and_then (get k) (get (codes "status") d)
 
--- ---- metadata.name (Kubernetes, Object Names and IDs)
-
 abbrev pub generate_name : Data → Option (List ℕ)
 generate_name d = metadata_text (codes "generateName") d
 
-abbrev pub is_name : Option (List ℕ) → Data → Bool
-is_name None d = is_some (generate_name d)
-is_name (Some n) d = is_subdomain n
-
--- a DNS subdomain, or none where one is made
+-- metadata.name: a DNS subdomain, or none where one is made (Kubernetes, Object Names and IDs)
 abbrev pub is_name_valid : Data → Bool
-is_name_valid d = is_name (name d) d
-
--- ---- metadata.generateName (Kubernetes API Conventions, Metadata)
+is_name_valid d = unwrap_or (option_map is_subdomain (name d)) (is_some (generate_name d))
 
 -- lower-case letters, digits, `-` and `.`
 abbrev pub is_generating_byte : ℕ → Bool
@@ -53,11 +45,9 @@ is_generating_byte b = is_letter_or_digit b || (b == 45) || (b == 46)
 abbrev pub generates : List ℕ → List ℕ → Bool
 generates made g = list_all is_generating_byte g && is_subdomain made
 
--- where no name is given, one was made of it that is valid
+-- metadata.generateName: where no name is given, one was made of it that is valid (Kubernetes API Conventions, Metadata)
 abbrev pub is_generate_name_valid : List ℕ → Data → Bool
 is_generate_name_valid made d = is_some (name d) || passes_if_there (generates made) (generate_name d)
-
--- ---- metadata.labels (Kubernetes, Labels and Selectors, Syntax and character set)
 
 abbrev pub text_is : (List ℕ → Bool) → Data → Bool
 text_is test d = passes test (as_str d)
@@ -66,10 +56,9 @@ abbrev pub are_labels : Members → Bool
 are_labels no_members = true
 are_labels (member k d ms) = is_label_key k && text_is is_label_value d && are_labels ms
 
+-- metadata.labels (Kubernetes, Labels and Selectors, Syntax and character set)
 abbrev pub are_labels_valid : Data → Bool
 are_labels_valid d = are_labels (labels_of d)
-
--- ---- metadata.finalizers (Kubernetes, Finalizers)
 
 abbrev pub finalizers : Data → Items
 finalizers d = items_in (metadata (codes "finalizers") d)
@@ -78,6 +67,7 @@ finalizers d = items_in (metadata (codes "finalizers") d)
 abbrev pub is_finalizer : List ℕ → Bool
 is_finalizer t = nat_lt 0 (length t) && nat_le (length t) 253
 
+-- metadata.finalizers (Kubernetes, Finalizers)
 abbrev pub are_finalizers_valid : Data → Bool
 are_finalizers_valid d = all_items (text_is is_finalizer) (finalizers d)
 
@@ -88,8 +78,6 @@ has_text (item d ds) t = text_is (bytes_eq t) d || has_text ds t
 -- none is added to an object that is being deleted
 abbrev pub adds_no_finalizer : Data → Data → Bool
 adds_no_finalizer stored d = not (is_being_deleted stored) || all_items (text_is (has_text (finalizers stored))) (finalizers d)
-
--- ---- metadata.ownerReferences (Kubernetes, Owners and Dependents)
 
 abbrev pub is_not_empty : List ℕ → Bool
 is_not_empty t = nat_lt 0 (length t)
@@ -109,15 +97,14 @@ abbrev pub controllers : List Owner → ℕ
 controllers [] = 0
 controllers (o ∷ os) = if o.is_controller then suc (controllers os) else controllers os
 
--- each owner is named whole, and at most one is a controller
+-- metadata.ownerReferences: each owner is named whole, and at most one is a controller (Kubernetes, Owners and Dependents)
 abbrev pub are_owners_valid : ℕ → Data → Bool
 are_owners_valid present d = list_all (is_owner present) (owners d) && nat_le (controllers (owners d)) 1
-
--- ---- spec.replicas, spec.revisionHistoryLimit and the counts of a status: none is below 0
 
 abbrev pub whole_of : Option Data → Option ℤ
 whole_of found = option_and_then as_i64 (option_and_then as_number found)
 
+-- spec.replicas, spec.revisionHistoryLimit and the counts of a status: none is below 0
 abbrev pub is_not_negative : Option Data → Bool
 is_not_negative found = passes_if_there (int_le (pos 0)) (whole_of found)
 
@@ -129,50 +116,35 @@ is_history_limit_valid d = is_not_negative (in_spec (codes "revisionHistoryLimit
 
 -- the counts of the kinds that have some
 abbrev pub counts : Kind → List (List ℕ)
-counts ConfigMap = []
-counts Pod = []
 counts ReplicaSet = codes "replicas" ∷ codes "readyReplicas" ∷ codes "availableReplicas" ∷ []
 counts Deployment = codes "replicas" ∷ codes "readyReplicas" ∷ codes "availableReplicas" ∷ codes "updatedReplicas" ∷ codes "unavailableReplicas" ∷ codes "collisionCount" ∷ []
+counts k = []
 
 abbrev pub is_status_valid : Kind → Data → Bool
 is_status_valid k d = list_all (λ count. is_not_negative (in_status count d)) (counts k)
 
--- ---- spec.selector (Kubernetes API reference, LabelSelector)
-
-abbrev pub if_ok : Result (List Requirement) Flaw → Option (List Requirement)
-if_ok (Err why) = None
-if_ok (Ok rs) = Some rs
-
--- what the selector says, where it is there and is one
+-- what spec.selector says, where it is there and is one (Kubernetes API reference, LabelSelector)
 abbrev pub requirements : Data → Option (List Requirement)
-requirements d = option_and_then (λ s. if_ok (said_by_value s)) (in_spec (codes "selector") d)
+requirements d = option_and_then (λ s. result_ok (said_by_value s)) (in_spec (codes "selector") d)
 
--- one that says something
+-- spec.selector: one that says something
 abbrev pub is_selector_valid : Data → Bool
 is_selector_valid d = passes (λ (rs : List Requirement). nat_lt 0 (length rs)) (requirements d)
 
+-- the text of what is there
 abbrev pub text_of : Option Data → List ℕ
-text_of None = []
-text_of (Some d) = compact_text d
+text_of found = unwrap_or (option_map compact_text found) []
 
--- it stays as it was stored
+-- spec.selector stays as it was stored
 abbrev pub is_selector_kept : Data → Data → Bool
 is_selector_kept stored d = bytes_eq (text_of (in_spec (codes "selector") stored)) (text_of (in_spec (codes "selector") d))
-
--- ---- spec.template (Kubernetes API reference, PodTemplateSpec)
 
 abbrev pub is_selected : List Requirement → Data → Bool
 is_selected rs t = are_labels_valid t && meets_all rs (labels_of t)
 
-abbrev pub is_template : Option (List Requirement) → Option Data → Bool
-is_template None template = false
-is_template (Some rs) template = passes (is_selected rs) template
-
--- there, with valid labels that the selector matches
+-- spec.template: there, with valid labels that the selector matches (Kubernetes API reference, PodTemplateSpec)
 abbrev pub is_template_valid : Data → Bool
-is_template_valid d = is_template (requirements d) (in_spec (codes "template") d)
-
--- ---- spec.strategy (Kubernetes API reference, DeploymentStrategy)
+is_template_valid d = passes (λ rs. passes (is_selected rs) (in_spec (codes "template") d)) (requirements d)
 
 abbrev pub is_percent_sign : ℕ → Bool
 is_percent_sign b = b == 37
@@ -190,12 +162,8 @@ percentage t = if is_percentage t then Some (Percent (digits_value 10 (before_fi
 abbrev pub pods : ℤ → Option Amount
 pods z = if int_le (pos 0) z && int_le z (pos 2147483647) then Some (Pods z) else None
 
-abbrev pub or_else : Option Amount → Option Amount → Option Amount
-or_else None b = b
-or_else (Some a) b = Some a
-
 abbrev pub amount : Data → Option Amount
-amount d = or_else (option_and_then pods (whole_of (Some d))) (option_and_then percentage (as_str d))
+amount d = option_or (option_and_then pods (whole_of (Some d))) (option_and_then percentage (as_str d))
 
 abbrev pub is_zero : Amount → Bool
 is_zero (Pods z) = int_le z (pos 0)
@@ -208,9 +176,8 @@ is_at_most_all (Percent n) = nat_le n 100
 
 -- something may go on: not both are 0
 abbrev pub are_amounts : Option Amount → Option Amount → Bool
-are_amounts None unavailable = false
-are_amounts (Some surge) None = false
 are_amounts (Some surge) (Some unavailable) = is_at_most_all unavailable && not (is_zero surge && is_zero unavailable)
+are_amounts surge unavailable = false
 
 abbrev pub is_rolling : Data → Bool
 is_rolling d = are_amounts (option_and_then amount (get (codes "maxSurge") d)) (option_and_then amount (get (codes "maxUnavailable") d))
@@ -223,37 +190,30 @@ is_strategy_of d t =
 abbrev pub is_strategy : Data → Bool
 is_strategy d = passes (is_strategy_of d) (text_at (codes "type") d)
 
--- `RollingUpdate` with its amounts, or `Recreate` without any
+-- spec.strategy: `RollingUpdate` with its amounts, or `Recreate` without any (Kubernetes API reference, DeploymentStrategy)
 abbrev pub is_strategy_valid : Data → Bool
 is_strategy_valid d = passes is_strategy (in_spec (codes "strategy") d)
 
--- ---- the checks in their order
-
+-- whether a field passes
 abbrev pub Check : Type 0
 Check = Bool × Field
 
+-- the first field that does not
 abbrev pub first_fault : List Check → Option Field
 first_fault [] = None
 first_fault (c ∷ cs) = if c.0 then first_fault cs else Some c.1
 
+-- those of the spec of a kind that keeps up a number of pods
+abbrev pub replica_checks : Bool → Data → List Check
+replica_checks is_kept d = (are_replicas_valid d, field.Replicas) ∷ (is_selector_valid d && is_kept, field.Selector) ∷ (is_template_valid d, field.Template) ∷ []
+
 -- those of the spec and the status, by kind
 abbrev pub checks_of : Kind → Bool → Data → List Check
-checks_of ConfigMap is_kept d = []
-checks_of Pod is_kept d = []
-checks_of ReplicaSet is_kept d =
-    (are_replicas_valid d, field.Replicas)
-    ∷ (is_selector_valid d && is_kept, field.Selector)
-    ∷ (is_template_valid d, field.Template)
-    ∷ (is_status_valid ReplicaSet d, field.Status)
-    ∷ []
+checks_of ReplicaSet is_kept d = replica_checks is_kept d ++ (is_status_valid ReplicaSet d, field.Status) ∷ []
 checks_of Deployment is_kept d =
-    (are_replicas_valid d, field.Replicas)
-    ∷ (is_selector_valid d && is_kept, field.Selector)
-    ∷ (is_template_valid d, field.Template)
-    ∷ (is_strategy_valid d, field.Strategy)
-    ∷ (is_history_limit_valid d, field.RevisionHistoryLimit)
-    ∷ (is_status_valid Deployment d, field.Status)
-    ∷ []
+    replica_checks is_kept d
+    ++ (is_strategy_valid d, field.Strategy) ∷ (is_history_limit_valid d, field.RevisionHistoryLimit) ∷ (is_status_valid Deployment d, field.Status) ∷ []
+checks_of k is_kept d = []
 
 -- and those of the metadata before them
 abbrev pub checks : Kind → List ℕ → ℕ → Bool → Bool → Data → List Check

@@ -1,25 +1,19 @@
 -- What is filled in where it is absent, before an object is checked and stored (Kubernetes API reference, ReplicaSetSpec and DeploymentSpec).
-use Rattle.std.specs.Prelude.{ℕ, List, Bool, Option, Some, None, codes, if◌then◌else◌}
+use Rattle.std.specs.Prelude.{ℕ, List, Bool, option_map, unwrap_or, codes, if◌then◌else◌}
 use Rattle.std.specs.Str.{bytes_eq}
-use Rattle.serde_json.specs.Data.{Data, number, unsigned, string}
-use Rattle.serde_json.specs.Find.{get}
+use Rattle.definitions.specs.Objects.Values.{Data, number, unsigned, string, get, with_member, with_default}
 use Rattle.definitions.specs.declared.kinds.Kind.{Kind}
-use Rattle.definitions.specs.declared.kinds.Kind.TheVariants.{ConfigMap, Pod, ReplicaSet, Deployment}
+use Rattle.definitions.specs.declared.kinds.Kind.TheVariants.{ReplicaSet, Deployment}
 use Rattle.definitions.specs.Objects.Metadata.{text_at}
 use Rattle.definitions.specs.Objects.Reading.{empty}
 use Rattle.definitions.specs.Objects.SelectorValues.{passes}
-use Rattle.definitions.specs.Objects.Values.{with_member, with_default}
 
 abbrev pub whole : ℕ → Data
 whole n = number (unsigned n)
 
-abbrev pub with_found : List ℕ → (Data → Data) → Option Data → Data → Data
-with_found k change None d = d
-with_found k change (Some e) d = with_member k (change e) d
-
 -- the value with its member changed, where it has it
 abbrev pub with_changed : List ℕ → (Data → Data) → Data → Data
-with_changed k change d = with_found k change (get k d) d
+with_changed k change d = unwrap_or (option_map (λ e. with_member k (change e) d) (get k d)) d
 
 abbrev pub rolling_defaults : Data → Data
 rolling_defaults d = with_default (codes "maxUnavailable") (string (codes "25%")) (with_default (codes "maxSurge") (string (codes "25%")) d)
@@ -45,7 +39,6 @@ deployment_defaults d =
 
 -- an object of a kind with what its spec leaves out
 abbrev pub defaulted : Kind → Data → Data
-defaulted ConfigMap d = d
-defaulted Pod d = d
 defaulted ReplicaSet d = with_changed (codes "spec") replica_set_defaults d
 defaulted Deployment d = with_changed (codes "spec") deployment_defaults d
+defaulted k d = d

@@ -1,9 +1,7 @@
 -- What an object's metadata says (Kubernetes API Conventions, Metadata).
 use Rattle.std.specs.Prelude.{ℕ, List, [], Bool, true, false, not, Option, Some, None, is_some, option_and_then, unwrap_or, codes, decimal, ◌∷◌}
 use Rattle.std.specs.Str.{bytes_eq}
-use Rattle.serde_json.specs.Data.{Data, string, object, Members, put, Items, no_items, item}
-use Rattle.serde_json.specs.Find.{get, get_member, as_str, as_bool, as_array}
-use Rattle.definitions.specs.Objects.Values.{members_of, inner_of}
+use Rattle.definitions.specs.Objects.Values.{Data, string, object, Members, put, Items, no_items, item, get, get_member, as_str, as_bool, as_array, members_of, inner_of}
 
 -- the members of an object's metadata
 abbrev pub metadata_of : Data → Members
@@ -38,18 +36,17 @@ uid d = metadata_text (codes "uid") d
 abbrev pub version : Data → Option (List ℕ)
 version d = metadata_text (codes "resourceVersion") d
 
--- whether a text is named, and is another than this one
-abbrev pub is_other : Option (List ℕ) → List ℕ → Bool
-is_other None t = false
-is_other (Some s) t = not (bytes_eq s t)
-
 -- whether a text is named, and the object has another one, or none
 abbrev pub differs : Option (List ℕ) → Option (List ℕ) → Bool
-differs None held = false
+differs None stored = false
 differs (Some s) None = true
 differs (Some s) (Some t) = not (bytes_eq s t)
 
--- (Kubernetes, Finalizers)
+-- whether a text is named, and is another than this one
+abbrev pub is_other : Option (List ℕ) → List ℕ → Bool
+is_other named t = differs named (Some t)
+
+-- whether deletionTimestamp is set (Kubernetes, Finalizers)
 abbrev pub is_being_deleted : Data → Bool
 is_being_deleted d = is_some (metadata_text (codes "deletionTimestamp") d)
 

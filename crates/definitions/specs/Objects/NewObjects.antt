@@ -1,6 +1,6 @@
 -- What a create stores.
 use Rattle.std.specs.Prelude.{ℕ, List, Option, Some, None, codes, if◌then◌else◌}
-use Rattle.serde_json.specs.Data.{Data, string, object, Members, no_members, member, put}
+use Rattle.definitions.specs.Objects.Values.{Data, string, object, Members, no_members, member, put, members_of, without}
 use Rattle.definitions.specs.declared.kinds.Kind.{Kind}
 use Rattle.definitions.specs.declared.kinds.Kind.TheVariants.{ConfigMap, Pod, ReplicaSet, Deployment}
 use Rattle.definitions.specs.Objects.Defaults.{whole}
@@ -8,7 +8,6 @@ use Rattle.definitions.specs.Texts.Kinds.{has_generation}
 use Rattle.definitions.specs.Objects.Metadata.{metadata_of, at_revision}
 use Rattle.definitions.specs.Objects.Reading.{empty}
 use Rattle.definitions.specs.Texts.Uids.{uid_text, cluster_word}
-use Rattle.definitions.specs.Objects.Values.{members_of, without}
 
 -- the status of a new object, of a kind that has one (Kubernetes API Conventions, Spec and Status)
 abbrev pub first_status : Kind → Option Data

@@ -1,9 +1,6 @@
 -- Reading an object: what is wanted of it, and what is left out of it and filled in.
-use Rattle.std.specs.Prelude.{◌≡◌, ℕ, ℤ, List, Bool, true, false, not, nat_le, Result, Ok, Err, ◌&&◌, ◌||◌, ◌==◌, length, if◌then◌else◌, bytes_eq, int_le, is_some, option_map, unwrap_or, codes}
-use Rattle.serde_json.specs.Data.{Num, Data, null, boolean, number, string, array, object, Items, no_items, item, Members, no_members, member, put, depth}
-use Rattle.serde_json.specs.Find.{as_object, as_i64}
-use Rattle.serde_json.specs.Written.{has_float}
-use Rattle.serde_json.specs.Events.{items_len, members_len}
+use Rattle.std.specs.Prelude.{ℤ, Bool, true, false, not, nat_le, Result, Ok, Err, ◌&&◌, ◌||◌, ◌==◌, length, if◌then◌else◌, bytes_eq, int_le, is_some, option_map, unwrap_or, codes}
+use Rattle.definitions.specs.Objects.Values.{Num, Data, boolean, number, string, array, object, Items, no_items, item, Members, no_members, member, depth, as_object, as_i64, has_float, items_len, members_len, with_default, is_null}
 use Rattle.definitions.specs.declared.kinds.Kind.{Kind}
 use Rattle.definitions.specs.declared.kinds.Kind.TheVariants.{Pod}
 use Rattle.definitions.specs.declared.refusals.Part.{Part}
@@ -15,7 +12,6 @@ use Rattle.definitions.specs.declared.schemas.Schema.TheVariants.{Root, Unknown}
 use Rattle.definitions.specs.declared.schemas.Member.{Member}
 use Rattle.definitions.specs.Texts.Kinds.{api_version, kind_text}
 use Rattle.definitions.specs.Objects.Schemas.{member_at}
-use Rattle.definitions.specs.Objects.Values.{with_default, is_null}
 
 -- from the first number to the second
 abbrev pub is_within : ℤ → ℤ → Num → Bool
@@ -44,12 +40,10 @@ abbrev mutual
   members_fit p (member k d ms) = (is_null d || fits (member_at p k).shape d) && members_fit p ms
 
 abbrev pub is_empty : Data → Bool
-is_empty null = false
-is_empty (boolean b) = false
-is_empty (number n) = false
 is_empty (string s) = length s == 0
 is_empty (array ds) = items_len ds == 0
 is_empty (object ms) = members_len ms == 0
+is_empty d = false
 
 -- a member that is null counts as absent, and where its table says so an empty one too
 abbrev pub is_absent : Member → Data → Bool
@@ -67,12 +61,9 @@ item_of s = Anything
 -- without the members, at every depth, that count as absent
 abbrev mutual
   pub tidied : Shape → Data → Data
-  tidied s null = null
-  tidied s (boolean b) = boolean b
-  tidied s (number n) = number n
-  tidied s (string t) = string t
   tidied s (array ds) = array (tidied_items (item_of s) ds)
   tidied s (object ms) = object (tidied_members (schema_of s) ms)
+  tidied s d = d
 
   pub tidied_items : Shape → Items → Items
   tidied_items s no_items = no_items
@@ -87,37 +78,22 @@ abbrev mutual
 abbrev pub empty : Data
 empty = object no_members
 
--- what is filled in where it is absent: what the object is, its metadata, and a Pod's spec (Kubernetes API Conventions, Types)
+-- a Pod has a spec
 abbrev pub with_spec : Kind → Data → Data
 with_spec Pod d = with_default (codes "spec") empty d
 with_spec k d = d
 
+-- what is filled in where it is absent: what the object is, its metadata, and a Pod's spec (Kubernetes API Conventions, Types)
 abbrev pub filled : Kind → Data → Data
 filled k d =
     with_default (codes "apiVersion") (string (api_version k)) (with_default (codes "kind") (string (kind_text k)) (with_spec k (with_default (codes "metadata") empty d)))
 
--- what an object of a kind has to be
-abbrev pub whole_of : Kind → Shape
-whole_of k = Object (Root k)
-
--- the deepest nesting that is read, each object or list counting one
-abbrev pub depth_limit : ℕ
-depth_limit = 100
-
--- a JSON object without fractions or exponents, nested no deeper than is read
+-- a JSON object without fractions or exponents, nested no deeper than 100, each object or list counting one
 abbrev pub is_body : Data → Bool
-is_body d = is_some (as_object d) && not (has_float d) && nat_le (depth d) depth_limit
+is_body d = is_some (as_object d) && not (has_float d) && nat_le (depth d) 100
 
 -- a value read as an object of a kind, or the part of the request that is at fault
 abbrev pub reading : Kind → Data → Result Data Part
 reading k d =
     if not (is_body d) then Err part.Body
-    else (if fits (whole_of k) d then Ok (filled k (tidied (whole_of k) d)) else Err part.Object)
-
--- what reads as itself: it is a body, fits, and has nothing to be left out or filled in
-abbrev pub IsSettled : Kind → Data → Type 0
-IsSettled k d = (is_body d ≡ true) × (fits (whole_of k) d ≡ true) × (filled k (tidied (whole_of k) d) ≡ d)
-
--- the members with one more, unless it counts as absent
-abbrev pub with_if_there : Member → List ℕ → Data → Members → Members
-with_if_there m k d ms = if is_absent m d then ms else put k d ms
+    else (if fits (Object (Root k)) d then Ok (filled k (tidied (Object (Root k)) d)) else Err part.Object)

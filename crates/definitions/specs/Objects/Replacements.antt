@@ -1,56 +1,45 @@
--- What an update, or an update of the status, stores in the place of what is held.
+-- What an update, or an update of the status, stores in the place of the stored object.
 use Rattle.std.specs.Prelude.{ℕ, ◌+◌, List, [], ◌∷◌, Bool, false, not, ◌&&◌, ◌||◌, Option, Some, None, is_some, codes, nat_lt, option_and_then, unwrap_or, if◌then◌else◌}
+use Rattle.std.specs.Option.{option_or}
 use Rattle.std.specs.Str.{bytes_eq}
-use Rattle.serde_json.specs.Data.{Data, object, Members, put}
-use Rattle.serde_json.specs.Find.{get, get_member, as_number, as_u64}
-use Rattle.serde_json.specs.Written.{compact_text}
+use Rattle.definitions.specs.Objects.Values.{Data, object, Members, put, get, get_member, as_number, as_u64, compact_text, members_of, without}
 use Rattle.definitions.specs.declared.kinds.Kind.{Kind}
-use Rattle.definitions.specs.declared.kinds.Kind.TheVariants.{ConfigMap, Pod, ReplicaSet, Deployment}
+use Rattle.definitions.specs.declared.kinds.Kind.TheVariants.{ReplicaSet, Deployment}
 use Rattle.definitions.specs.Objects.Checks.{text_of}
 use Rattle.definitions.specs.Objects.Defaults.{whole}
 use Rattle.definitions.specs.Texts.Kinds.{has_status}
 use Rattle.definitions.specs.Objects.Metadata.{metadata, metadata_of, with_metadata, is_being_deleted, at_revision}
 use Rattle.definitions.specs.Objects.NewObjects.{first_status, with_status}
 use Rattle.definitions.specs.Texts.Revisions.{greatest_revision}
-use Rattle.definitions.specs.Objects.Values.{members_of, without}
 
 abbrev pub as_held : List ℕ → Option Data → Members → Members
 as_held k None ms = without k ms
 as_held k (Some d) ms = put k d ms
 
--- these members as they are held, whatever else stands there
+-- these members as they are stored, whatever else stands there
 abbrev pub keeping : List (List ℕ) → Members → Members → Members
 keeping [] held ms = ms
 keeping (k ∷ ks) held ms = keeping ks held (as_held k (get_member k held) ms)
 
 -- what an update leaves as it is, whatever the body says (Kubernetes API Conventions, Metadata)
 abbrev pub kept : List (List ℕ)
-kept =
-    codes "namespace"
-    ∷ codes "uid"
-    ∷ codes "creationTimestamp"
-    ∷ codes "deletionTimestamp"
-    ∷ codes "generation"
-    ∷ codes "resourceVersion"
-    ∷ []
+kept = codes "namespace" ∷ codes "uid" ∷ codes "creationTimestamp" ∷ codes "deletionTimestamp" ∷ codes "generation" ∷ codes "resourceVersion" ∷ []
 
 -- and of the other members the status, of a kind that has one (Kubernetes API Conventions, Spec and Status)
 abbrev pub kept_of : Kind → List (List ℕ)
 kept_of k = if has_status k then codes "status" ∷ [] else []
 
--- an object as a body says it, in the place of the one that is held, and so far at its version
+-- an object as a body says it, in the place of the stored one, and so far at its version
 abbrev pub in_place : Kind → Data → Data → Data
 in_place k held o = with_metadata (keeping kept (metadata_of held) (metadata_of o)) (object (keeping (kept_of k) (members_of held) (members_of o)))
 
--- the object that is held, with the status that a body says, or the first one where it says none, and so far at its version
+-- the status that a body says, or the first one where it says none
 abbrev pub said_status : Kind → Option Data → Option Data
-said_status k None = first_status k
-said_status k (Some s) = Some s
+said_status k said = option_or said (first_status k)
 
+-- the stored object with the status that a body says, and so far at its version
 abbrev pub with_said_status : Kind → Data → Data → Data
 with_said_status k held o = object (with_status (said_status k (get (codes "status") o)) (members_of held))
-
--- ---- what has changed
 
 -- whether two objects at one version say the same
 abbrev pub says_the_same : Data → Data → Bool
@@ -65,12 +54,11 @@ has_new_spec held d = has_changed (get (codes "spec") held) (get (codes "spec") 
 abbrev pub has_new_annotations : Data → Data → Bool
 has_new_annotations held d = has_changed (metadata (codes "annotations") held) (metadata (codes "annotations") d)
 
--- whether it is a new generation (Kubernetes API Conventions, Metadata)
+-- whether an object in the place of a stored one is a new generation (Kubernetes API Conventions, Metadata)
 abbrev pub is_new_generation : Kind → Data → Data → Bool
-is_new_generation ConfigMap held d = false
-is_new_generation Pod held d = false
 is_new_generation ReplicaSet held d = has_new_spec held d
 is_new_generation Deployment held d = has_new_spec held d || has_new_annotations held d
+is_new_generation k held d = false
 
 -- which generation an object is
 abbrev pub generation : Data → ℕ
@@ -83,10 +71,10 @@ next_generation n = if nat_lt n greatest_revision then n + 1 else n
 abbrev pub with_next_generation : Bool → Data → Members → Members
 with_next_generation is_new held meta = if is_new then put (codes "generation") (whole (next_generation (generation held))) meta else meta
 
--- what stands in the place of the one that is held, at a revision
+-- what is stored in the place of the stored object, at a revision
 abbrev pub updated : Kind → ℕ → Data → Data → Data
 updated k r held d = at_revision r (with_next_generation (is_new_generation k held d) held (metadata_of d)) d
 
--- whether nothing keeps it any more: it is being deleted and no finalizer is left (Kubernetes, Finalizers)
+-- whether the last finalizer is removed: deletionTimestamp is set, and no finalizer is left (Kubernetes, Finalizers)
 abbrev pub is_let_go : Data → Data → Bool
 is_let_go held d = is_being_deleted held && not (is_some (metadata (codes "finalizers") d))

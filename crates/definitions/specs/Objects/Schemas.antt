@@ -30,156 +30,54 @@ count = Whole (negsuc 2147483647) (pos 2147483647)
 abbrev pub generation : Shape
 generation = Whole (pos 0) (pos 9007199254740991)
 
-abbrev pub metadata : Table
-metadata =
-    (codes "name", unless_empty Text)
-    ∷ (codes "generateName", unless_empty Text)
-    ∷ (codes "namespace", unless_empty Text)
-    ∷ (codes "uid", unless_empty Text)
-    ∷ (codes "resourceVersion", unless_empty Text)
-    ∷ (codes "creationTimestamp", unless_empty Text)
-    ∷ (codes "deletionTimestamp", unless_empty Text)
-    ∷ (codes "labels", unless_empty (Object Texts))
-    ∷ (codes "annotations", unless_empty (Object Texts))
-    ∷ (codes "finalizers", unless_empty TextList)
-    ∷ (codes "ownerReferences", unless_empty (ListOf OwnerReference))
-    ∷ []
-
-abbrev pub owner_reference : Table
-owner_reference =
-    (codes "controller", kept Truth)
-    ∷ (codes "blockOwnerDeletion", kept Truth)
-    ∷ []
-
-abbrev pub pod_spec : Table
-pod_spec =
-    (codes "nodeName", kept Text)
-    ∷ []
-
-abbrev pub pod_status : Table
-pod_status =
-    (codes "phase", kept Text)
-    ∷ (codes "conditions", kept (ListOf Condition))
-    ∷ []
-
-abbrev pub condition : Table
-condition =
-    (codes "type", kept Text)
-    ∷ (codes "status", kept Text)
-    ∷ []
-
-abbrev pub replica_set_spec : Table
-replica_set_spec =
-    (codes "replicas", kept count)
-    ∷ (codes "selector", kept (Object Selector))
-    ∷ (codes "template", kept (Object Template))
-    ∷ []
-
-abbrev pub replica_set_status : Table
-replica_set_status =
-    (codes "replicas", kept count)
-    ∷ (codes "readyReplicas", kept count)
-    ∷ (codes "availableReplicas", kept count)
-    ∷ (codes "observedGeneration", kept generation)
-    ∷ []
-
-abbrev pub deployment_spec : Table
-deployment_spec =
-    (codes "replicas", kept count)
-    ∷ (codes "revisionHistoryLimit", kept count)
-    ∷ (codes "paused", kept Truth)
-    ∷ (codes "selector", kept (Object Selector))
-    ∷ (codes "template", kept (Object Template))
-    ∷ (codes "strategy", kept (Object Strategy))
-    ∷ []
-
-abbrev pub deployment_status : Table
-deployment_status =
-    (codes "replicas", kept count)
-    ∷ (codes "readyReplicas", kept count)
-    ∷ (codes "availableReplicas", kept count)
-    ∷ (codes "updatedReplicas", kept count)
-    ∷ (codes "unavailableReplicas", kept count)
-    ∷ (codes "collisionCount", kept count)
-    ∷ (codes "observedGeneration", kept generation)
-    ∷ []
-
-abbrev pub selector : Table
-selector =
-    (codes "matchLabels", kept (Object Texts))
-    ∷ (codes "matchExpressions", kept (ListOf Expression))
-    ∷ []
-
-abbrev pub expression : Table
-expression =
-    (codes "key", kept Text)
-    ∷ (codes "operator", kept Text)
-    ∷ (codes "values", kept TextList)
-    ∷ []
-
-abbrev pub template : Table
-template =
-    (codes "metadata", kept (Object TemplateMetadata))
-    ∷ (codes "spec", kept (Object Unknown))
-    ∷ []
-
-abbrev pub template_metadata : Table
-template_metadata =
-    (codes "labels", unless_empty (Object Texts))
-    ∷ (codes "annotations", unless_empty (Object Texts))
-    ∷ (codes "finalizers", unless_empty TextList)
-    ∷ []
-
-abbrev pub strategy : Table
-strategy =
-    (codes "type", kept Text)
-    ∷ (codes "rollingUpdate", kept (Object Unknown))
-    ∷ []
-
--- what a delete may say; a dry run is not served, and `orphanDependents` is no more (Kubernetes API reference, DeleteOptions)
-abbrev pub delete_options : Table
-delete_options =
-    (codes "preconditions", kept (Object Preconditions))
-    ∷ (codes "propagationPolicy", kept Text)
-    ∷ (codes "dryRun", kept Nothing)
-    ∷ (codes "orphanDependents", kept Nothing)
-    ∷ []
-
-abbrev pub preconditions : Table
-preconditions =
-    (codes "uid", kept Text)
-    ∷ (codes "resourceVersion", kept Text)
-    ∷ []
-
--- what each object has
+-- the members that the objects of every kind have
 abbrev pub any_kind : Kind → Table
 any_kind k = (codes "apiVersion", kept (VersionOf k)) ∷ (codes "kind", kept (NameOf k)) ∷ (codes "metadata", kept (Object Metadata)) ∷ []
 
--- the table of each kind
-abbrev pub root : Kind → Table
-root ConfigMap = any_kind ConfigMap ++ (codes "data", kept (Object Texts)) ∷ []
-root Pod = any_kind Pod ++ (codes "spec", kept (Object PodSpec)) ∷ (codes "status", kept (Object PodStatus)) ∷ []
-root ReplicaSet = any_kind ReplicaSet ++ (codes "spec", kept (Object ReplicaSetSpec)) ∷ (codes "status", kept (Object ReplicaSetStatus)) ∷ []
-root Deployment = any_kind Deployment ++ (codes "spec", kept (Object DeploymentSpec)) ∷ (codes "status", kept (Object DeploymentStatus)) ∷ []
+-- the members that an object with this schema is known to have
+abbrev pub table : Schema → Table
+table (Root ConfigMap) = any_kind ConfigMap ++ (codes "data", kept (Object Texts)) ∷ []
+table (Root Pod) = any_kind Pod ++ (codes "spec", kept (Object PodSpec)) ∷ (codes "status", kept (Object PodStatus)) ∷ []
+table (Root ReplicaSet) = any_kind ReplicaSet ++ (codes "spec", kept (Object ReplicaSetSpec)) ∷ (codes "status", kept (Object ReplicaSetStatus)) ∷ []
+table (Root Deployment) = any_kind Deployment ++ (codes "spec", kept (Object DeploymentSpec)) ∷ (codes "status", kept (Object DeploymentStatus)) ∷ []
+table Metadata =
+    (codes "name", unless_empty Text) ∷ (codes "generateName", unless_empty Text) ∷ (codes "namespace", unless_empty Text)
+    ∷ (codes "uid", unless_empty Text) ∷ (codes "resourceVersion", unless_empty Text)
+    ∷ (codes "creationTimestamp", unless_empty Text) ∷ (codes "deletionTimestamp", unless_empty Text)
+    ∷ (codes "labels", unless_empty (Object Texts)) ∷ (codes "annotations", unless_empty (Object Texts))
+    ∷ (codes "finalizers", unless_empty TextList) ∷ (codes "ownerReferences", unless_empty (ListOf OwnerReference)) ∷ []
+table OwnerReference = (codes "controller", kept Truth) ∷ (codes "blockOwnerDeletion", kept Truth) ∷ []
+table PodSpec = (codes "nodeName", kept Text) ∷ []
+table PodStatus = (codes "phase", kept Text) ∷ (codes "conditions", kept (ListOf Condition)) ∷ []
+table Condition = (codes "type", kept Text) ∷ (codes "status", kept Text) ∷ []
+table ReplicaSetSpec =
+    (codes "replicas", kept count) ∷ (codes "selector", kept (Object Selector)) ∷ (codes "template", kept (Object Template)) ∷ []
+table ReplicaSetStatus =
+    (codes "replicas", kept count) ∷ (codes "readyReplicas", kept count) ∷ (codes "availableReplicas", kept count)
+    ∷ (codes "observedGeneration", kept generation) ∷ []
+table DeploymentSpec =
+    (codes "replicas", kept count) ∷ (codes "revisionHistoryLimit", kept count) ∷ (codes "paused", kept Truth)
+    ∷ (codes "selector", kept (Object Selector)) ∷ (codes "template", kept (Object Template)) ∷ (codes "strategy", kept (Object Strategy)) ∷ []
+table DeploymentStatus =
+    (codes "replicas", kept count) ∷ (codes "readyReplicas", kept count) ∷ (codes "availableReplicas", kept count)
+    ∷ (codes "updatedReplicas", kept count) ∷ (codes "unavailableReplicas", kept count) ∷ (codes "collisionCount", kept count)
+    ∷ (codes "observedGeneration", kept generation) ∷ []
+table Selector = (codes "matchLabels", kept (Object Texts)) ∷ (codes "matchExpressions", kept (ListOf Expression)) ∷ []
+table Expression = (codes "key", kept Text) ∷ (codes "operator", kept Text) ∷ (codes "values", kept TextList) ∷ []
+table Template = (codes "metadata", kept (Object TemplateMetadata)) ∷ (codes "spec", kept (Object Unknown)) ∷ []
+table TemplateMetadata =
+    (codes "labels", unless_empty (Object Texts)) ∷ (codes "annotations", unless_empty (Object Texts)) ∷ (codes "finalizers", unless_empty TextList) ∷ []
+table Strategy = (codes "type", kept Text) ∷ (codes "rollingUpdate", kept (Object Unknown)) ∷ []
+-- what a delete may say; a dry run is not served, and `orphanDependents` is no more (Kubernetes API reference, DeleteOptions)
+table DeleteOptions =
+    (codes "preconditions", kept (Object Preconditions)) ∷ (codes "propagationPolicy", kept Text)
+    ∷ (codes "dryRun", kept Nothing) ∷ (codes "orphanDependents", kept Nothing) ∷ []
+table Preconditions = (codes "uid", kept Text) ∷ (codes "resourceVersion", kept Text) ∷ []
+-- of these no member is known by its name
+table Texts = []
+table Unknown = []
 
 -- what is said of a member of an object with this schema
 abbrev pub member_at : Schema → List ℕ → Member
-member_at (Root k) = described (root k)
-member_at Texts = λ _. kept Text
-member_at Metadata = described metadata
-member_at OwnerReference = described owner_reference
-member_at PodSpec = described pod_spec
-member_at PodStatus = described pod_status
-member_at Condition = described condition
-member_at ReplicaSetSpec = described replica_set_spec
-member_at ReplicaSetStatus = described replica_set_status
-member_at DeploymentSpec = described deployment_spec
-member_at DeploymentStatus = described deployment_status
-member_at Selector = described selector
-member_at Expression = described expression
-member_at Template = described template
-member_at TemplateMetadata = described template_metadata
-member_at Strategy = described strategy
-member_at DeleteOptions = described delete_options
-member_at Preconditions = described preconditions
-member_at Unknown = described []
+member_at Texts k = kept Text
+member_at s k = described (table s) k

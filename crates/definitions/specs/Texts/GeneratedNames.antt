@@ -1,5 +1,5 @@
 -- The names that the server makes of `generateName` (Kubernetes API Concepts, Generated values).
-use Rattle.std.specs.Prelude.{ℕ, zero, suc, ◌+◌, ◌/◌, ◌%◌, List, [], ◌∷◌, ◌++◌, Bool, take, slice_get, unwrap_or, Option, Some, None, codes, if◌then◌else◌}
+use Rattle.std.specs.Prelude.{ℕ, zero, suc, ◌+◌, ◌/◌, ◌%◌, List, [], ◌∷◌, ◌++◌, Bool, take, slice_get, unwrap_or, find, Option, Some, None, codes}
 use Rattle.std.specs.Str.Lossy.{utf8_lossy}
 
 -- the letters and digits of what is added, which spell no words (Kubernetes API machinery, SafeEncodeString)
@@ -11,26 +11,18 @@ abbrev pub suffix : ℕ → ℕ → List ℕ
 suffix zero x = []
 suffix (suc n) x = suffix n (x / 27) ++ unwrap_or (slice_get alphabet (x % 27)) 0 ∷ []
 
--- what is given, cut to 58 bytes
-abbrev pub base : List ℕ → List ℕ
-base given = utf8_lossy (take 58 given)
-
--- five digits of a number after what is given
+-- what is given, cut to 58 bytes, with five digits of a number behind it
 abbrev pub made : List ℕ → ℕ → List ℕ
-made given n = base given ++ suffix 5 n
+made given n = utf8_lossy (take 58 given) ++ suffix 5 n
 
 -- the names of so many numbers, from one on
 abbrev pub tried : List ℕ → ℕ → ℕ → List (List ℕ)
 tried given zero n = []
 tried given (suc tries) n = made given n ∷ tried given tries (n + 1)
 
-abbrev pub first_where : (List ℕ → Bool) → List (List ℕ) → Option (List ℕ)
-first_where test [] = None
-first_where test (name ∷ names) = if test name then Some name else first_where test names
-
 -- of eight names, the first that is free; where none is, the first of them
 abbrev pub made_name : (List ℕ → Bool) → List ℕ → ℕ → List ℕ
-made_name is_free given revision = unwrap_or (first_where is_free (tried given 8 revision)) (made given revision)
+made_name is_free given revision = unwrap_or (find is_free (tried given 8 revision)) (made given revision)
 
 -- the name that is given, or one that is made, or none
 abbrev pub name_from : (List ℕ → Bool) → Option (List ℕ) → Option (List ℕ) → ℕ → List ℕ

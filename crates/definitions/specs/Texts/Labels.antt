@@ -1,11 +1,9 @@
 -- The labels of an object: their keys and values.
 use Rattle.std.specs.Prelude.{ℕ, ◌==◌, ◌-◌, ◌&&◌, ◌||◌, List, Bool, codes, length, slice_index, nat_le, nat_lt, if◌then◌else◌, Option, option_and_then}
 use Rattle.std.specs.List.{list_all, list_any, before_first, after_first}
-use Rattle.serde_json.specs.Data.{Data, Members}
-use Rattle.serde_json.specs.Find.{get_member, as_str}
+use Rattle.definitions.specs.Objects.Values.{Data, Members, get_member, as_str, inner_of}
 use Rattle.definitions.specs.Objects.Metadata.{metadata}
 use Rattle.definitions.specs.Texts.Names.{is_letter_or_digit, is_subdomain}
-use Rattle.definitions.specs.Objects.Values.{inner_of}
 
 -- a letter of either case, or a digit
 abbrev pub is_alphanumeric : ℕ → Bool

@@ -1,7 +1,9 @@
 use Rattle.std.proofs.Common.{◌≡◌, true, false, ap, ◌∙◌, rules}
 use Rattle.serde_json.specs.View.{view}
 use Rattle.serde_json.specs.Written.{has_float}
-use Rattle.definitions.specs.Reading.{is_body, filled, tidied, whole_of}
+use Rattle.definitions.specs.declared.schemas.Shape.TheVariants.{Object}
+use Rattle.definitions.specs.declared.schemas.Schema.TheVariants.{Root}
+use Rattle.definitions.specs.Reading.{is_body, filled, tidied}
 use Rattle.definitions.proofs.NoFloatsRead.{has_float-tidied, has_float-filled, has_float-is_body}
 use Rattle.meta.proofs.Tidied.{is_object, is_object-read}
 use Rattle.meta.proofs.reading.read.Goals as goal
@@ -16,5 +18,5 @@ returns-clause-whole c =
 pub returns-clause-object : goal.returns-clause-object
 returns-clause-object c =
     let body : is_body (view c.args.value) ≡ true = search rules in
-    let same : view c.in_ok-fill.field-0 ≡ filled c.args.kind (tidied (whole_of c.args.kind) (view c.args.value)) = c.in_ok-fill.ensures ∙ ap (filled c.args.kind) c.in_ok-tidy_value.ensures in
-    ap is_object same ∙ is_object-read c.args.kind (whole_of c.args.kind) (view c.args.value) body
+    let same : view c.in_ok-fill.field-0 ≡ filled c.args.kind (tidied (Object (Root c.args.kind)) (view c.args.value)) = c.in_ok-fill.ensures ∙ ap (filled c.args.kind) c.in_ok-tidy_value.ensures in
+    ap is_object same ∙ is_object-read c.args.kind (Object (Root c.args.kind)) (view c.args.value) body

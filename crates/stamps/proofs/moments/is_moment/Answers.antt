@@ -1,6 +1,6 @@
-use Rattle.std.proofs.Common.{◌≡◌, true, codes, refl, rules}
+use Rattle.std.proofs.Common.{◌≡◌, ℕ, length, true, codes, refl, rules, arith}
 use Rattle.definitions.specs.Moments.{has_form}
-use Rattle.stamps.proofs.Forms.{digits-at}
+use Rattle.stamps.proofs.Forms.{digits-at, has_form-length}
 use Rattle.stamps.proofs.moments.is_moment.Goals as goal
 
 pub number-year-requires-clause-digits : goal.number-year-requires-clause-digits
@@ -32,3 +32,21 @@ pub number-second-requires-clause-digits : goal.number-second-requires-clause-di
 number-second-requires-clause-digits c =
     let h : has_form (codes "0000-00-00T00:00:00Z") c.args.text.now ≡ true = search rules in
     digits-at 2 17 (codes "0000-00-00T00:00:00Z") c.args.text.now refl h
+
+pub slice_bounds-number-end-3 : goal.slice_bounds-number-end-3
+slice_bounds-number-end-3 c =
+    let h : has_form (codes "0000-00-00T00:00:00Z") c.args.text.now ≡ true = search rules in
+    let long : length c.args.text.now ≡ 20 = has_form-length (codes "0000-00-00T00:00:00Z") c.args.text.now h in
+    omega (arith, long)
+
+pub slice_bounds-number-end-5 : goal.slice_bounds-number-end-5
+slice_bounds-number-end-5 c =
+    let h : has_form (codes "0000-00-00T00:00:00Z") c.args.text.now ≡ true = search rules in
+    let long : length c.args.text.now ≡ 20 = has_form-length (codes "0000-00-00T00:00:00Z") c.args.text.now h in
+    omega (arith, long)
+
+pub slice_bounds-number-end-6 : goal.slice_bounds-number-end-6
+slice_bounds-number-end-6 c =
+    let h : has_form (codes "0000-00-00T00:00:00Z") c.args.text.now ≡ true = search rules in
+    let long : length c.args.text.now ≡ 20 = has_form-length (codes "0000-00-00T00:00:00Z") c.args.text.now h in
+    omega (arith, long)

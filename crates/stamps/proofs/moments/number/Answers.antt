@@ -1,5 +1,5 @@
 use Rattle.std.proofs.Common.{sym, ◌∙◌, arith}
-use Rattle.stamps.proofs.Forms.{digit-value, number_from-drop, power-more, power-small}
+use Rattle.stamps.proofs.Forms.{digit-value, value-drop, power-more, power-small}
 use Rattle.stamps.proofs.moments.number.Goals as goal
 
 pub overflow_mul-number : goal.overflow_mul-number
@@ -12,6 +12,6 @@ pub loop-digit-preserved : goal.loop-digit-preserved
 loop-digit-preserved c =
     let digit = digit-value c.args.digits.now c.loop-digit.digit-index c.requires.digits c.loop-digit-test.true in
     record {
-      spelled = sym (number_from-drop c.loop-digit.number c.loop-digit.digit-index c.args.digits.now c.loop-digit-test.true) ∙ c.loop-digit.invariant.spelled;
+      spelled = sym (value-drop c.loop-digit.number c.loop-digit.digit-index c.args.digits.now c.loop-digit-test.true digit) ∙ c.loop-digit.invariant.spelled;
       small = omega (arith, digit.1, power-more c.loop-digit.digit-index);
     }
