@@ -7,10 +7,9 @@ use Rattle.std.specs.Str.{IsUtf8}
 use Rattle.std.specs.Str.Lossy.{utf8_lossy}
 use Rattle.definitions.specs.declared.methods.Method.{Method}
 use Rattle.definitions.specs.declared.refusals.Part.{Part}
-use Rattle.definitions.specs.RequestQueries.{Query}
 use Rattle.definitions.specs.Refusals.{Refusal, bad_request, method_not_allowed, length_required, too_large, unsupported_media_type}
 use Rattle.definitions.specs.declared.refusals.Part.TheVariants as part
-use Rattle.definitions.specs.Targets.{Route, route, path_of, names_namespace, is_allowed, query_for, longest_body, is_too_long, asked, asked_at, decoded, read_request}
+use Rattle.definitions.specs.Targets.{Query, Route, route, path_of, names_namespace, is_allowed, query_for, longest_body, is_too_long, asked, asked_at, decoded, read_request}
 use Rattle.connections.specs.Heads.{Head, head_of, stated_length, method_named}
 use Rattle.connections.specs.Checks.{Opening, length_or_none, body_checked, query_checked, method_checked, path_checked, length_checked}
 use Rattle.connections.specs.Connections.{asked_with_body}

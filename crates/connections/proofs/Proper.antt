@@ -4,9 +4,8 @@ use Rattle.std.proofs.Math.Bool.{and-false}
 use Rattle.definitions.specs.declared.methods.Method.{Method}
 use Rattle.definitions.specs.declared.refusals.Part.{Part}
 use Rattle.definitions.specs.declared.refusals.Part.TheVariants as part
-use Rattle.definitions.specs.RequestQueries.{Query}
 use Rattle.definitions.specs.Refusals.{Refusal, bad_request, method_not_allowed, too_large}
-use Rattle.definitions.specs.Targets.{Route, Asked, route, path_of, names_namespace, is_allowed, query_for, longest_body, is_too_long, asked, asked_with, asked_at}
+use Rattle.definitions.specs.Targets.{Query, Route, Asked, route, path_of, names_namespace, is_allowed, query_for, longest_body, is_too_long, asked, asked_with, asked_at}
 use Rattle.connections.specs.Heads.{Head, head_of, stated_length, has_transfer_coding, media_type, needs_length, takes_type, method_named}
 use Rattle.connections.specs.Checks.{Opening, is_watch, length_or_none, body_checked, query_checked, method_checked, path_checked, length_checked, checked}
 use Rattle.connections.specs.Connections.{asked_after}

@@ -4,9 +4,8 @@ use Rattle.definitions.specs.declared.methods.Method.{Method}
 use Rattle.definitions.specs.declared.refusals.Part.{Part}
 use Rattle.definitions.specs.declared.refusals.Part.TheVariants as part
 use Rattle.definitions.specs.Collections as collections
-use Rattle.definitions.specs.RequestQueries.{Query}
 use Rattle.definitions.specs.Refusals.{Refusal, bad_request, no_such_path, method_not_allowed, length_required, too_large, unsupported_media_type}
-use Rattle.definitions.specs.Targets.{Route, route, path_of, names_namespace, is_allowed, query_for, longest_body}
+use Rattle.definitions.specs.Targets.{Query, Route, route, path_of, names_namespace, is_allowed, query_for, longest_body}
 use Rattle.connections.specs.Heads.{Head, stated_length, has_transfer_coding, media_type, needs_length, takes_type, method_named}
 
 -- a method, a route, a query, and how many bytes the body has

@@ -5,6 +5,7 @@ pub mod JsonMembers
 pub mod NoFloatsRead
 pub mod OnLiterals
 pub mod PageLists
+pub mod PathForms
 pub mod PutLaws
 pub mod RevisionTexts
 pub mod TokenTexts

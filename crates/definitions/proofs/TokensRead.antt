@@ -15,8 +15,7 @@ use Rattle.serde_json.specs.Written.{compact_text}
 use Rattle.serde_json.proofs.OnLiterals.{serde_json_on_literals}
 use Rattle.definitions.specs.Metadata.{text_at}
 use Rattle.definitions.specs.Moments.{is_digit}
-use Rattle.definitions.specs.PageTokens.{Token, token_data, token_text, IsToken}
-use Rattle.definitions.specs.ReadTokens.{token_with, token_said, if_written, decoded, token_of}
+use Rattle.definitions.specs.PageTokens.{Token, token_data, token_text, IsToken, token_with, token_said, if_written, token_of}
 use Rattle.definitions.specs.Revisions.{revision_of, is_revision, greatest_revision}
 use Rattle.definitions.specs.Values.{data_of}
 use Rattle.definitions.proofs.RevisionTexts.{revision_is}
@@ -24,7 +23,7 @@ use Rattle.definitions.proofs.TokenTexts.{token_decodes, data_read_back, IsUtf8-
 
 -- ---- a token's text is read as that token
 
-decoded_is : (text : List ℕ) (t : Token) → IsToken text t → decoded text ≡ Some (compact_text (token_data t))
+decoded_is : (text : List ℕ) (t : Token) → IsToken text t → result_ok (decode_of url_safe_no_pad text) ≡ Some (compact_text (token_data t))
 decoded_is text t is = ap result_ok (ap (decode_of url_safe_no_pad) is.written ∙ token_decodes t is.revision is.name is.namespace)
 
 data_is : (text : List ℕ) (t : Token) → IsToken text t → data_of (compact_text (token_data t)) ≡ Some (token_data t)
@@ -111,4 +110,4 @@ from_data text None t h = cc h
 from_data text (Some d) t h = from_members text (text_at (codes "name") d) (text_at (codes "namespace") d) (text_at (codes "rv") d) t h
 
 pub read_is_token : (text : List ℕ) (t : Token) → token_of text ≡ Some t → IsToken text t
-read_is_token text t h = from_data text (option_and_then data_of (decoded text)) t h
+read_is_token text t h = from_data text (option_and_then data_of (result_ok (decode_of url_safe_no_pad text))) t h

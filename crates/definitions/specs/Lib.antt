@@ -30,10 +30,8 @@ pub use Rattle.definitions.specs.State.Windows
 pub use Rattle.definitions.specs.State.Pages
 pub use Rattle.definitions.specs.Requests.Queries
 pub use Rattle.definitions.specs.Requests.PageTokens
-pub use Rattle.definitions.specs.Requests.ReadTokens
 pub use Rattle.definitions.specs.Requests.Collections
 pub use Rattle.definitions.specs.Requests.DeleteOptions
-pub use Rattle.definitions.specs.Requests.RequestQueries
 pub use Rattle.definitions.specs.Requests.Targets
 pub use Rattle.definitions.specs.Answers.Refusals
 pub use Rattle.definitions.specs.Answers.Deletion

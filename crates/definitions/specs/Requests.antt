@@ -1,8 +1,6 @@
 -- What a client asks for, by a method, a target and a body.
 pub mod Queries
 pub mod PageTokens
-pub mod ReadTokens
 pub mod Collections
 pub mod DeleteOptions
-pub mod RequestQueries
 pub mod Targets

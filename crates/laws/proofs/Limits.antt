@@ -12,8 +12,7 @@ use Rattle.definitions.specs.declared.methods.Method.{Method}
 use Rattle.definitions.specs.declared.refusals.Part.{Part}
 use Rattle.definitions.specs.declared.refusals.Part.TheVariants as part
 use Rattle.definitions.specs.Refusals.{Refusal, bad_request, method_not_allowed, too_large}
-use Rattle.definitions.specs.RequestQueries.{Query}
-use Rattle.definitions.specs.Targets.{Asked, Route, asked, asked_at, asked_with, decoded, is_allowed, is_too_long, names_namespace, path_of, query_for, route}
+use Rattle.definitions.specs.Targets.{Query, Asked, Route, asked, asked_at, asked_with, decoded, is_allowed, is_too_long, names_namespace, path_of, query_for, route}
 use Rattle.definitions.specs.Verbs.{new_name, write_of, overflows, most_objects, is_past_greatest}
 use Rattle.laws.proofs.Cases.{of_accept_at}
 use Rattle.laws.proofs.Past.{writes-append, whole}

@@ -2,13 +2,15 @@
 use Rattle.std.proofs.Common.{◌≡◌, ℕ, List, [], ◌∷◌, ◌++◌, ◌==◌, ◌&&◌, Bool, true, false, cond, Option, Some, None, option_and_then, option_map, codes, bytes_eq, eqb-true, append_assoc, refl, sym, ap, ◌∙◌}
 use Rattle.std.proofs.lemmas.Slice.Eq.{bytes_eq-Decides}
 use Rattle.std.specs.List.{onto_first, list_all}
+use Rattle.std.specs.Option.{option_map_or}
 use Rattle.definitions.specs.declared.kinds.Kind.{Kind}
 use Rattle.definitions.specs.declared.kinds.Kind.TheVariants.{ConfigMap, Pod, ReplicaSet, Deployment}
 use Rattle.definitions.specs.declared.kinds.Group.{Group}
 use Rattle.definitions.specs.declared.kinds.Group.TheVariants.{Core, Apps}
 use Rattle.definitions.specs.Kinds.{group, plural, has_status, kind_named}
 use Rattle.laws.specs.HistoryLaws.{PathsAreRoutes}
-use Rattle.definitions.specs.Targets.{Route, collection, object_at, status_of, prefix, collection_text, path_text, segments, Form, all_form, namespace_form, object_form, status_form, below, below_apps, below_either, after_words, by_prefix, is_filled, form_of, with_status, route_of}
+use Rattle.definitions.specs.Targets.{Route, collection, object_at, status_of, prefix, collection_text, path_text, segments, after_words, is_filled, with_status}
+use Rattle.definitions.proofs.PathForms.{Form, all_form, namespace_form, object_form, status_form, below, by_prefix, form_of, route_of, by_form}
 
 -- the parts with a `/` before each
 rest_text : List (List ℕ) → List ℕ
@@ -105,13 +107,13 @@ form-text g (word ∷ n ∷ p ∷ o ∷ last ∷ []) f is =
     ∙ ap form_text one.1
 form-text g (a ∷ b ∷ c ∷ d ∷ e ∷ more ∷ rest) f is = cc
 
-core_at : (o : Option (List (List ℕ))) (segs : List (List ℕ)) (f : Form) → after_words (codes "api" ∷ codes "v1" ∷ []) segs ≡ o → below_either segs o ≡ Some f
+core_at : (o : Option (List (List ℕ))) (segs : List (List ℕ)) (f : Form) → after_words (codes "api" ∷ codes "v1" ∷ []) segs ≡ o → option_map_or (below Core) o (option_and_then (below Apps) (after_words (codes "apis" ∷ codes "apps" ∷ codes "v1" ∷ []) segs)) ≡ Some f
     → 47 ∷ joined segs ≡ form_text f
 unfolding joined rest_text
 core_at (Some rest) segs f at is = ap (λ s. 47 ∷ joined s) (begins (codes "api" ∷ codes "v1" ∷ []) segs rest at) ∙ form-text Core rest f is
 core_at None segs f at is = apps_at (after_words (codes "apis" ∷ codes "apps" ∷ codes "v1" ∷ []) segs) refl is
   where
-    apps_at : (o : Option (List (List ℕ))) → after_words (codes "apis" ∷ codes "apps" ∷ codes "v1" ∷ []) segs ≡ o → below_apps o ≡ Some f → 47 ∷ joined segs ≡ form_text f
+    apps_at : (o : Option (List (List ℕ))) → after_words (codes "apis" ∷ codes "apps" ∷ codes "v1" ∷ []) segs ≡ o → option_and_then (below Apps) o ≡ Some f → 47 ∷ joined segs ≡ form_text f
     apps_at (Some rest) at is = ap (λ s. 47 ∷ joined s) (begins (codes "apis" ∷ codes "apps" ∷ codes "v1" ∷ []) segs rest at) ∙ form-text Apps rest f is
     apps_at None at is = cc
 
@@ -194,4 +196,4 @@ through t None r at is = cc
 through t (Some f) r at is = route-text f r is ∙ sym (joined-form (segments t) f at) ∙ joined-parts t
 
 pub routes : PathsAreRoutes
-routes t r is = through t (form_of (segments t)) r refl is
+routes t r is = through t (form_of (segments t)) r refl (sym (by_form t) ∙ is)

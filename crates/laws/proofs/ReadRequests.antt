@@ -1,5 +1,5 @@
 -- What is read of a request is well asked, moments are times, and what has happened after some lines is reached.
-use Rattle.std.proofs.Common.{◌≡◌, ◌≤◌, ◌<◌, nat_lt, ◌==◌, ◌&&◌, ℕ, List, [], ◌∷◌, ◌++◌, length, Bool, true, false, cond, not, nat_le, codes, bytes_eq, IfSome, Option, Some, None, Result, Ok, Err, refl, sym, subst, arith}
+use Rattle.std.proofs.Common.{◌≡◌, ◌≤◌, ◌<◌, nat_lt, ◌==◌, ◌&&◌, ℕ, List, [], ◌∷◌, ◌++◌, length, Bool, true, false, cond, not, nat_le, codes, bytes_eq, IfSome, Option, Some, None, Result, Ok, Err, ok_or, refl, sym, subst, arith}
 use Rattle.std.proofs.lemmas.Bool.{ltb-true, lt-ltb}
 use Rattle.std.proofs.lemmas.Bool.Decides.{nat_tests}
 use Rattle.json.proofs.Printed.Utf8.{are_ascii, IsUtf8-are_ascii}
@@ -17,12 +17,11 @@ use Rattle.definitions.specs.Moments.{has_form, is_day, is_digit, is_moment}
 use Rattle.definitions.specs.Names.{Name}
 use Rattle.definitions.specs.Collections as collections
 use Rattle.definitions.specs.Collections.{Read}
-use Rattle.definitions.specs.RequestQueries.{Query}
 use Rattle.definitions.specs.Revisions.{revision_of}
 use Rattle.definitions.specs.Values.{data_of}
 use Rattle.definitions.specs.Refusals.{Refusal, bad_request, method_not_allowed, too_large}
-use Rattle.definitions.specs.Targets.{Asked, request, list, watch, Route, collection, object_at, status_of, route, path_of, decoded, query_for, names_namespace, is_allowed, is_too_long, body_or, body_of, asks_with, with_body, delete_options, deletes_with, read_as, selected, asked, asked_with, asked_at, read_request}
-use Rattle.definitions.specs.Verbs.{Request, create_object, update_object, update_status, patch_object, accept, with_write, write_of}
+use Rattle.definitions.specs.Targets.{Query, Asked, request, list, watch, Route, collection, object_at, status_of, route, path_of, decoded, query_for, names_namespace, is_allowed, is_too_long, body_of, asks_with, delete_options, read_as, selected, asked, asked_with, asked_at, read_request}
+use Rattle.definitions.specs.Verbs.{Request, create_object, update_object, update_status, patch_object, delete_object, accept, with_write, write_of}
 use Rattle.definitions.specs.DeleteOptions.{Options}
 use Rattle.definitions.specs.History as history
 use Rattle.laws.proofs.Parsed.{parsed_data}
@@ -45,7 +44,7 @@ abbrev IsOrderedBody : Result Data Refusal → Type 0
 IsOrderedBody (Err f) = Unit {0}
 IsOrderedBody (Ok d) = IsParsed d
 
-ordered_or : (o : Option Data) → IfSome o IsParsed → IsOrderedBody (body_or o)
+ordered_or : (o : Option Data) → IfSome o IsParsed → IsOrderedBody (ok_or o (bad_request part.Body))
 ordered_or None h = tt
 ordered_or (Some d) h = h
 
@@ -56,10 +55,10 @@ well_with : (f : Data → Request) (r : Result Data Refusal) → ((d : Data) →
 well_with f (Err e) each h = tt
 well_with f (Ok d) each h = each d h
 
-well_body : (f : Data → Request) (text : List ℕ) → ((d : Data) → IsParsed d → IsAsked (f d)) → AsksWell (with_body f text)
+well_body : (f : Data → Request) (text : List ℕ) → ((d : Data) → IsParsed d → IsAsked (f d)) → AsksWell (asks_with f (body_of text))
 well_body f text each = well_with f (body_of text) each (ordered_body text)
 
-well_deletes : (n : Name) (r : Result Options Refusal) → AsksWell (deletes_with n r)
+well_deletes : (n : Name) (r : Result Options Refusal) → AsksWell (asks_with (delete_object n) r)
 well_deletes n (Err e) = tt
 well_deletes n (Ok o) = tt
 

@@ -14,7 +14,7 @@ use Rattle.definitions.specs.History.{History, View, Members, writes, present, l
 use Rattle.definitions.specs.Lists.{list_outcome, page_body}
 use Rattle.definitions.specs.Metadata.{metadata_text}
 use Rattle.definitions.specs.Reached.{IsReached}
-use Rattle.definitions.specs.ReadTokens.{token_of}
+use Rattle.definitions.specs.PageTokens.{token_of}
 use Rattle.controllers.specs.Reflectors.{list_of}
 use Rattle.definitions.specs.Verbs.{as_item, list_body, list_objects, accept, outcome_code, outcome_body}
 use Rattle.laws.specs.SentLaws.{whole, listed_at}

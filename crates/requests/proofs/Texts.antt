@@ -1,5 +1,5 @@
 -- Bytes that are text, and bytes that are none.
-use Rattle.std.proofs.Common.{◌≡◌, ◌==◌, ◌&&◌, ◌||◌, not, ℕ, zero, suc, ◌<◌, ◌≤◌, List, [], ◌∷◌, Bool, true, false, Option, Some, None, Ok, Err, length, nat_le, nat_lt, slice_index, if◌then◌else◌, refl, ap, ◌∙◌, arith, IsUtf8, IsAscii}
+use Rattle.std.proofs.Common.{◌≡◌, ◌==◌, ◌&&◌, ◌||◌, not, ℕ, zero, suc, ◌<◌, ◌≤◌, List, [], ◌∷◌, Bool, true, false, Option, Some, None, Ok, Err, ok_or, length, nat_le, nat_lt, slice_index, if◌then◌else◌, refl, ap, ◌∙◌, arith, IsUtf8, IsAscii}
 use Rattle.std.specs.List.{list_all}
 use Rattle.std.specs.Str.Parse.{digits_value}
 use Rattle.std.specs.Str.{is_utf8}
@@ -13,7 +13,7 @@ use Rattle.definitions.specs.Moments.{is_digit}
 use Rattle.definitions.specs.Revisions.{revision_of}
 use Rattle.stamps.proofs.Forms.{both}
 use Rattle.definitions.specs.Refusals.{bad_request}
-use Rattle.definitions.specs.Targets.{decoded, body_of, body_or}
+use Rattle.definitions.specs.Targets.{decoded, body_of}
 
 is_not : (b : Bool) → (b ≡ true → ⊥) → b ≡ false
 is_not true h = absurd (h refl)
@@ -30,10 +30,10 @@ decoded-other t h = ap (λ v. if v then t else utf8_lossy t) (other t h)
 
 -- a body is what its data say
 pub body_of-read : (t : List ℕ) (d : Data) → IsUtf8 t → read t ≡ Some d → body_of t ≡ Ok d
-body_of-read t d u h = ap body_or (ap (λ v. if v then read t else None) (is_utf8-from_IsUtf8 t u) ∙ h)
+body_of-read t d u h = ap (λ o. ok_or o (bad_request part.Body)) (ap (λ v. if v then read t else None) (is_utf8-from_IsUtf8 t u) ∙ h)
 
 pub body_of-unread : (t : List ℕ) → (IsUtf8 t → read t ≡ None) → body_of t ≡ Err (bad_request part.Body)
-body_of-unread t h = ap body_or (by (is_utf8 t) (λ e. h (IsUtf8-from_is_utf8 t e)))
+body_of-unread t h = ap (λ o. ok_or o (bad_request part.Body)) (by (is_utf8 t) (λ e. h (IsUtf8-from_is_utf8 t e)))
   where
     by : (v : Bool) → (v ≡ true → read t ≡ None) → (if v then read t else None) ≡ None
     by true g = g refl

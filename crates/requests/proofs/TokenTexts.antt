@@ -3,8 +3,7 @@ use Rattle.std.proofs.Common.{◌≡◌, ℕ, List, Option, Some, None, Err, inl
 use Rattle.definitions.specs.declared.refusals.Part.{Part}
 use Rattle.definitions.specs.declared.refusals.Part.TheVariants as part
 use Rattle.definitions.specs.Collections.{going_on}
-use Rattle.definitions.specs.PageTokens.{Token}
-use Rattle.definitions.specs.ReadTokens.{token_of}
+use Rattle.definitions.specs.PageTokens.{Token, token_of}
 use Rattle.definitions.proofs.TokensRead.{read_is_token}
 use Rattle.meta.specs.declared.faults.Fault.{Fault}
 use Rattle.meta.specs.declared.faults.Fault.TheVariants as fault

@@ -1,8 +1,6 @@
 -- What the code's results say of queries.
-use Rattle.std.specs.Prelude.{◌≡◌, ℕ, List, Option, Some, None, Result, Ok, Err}
-use Rattle.definitions.specs.Collections.{refused_of_collections, unwatched_names}
-use Rattle.definitions.specs.Queries.{refused_names}
-use Rattle.definitions.specs.RequestQueries as queries
+use Rattle.std.specs.Prelude.{◌≡◌, ℕ, List, [], ◌∷◌, codes, Option, Some, None, Result, Ok, Err}
+use Rattle.definitions.specs.Targets as targets
 use Rattle.requests.specs.Collected.{collection_seen}
 use Rattle.requests.specs.declared.faults.MemberFault.{MemberFault}
 use Rattle.requests.specs.declared.faults.MemberFault.TheVariants.{BadQuery, NoMemory}
@@ -11,13 +9,13 @@ use Rattle.requests.specs.declared.members.Names.TheVariants.{Refused, OfNoColle
 use Rattle.requests.specs.declared.query.Query.{Query}
 
 -- the query as the definitions say it
-abbrev pub query_seen : Query → queries.Query
+abbrev pub query_seen : Query → targets.Query
 query_seen q = record { collection = collection_seen q.collection; policy = q.policy }
 
 abbrev pub names_seen : Names → List (List ℕ)
-names_seen Refused = refused_names
-names_seen OfNoCollection = refused_of_collections
-names_seen OfNoWatch = unwatched_names
+names_seen Refused = codes "dryRun" ∷ []
+names_seen OfNoCollection = codes "sendInitialEvents" ∷ codes "dryRun" ∷ []
+names_seen OfNoWatch = codes "resourceVersionMatch" ∷ []
 
 -- the result is this, or that there is none; or memory ran out
 abbrev pub Reads : {A : Type 0} → Option A → Result A MemberFault → Type 0

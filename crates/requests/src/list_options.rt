@@ -1,12 +1,12 @@
 //! What the query of a list asks of it.
-ghost use Rattle.std.specs.Prelude.{◌≡◌, Some, codes, option_map};
+ghost use Rattle.std.specs.Prelude.{◌≡◌, ◌==◌, Some, codes, option_map, unwrap_or};
 ghost use Rattle.std.specs.Cow.{cow_str_bytes};
 ghost use Rattle.std.specs.List.{list_all};
 ghost use Rattle.form_urlencoded.specs.Form.{raw_pairs};
-ghost use Rattle.definitions.specs.Collections.{limit_of, match_of, list_at, names_no_other, going_on, by_token, list_options};
+ghost use Rattle.definitions.specs.Collections.{limit_of, match_of, list_at, going_on, by_token, list_options};
 ghost use Rattle.definitions.specs.Moments.{is_digit};
 ghost use Rattle.definitions.specs.Queries.{member};
-ghost use Rattle.definitions.specs.ReadTokens.{token_of};
+ghost use Rattle.definitions.specs.PageTokens.{token_of};
 ghost use Rattle.requests.specs.Collected.{Gives, list_seen};
 ghost use Rattle.requests.specs.Queried.{Reads};
 
@@ -115,7 +115,7 @@ fn list_at(limited: bool, matched: Match, version: Option<u64>) -> Option<At>
 
 /// A list that goes on after a token names no revision of its own: the token has it.
 fn names_no_other(version: Option<u64>) -> bool
-    ensures { result ≡ names_no_other version }
+    ensures { result ≡ (unwrap_or version 0 == 0) }
 {
     match version {
         None => true,

@@ -1,11 +1,11 @@
 //! Members of queries.
-ghost use Rattle.std.specs.Prelude.{◌≡◌, IfOk, codes, option_map};
+ghost use Rattle.std.specs.Prelude.{◌≡◌, IfOk, Some, codes, option_map};
 ghost use Rattle.std.specs.Cow.{cow_str_bytes};
 ghost use Rattle.std.specs.List.{list_any};
 ghost use Rattle.std.specs.Str.{bytes_eq};
 ghost use Rattle.form_urlencoded.specs.Form.{raw_pairs};
-ghost use Rattle.definitions.specs.Collections.{is_asked, refused_of_collections, unwatched_names, version_of};
-ghost use Rattle.definitions.specs.Queries.{has_any, member, is_true, or_empty, refused_names};
+ghost use Rattle.definitions.specs.Collections.{is_asked, version_of};
+ghost use Rattle.definitions.specs.Queries.{has_any, member, or_empty};
 ghost use Rattle.definitions.specs.SelectorFields.{said_of_fields};
 ghost use Rattle.definitions.specs.SelectorTexts.{said_by_text};
 ghost use Rattle.requests.specs.Queried.{Reads, names_seen};
@@ -46,19 +46,19 @@ impl Names {
 }
 
 fn is_refused(name: &str) -> bool
-    ensures { result ≡ list_any (bytes_eq name.now) refused_names }
+    ensures { result ≡ list_any (bytes_eq name.now) (names_seen Names.Refused) }
 {
     name == "dryRun"
 }
 
 fn is_of_no_collection(name: &str) -> bool
-    ensures { result ≡ list_any (bytes_eq name.now) refused_of_collections }
+    ensures { result ≡ list_any (bytes_eq name.now) (names_seen Names.OfNoCollection) }
 {
     matches!(name, "dryRun" | "sendInitialEvents")
 }
 
 fn is_of_no_watch(name: &str) -> bool
-    ensures { result ≡ list_any (bytes_eq name.now) unwatched_names }
+    ensures { result ≡ list_any (bytes_eq name.now) (names_seen Names.OfNoWatch) }
 {
     name == "resourceVersionMatch"
 }
@@ -94,7 +94,7 @@ pub(crate) fn member<'q>(
 }
 
 pub(crate) fn is_true(value: &str) -> bool
-    ensures { result ≡ is_true value.now }
+    ensures { result ≡ is_asked (Some value.now) }
 {
     value == "true" || value == "1"
 }

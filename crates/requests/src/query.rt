@@ -1,10 +1,11 @@
 //! Queries of targets.
 ghost use Rattle.std.specs.Prelude.{◌≡◌, IfOk, codes};
+ghost use Rattle.std.specs.Result.{result_map_both};
 ghost use Rattle.form_urlencoded.specs.Form.{raw_pairs};
 ghost use Rattle.definitions.specs.DeleteOptions.{policy_said};
+ghost use Rattle.definitions.specs.Collections.{collection_of};
 ghost use Rattle.definitions.specs.Queries.{query_of, member};
-ghost use Rattle.definitions.specs.RequestQueries.{collection_query, unless_refused, only_policy, delete_query, other_query};
-ghost use Rattle.definitions.specs.Targets.{query_for};
+ghost use Rattle.definitions.specs.Targets.{only_policy, query_for};
 ghost use Rattle.routes.specs.Seen.{route_seen};
 ghost use Rattle.requests.specs.Collected.{Gives};
 ghost use Rattle.requests.specs.Queried.{query_seen};
@@ -28,7 +29,7 @@ pub struct Query {
 
 /// The query of a list or a watch.
 fn collection_query(alloc: Global, query: &[u8]) -> Result<Query, QueryFault>
-    ensures { Gives query_seen (collection_query (raw_pairs query.now)) result }
+    ensures { Gives query_seen (result_map_both (λ c. record { collection = c; policy = PolicySaid.Nothing }) (λ p. p) (collection_of (raw_pairs query.now))) result }
 {
     let collection = read_collection(alloc, query)?;
     Ok(Query {
@@ -49,7 +50,7 @@ fn policy(alloc: Global, query: &[u8]) -> Result<PolicySaid, AllocError>
 
 /// A query of which nothing counts but what is said of a delete's policy.
 fn only_policy(alloc: Global, query: &[u8], policy: PolicySaid) -> Result<Query, QueryFault>
-    ensures { Gives query_seen (unless_refused (raw_pairs query.now) (only_policy policy)) result }
+    ensures { Gives query_seen (only_policy (raw_pairs query.now) policy) result }
 {
     if has_any(alloc, query, Names::Refused)? {
         return Err(QueryFault::BadQuery);
@@ -62,17 +63,10 @@ fn only_policy(alloc: Global, query: &[u8], policy: PolicySaid) -> Result<Query,
 
 /// The query of a delete.
 fn delete_query(alloc: Global, query: &[u8]) -> Result<Query, QueryFault>
-    ensures { Gives query_seen (delete_query (raw_pairs query.now)) result }
+    ensures { Gives query_seen (only_policy (raw_pairs query.now) (policy_said (member (codes "propagationPolicy") (raw_pairs query.now)))) result }
 {
     let said = policy(alloc, query)?;
     only_policy(alloc, query, said)
-}
-
-/// The query of any other request.
-fn other_query(alloc: Global, query: &[u8]) -> Result<Query, QueryFault>
-    ensures { Gives query_seen (other_query (raw_pairs query.now)) result }
-{
-    only_policy(alloc, query, PolicySaid::Nothing)
 }
 
 /// What stands after the first `?` of a target.
@@ -99,6 +93,6 @@ pub fn read_query(
     match (method, route) {
         (Method::Get, Target::Collection(_, _)) => collection_query(alloc, query),
         (Method::Delete, _) => delete_query(alloc, query),
-        _ => other_query(alloc, query),
+        _ => only_policy(alloc, query, PolicySaid::Nothing),
     }
 }

@@ -1,13 +1,15 @@
 -- The table's rows, and the forms that it finds.
-use Rattle.std.proofs.Common.{◌≡◌, ◌≢◌, ℕ, ◌+◌, ◌<◌, List, [], ◌∷◌, ◌++◌, Option, Some, None, MatchOption, Bool, true, false, cond, codes, refl, sym, ap, ◌∙◌, arith, subst, ◌&&◌, not, ◌==◌, nat_lt, if◌then◌else◌, true≢false}
+use Rattle.std.proofs.Common.{◌≡◌, ◌≢◌, ℕ, ◌+◌, ◌<◌, List, [], ◌∷◌, ◌++◌, Option, Some, None, option_and_then, MatchOption, Bool, true, false, cond, codes, refl, sym, ap, ◌∙◌, arith, subst, ◌&&◌, not, ◌==◌, nat_lt, if◌then◌else◌, true≢false}
 use Rattle.std.proofs.lemmas.Bool.Decides.{nat_tests}
 use Rattle.std.specs.List.{list_all}
+use Rattle.std.specs.Option.{option_map_or}
 use Rattle.matchit.proofs.OnLiterals.{matchit_on_literals}
 use Rattle.matchit.specs.Router.{RouteOf}
 use Rattle.matchit.specs.Seek.{same_text, or_else}
 use Rattle.routes.specs.Parts.{Part, word, any, tokens, rows, found, after_word, after_any}
 use Rattle.routes.specs.Table.{table, route_text}
-use Rattle.definitions.specs.Targets.{Form, all_form, namespace_form, object_form, status_form, below, form_of, by_prefix, after_words, below_apps, below_either, is_filled}
+use Rattle.definitions.specs.Targets.{after_words, is_filled}
+use Rattle.definitions.proofs.PathForms.{Form, all_form, namespace_form, object_form, status_form, below, form_of, by_prefix}
 use Rattle.definitions.specs.declared.kinds.Group.{Group}
 use Rattle.definitions.specs.declared.kinds.Group.TheVariants.{Core, Apps}
 use Rattle.routes.specs.declared.entries.Layout.{Layout}
@@ -162,7 +164,7 @@ found-api ss h =
     ∙ found-words (codes "v1" ∷ []) (forms Core) ss h
     ∙ by (after_words (codes "v1" ∷ []) ss) (filled-rest (codes "v1" ∷ []) ss h)
   where
-    by : (o : Option (List (List ℕ))) → MatchOption o (Unit {0}) IsFilled → on_rest (forms Core) o ≡ row_of (below_either (codes "api" ∷ ss) o)
+    by : (o : Option (List (List ℕ))) → MatchOption o (Unit {0}) IsFilled → on_rest (forms Core) o ≡ row_of (option_map_or (below Core) o (option_and_then (below Apps) (after_words (codes "apis" ∷ codes "apps" ∷ codes "v1" ∷ []) (codes "api" ∷ ss))))
     by None g = refl
     by (Some r) g = below-found Core r g
 
@@ -173,7 +175,7 @@ found-apis ss h =
     ∙ found-words (codes "apps" ∷ codes "v1" ∷ []) (forms Apps) ss h
     ∙ by (after_words (codes "apps" ∷ codes "v1" ∷ []) ss) (filled-rest (codes "apps" ∷ codes "v1" ∷ []) ss h)
   where
-    by : (o : Option (List (List ℕ))) → MatchOption o (Unit {0}) IsFilled → on_rest (forms Apps) o ≡ row_of (below_apps o)
+    by : (o : Option (List (List ℕ))) → MatchOption o (Unit {0}) IsFilled → on_rest (forms Apps) o ≡ row_of (option_and_then (below Apps) o)
     by None g = refl
     by (Some r) g = below-found Apps r g
 
@@ -191,8 +193,8 @@ found-other b s ss e f =
     ∙ ap (λ v. cond v (core_rows ++ after_word (b ∷ s) (under (codes "apis") apps_rows)) (after_word (b ∷ s) (under (codes "apis") apps_rows))) e
     ∙ after-word (codes "apis") (b ∷ s) apps_rows ∙ ap (λ v. cond v apps_rows []) f in
     any-step b s ss routes w ∙ found-none ss
-    ∙ sym (ap (λ v. row_of (below_either ((b ∷ s) ∷ ss) (cond v (after_words (codes "v1" ∷ []) ss) None))) e
-    ∙ ap (λ v. row_of (below_apps (cond v (after_words (codes "apps" ∷ codes "v1" ∷ []) ss) None))) f)
+    ∙ sym (ap (λ v. row_of (option_map_or (below Core) (cond v (after_words (codes "v1" ∷ []) ss) None) (option_and_then (below Apps) (after_words (codes "apis" ∷ codes "apps" ∷ codes "v1" ∷ []) ((b ∷ s) ∷ ss))))) e
+    ∙ ap (λ v. row_of (option_and_then (below Apps) (cond v (after_words (codes "apps" ∷ codes "v1" ∷ []) ss) None))) f)
 
 found-routes : (ss : List (List ℕ)) → IsFilled ss → found routes ss ≡ row_of (by_prefix ss)
 found-routes [] h = refl
@@ -345,12 +347,12 @@ told-weaker ss g r (Some x) f h = f x h
 prefix-fits : (ss : List (List ℕ)) → MatchOption (by_prefix ss) (Unit {0}) (Fitting ss)
 prefix-fits ss = core (after_words (codes "api" ∷ codes "v1" ∷ []) ss) refl
   where
-    apps : (o : Option (List (List ℕ))) → after_words (codes "apis" ∷ codes "apps" ∷ codes "v1" ∷ []) ss ≡ o → MatchOption (below_apps o) (Unit {0}) (Fitting ss)
+    apps : (o : Option (List (List ℕ))) → after_words (codes "apis" ∷ codes "apps" ∷ codes "v1" ∷ []) ss ≡ o → MatchOption (option_and_then (below Apps) o) (Unit {0}) (Fitting ss)
     apps None e = tt
     apps (Some r) e =
         told-weaker ss Apps r (below Apps r) (λ x t. fit Apps (codes "apis" ∷ codes "apps" ∷ codes "v1" ∷ []) (λ ps. refl) ss r x (goes-at (codes "apis" ∷ codes "apps" ∷ codes "v1" ∷ []) ss r e) t) (below-told-apps r)
 
-    core : (o : Option (List (List ℕ))) → after_words (codes "api" ∷ codes "v1" ∷ []) ss ≡ o → MatchOption (below_either ss o) (Unit {0}) (Fitting ss)
+    core : (o : Option (List (List ℕ))) → after_words (codes "api" ∷ codes "v1" ∷ []) ss ≡ o → MatchOption (option_map_or (below Core) o (option_and_then (below Apps) (after_words (codes "apis" ∷ codes "apps" ∷ codes "v1" ∷ []) ss))) (Unit {0}) (Fitting ss)
     core None e = apps (after_words (codes "apis" ∷ codes "apps" ∷ codes "v1" ∷ []) ss) refl
     core (Some r) e =
         told-weaker ss Core r (below Core r) (λ x t. fit Core (codes "api" ∷ codes "v1" ∷ []) (λ ps. refl) ss r x (goes-at (codes "api" ∷ codes "v1" ∷ []) ss r e) t) (below-told-core r)

@@ -1,5 +1,5 @@
 -- What a path's route says of it.
-use Rattle.std.proofs.Common.{◌≡◌, ℕ, ◌+◌, ◌<◌, List, [], ◌∷◌, ◌++◌, length, get_or, Option, Some, None, option_map, MatchOption, true, codes, refl, sym, ap, ◌∙◌, arith, subst, IsUtf8, length-append, append-nil, lit<, zero, suc, nat_lt, Bor}
+use Rattle.std.proofs.Common.{◌≡◌, ℕ, ◌+◌, ◌<◌, List, [], ◌∷◌, ◌++◌, length, get_or, Option, Some, None, option_and_then, option_map, MatchOption, true, codes, refl, sym, ap, ◌∙◌, arith, subst, IsUtf8, length-append, append-nil, lit<, zero, suc, nat_lt, Bor}
 use Rattle.std.proofs.lemmas.Str.{IsUtf8-take, IsUtf8-drop, IsUtf8-from_ascii, IsCharBoundary-before_ascii, IsCharBoundary-after_ascii}
 use Rattle.std.proofs.Math.Seq.{drop-append-add, take-append_seam, get_or-append_seam}
 use Rattle.std.proofs.lemmas.Bool.Decides.{nat_tests}
@@ -9,9 +9,9 @@ use Rattle.matchit.specs.Router.{RouteOf}
 use Rattle.matchit.specs.Seek.{first}
 use Rattle.routes.specs.Parts.{Part, word, any, tokens, joined}
 use Rattle.routes.specs.Table.{table, route_text}
-use Rattle.definitions.specs.Targets.{Form, form_of, segments}
+use Rattle.definitions.specs.Targets.{segments}
 use Rattle.routes.specs.Seen.{assembled, now}
-use Rattle.definitions.specs.Targets.{all_form, namespace_form, object_form, status_form}
+use Rattle.definitions.proofs.PathForms.{Form, form_of, route_of, all_form, namespace_form, object_form, status_form}
 use Rattle.definitions.specs.declared.kinds.Group.{Group}
 use Rattle.definitions.specs.declared.kinds.Group.TheVariants.{Core, Apps}
 use Rattle.routes.specs.declared.entries.Layout.{Layout}
@@ -165,14 +165,14 @@ pub now-of : (r : Option (Bor (List ℕ))) (o : Option (List ℕ)) → MatchOpti
 now-of None o h = sym h
 now-of (Some v) o h = sym h
 
-told : (x : Form) → assembled (row (group_of x) (layout_of x)).value (named (codes "resource") (params_of x)) (named (codes "namespace") (params_of x)) (named (codes "name") (params_of x)) ≡ Some x
+told : (x : Form) → assembled (row (group_of x) (layout_of x)).value (named (codes "resource") (params_of x)) (named (codes "namespace") (params_of x)) (named (codes "name") (params_of x)) ≡ route_of x
 told (all_form g p) = refl
 told (namespace_form g n p) = refl
 told (object_form g n p o) = refl
 told (status_form g n p o) = refl
 
 pub assembled-reads : (path : List ℕ) (e : RouteOf Entry) (o : Option Form) → Reads path (Some e) o
-    → let w = walk e.pattern e.text path e.names 0 0 in assembled e.value (named (codes "resource") w) (named (codes "namespace") w) (named (codes "name") w) ≡ o
+    → let w = walk e.pattern e.text path e.names 0 0 in assembled e.value (named (codes "resource") w) (named (codes "namespace") w) (named (codes "name") w) ≡ option_and_then route_of o
 assembled-reads path e None h = absurd h
 assembled-reads path e (Some x) h =
     (λ i. assembled (h.is i).value (named (codes "resource") (h.params i)) (named (codes "namespace") (h.params i)) (named (codes "name") (h.params i))) ∙ told x

@@ -1,7 +1,7 @@
 //! What a path names.
 ghost use Rattle.std.specs.Prelude.{◌≡◌, option_map, option_and_then};
 ghost use Rattle.definitions.specs.Kinds.{kind_named};
-ghost use Rattle.definitions.specs.Targets.{collection, status_of, with_status, route_of, object_form, status_form};
+ghost use Rattle.definitions.specs.Targets.{collection, object_at, status_of, with_status};
 ghost use Rattle.routes.specs.Seen.{now, route_seen, assembled};
 
 use crate::entries::{Entry, Layout};
@@ -45,14 +45,16 @@ fn collection<'p>(group: Group, resource: &str, namespace: Option<&'p str>) -> O
 }
 
 fn object<'p>(group: Group, resource: &str, namespace: &'p str, name: &'p str) -> Option<Target<'p>>
-    ensures { option_map route_seen result ≡ route_of (object_form group namespace.now resource.now name.now) }
+    ensures { option_map route_seen result
+        ≡ option_map (λ k. object_at (record { kind = k; namespace = namespace.now; name = name.now })) (kind_named group resource.now) }
 {
     let kind = group.kind_named(resource)?;
     Some(Target::Object(kind, namespace, name))
 }
 
 fn status<'p>(group: Group, resource: &str, namespace: &'p str, name: &'p str) -> Option<Target<'p>>
-    ensures { option_map route_seen result ≡ route_of (status_form group namespace.now resource.now name.now) }
+    ensures { option_map route_seen result
+        ≡ option_map (λ k. status_of (record { kind = k; namespace = namespace.now; name = name.now })) (option_and_then with_status (kind_named group resource.now)) }
 {
     status_of(group.kind_named(resource)?, namespace, name)
 }
@@ -75,7 +77,7 @@ pub(crate) fn assemble<'p>(
     namespace: Option<&'p str>,
     name: Option<&'p str>,
 ) -> Option<Target<'p>>
-    ensures { option_map route_seen result ≡ option_and_then route_of (assembled entry (option_map now resource.entry) (option_map now namespace.entry) (option_map now name.entry)) }
+    ensures { option_map route_seen result ≡ assembled entry (option_map now resource.entry) (option_map now namespace.entry) (option_map now name.entry) }
 {
     let resource = resource?;
     match entry.layout {

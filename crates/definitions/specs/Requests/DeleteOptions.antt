@@ -1,5 +1,7 @@
 -- What a delete asks for beside its object (Kubernetes API reference, DeleteOptions).
-use Rattle.std.specs.Prelude.{ℕ, List, ◌==◌, length, not, Option, Some, None, Result, Ok, Err, option_and_then, codes, if◌then◌else◌}
+use Rattle.std.specs.Prelude.{ℕ, List, [], ◌∷◌, ◌==◌, length, not, Option, Some, None, Result, Ok, Err, option_and_then, codes, if◌then◌else◌}
+use Rattle.std.specs.Map.{lookup}
+use Rattle.std.specs.Option.{option_map_or}
 use Rattle.std.specs.Str.{bytes_eq}
 use Rattle.serde_json.specs.Data.{Data}
 use Rattle.serde_json.specs.Find.{get}
@@ -23,17 +25,12 @@ pub record Options : Type 0 where
 -- the policy with this name
 abbrev pub policy_named : List ℕ → Option Policy
 policy_named name =
-    if bytes_eq name (codes "Orphan") then Some Orphan
-    else (if bytes_eq name (codes "Foreground") then Some Foreground else (if bytes_eq name (codes "Background") then Some Background else None))
-
-abbrev pub named_or_unknown : Option Policy → PolicySaid
-named_or_unknown None = Unknown
-named_or_unknown (Some p) = Named p
+    lookup (bytes_eq name) ((codes "Orphan", Orphan) ∷ (codes "Foreground", Foreground) ∷ (codes "Background", Background) ∷ [])
 
 -- what a text, where there is one, says of the policy
 abbrev pub policy_said : Option (List ℕ) → PolicySaid
 policy_said None = Nothing
-policy_said (Some name) = named_or_unknown (policy_named name)
+policy_said (Some name) = option_map_or Named (policy_named name) Unknown
 
 -- the options with what is said of the policy, or the part of the request that says it wrong
 abbrev pub options_with : Part → Option (List ℕ) → Option (List ℕ) → PolicySaid → Result Options Part
@@ -41,19 +38,14 @@ options_with p uid version Nothing = Ok (record { uid = uid; version = version; 
 options_with p uid version (Named policy) = Ok (record { uid = uid; version = version; policy = Some policy })
 options_with p uid version Unknown = Err p
 
--- an empty text names nothing
-abbrev pub unless_empty : List ℕ → Option (List ℕ)
-unless_empty t = if length t == 0 then None else Some t
-
--- a text that the object has to have
+-- a text that the object has to have; an empty one names nothing
 abbrev pub precondition : List ℕ → Data → Option (List ℕ)
-precondition k d = option_and_then unless_empty (option_and_then (text_at k) (get (codes "preconditions") d))
+precondition k d =
+    option_and_then (λ t. if length t == 0 then None else Some t) (option_and_then (text_at k) (get (codes "preconditions") d))
 
 -- a value read as options, or the part of the request that is at fault
 abbrev pub options_of : Data → Result Options Part
 options_of d =
     if not (is_body d) then Err part.Body
-    else
-    (if fits (Object schema.DeleteOptions) d then
-    options_with part.Options (precondition (codes "uid") d) (precondition (codes "resourceVersion") d) (policy_said (text_at (codes "propagationPolicy") d))
-    else Err part.Options)
+    else (if not (fits (Object schema.DeleteOptions) d) then Err part.Options
+    else options_with part.Options (precondition (codes "uid") d) (precondition (codes "resourceVersion") d) (policy_said (text_at (codes "propagationPolicy") d)))

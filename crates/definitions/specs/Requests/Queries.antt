@@ -1,5 +1,5 @@
 -- What the query of a target says (URL Standard, application/x-www-form-urlencoded parsing).
-use Rattle.std.specs.Prelude.{ℕ, List, [], ◌∷◌, Bool, ◌||◌, ◌==◌, Option, Some, None, unwrap_or, codes, if◌then◌else◌}
+use Rattle.std.specs.Prelude.{ℕ, List, [], ◌∷◌, Bool, ◌==◌, Option, Some, None, unwrap_or, if◌then◌else◌}
 use Rattle.std.specs.List.{list_any, after_first}
 use Rattle.std.specs.Str.{bytes_eq}
 use Rattle.std.specs.Str.Lossy.{utf8_lossy}
@@ -28,13 +28,6 @@ member name ((n, v) ∷ pairs) = if bytes_eq (text_of n) name then Some (text_of
 -- whether one of these names is a member's
 abbrev pub has_any : List (List ℕ) → Pairs → Bool
 has_any names pairs = list_any (λ p. list_any (bytes_eq (text_of p.0)) names) pairs
-
-abbrev pub is_true : List ℕ → Bool
-is_true value = bytes_eq value (codes "true") || bytes_eq value (codes "1")
-
--- what no request may ask (Kubernetes API Concepts, Dry-run)
-abbrev pub refused_names : List (List ℕ)
-refused_names = codes "dryRun" ∷ []
 
 -- a text that is absent counts as empty
 abbrev pub or_empty : Option (List ℕ) → List ℕ

@@ -1,5 +1,7 @@
 -- What a method, a target and a body ask for.
-use Rattle.std.specs.Prelude.{ℕ, List, [], ◌∷◌, ◌++◌, Bool, true, false, not, ◌&&◌, length, Option, Some, None, Result, Ok, Err, codes, nat_lt, if◌then◌else◌, option_and_then, option_map, ◌==◌}
+use Rattle.std.specs.Prelude.{ℕ, List, [], ◌∷◌, ◌++◌, Bool, true, false, not, ◌&&◌, length, Option, Some, None, is_some, Result, Ok, Err, ok_or, codes, nat_lt, if◌then◌else◌, option_and_then, option_map, ◌==◌}
+use Rattle.std.specs.Option.{option_map_or}
+use Rattle.std.specs.Result.{result_map_both, result_flatten}
 use Rattle.std.specs.List.{slice_split, list_all, before_first}
 use Rattle.std.specs.Str.{bytes_eq, is_utf8}
 use Rattle.std.specs.Str.Lossy.{utf8_lossy}
@@ -9,16 +11,17 @@ use Rattle.definitions.specs.declared.kinds.Group.TheVariants.{Core, Apps}
 use Rattle.definitions.specs.declared.kinds.Kind.{Kind}
 use Rattle.definitions.specs.declared.methods.Method.{Method}
 use Rattle.definitions.specs.declared.methods.Method.TheVariants.{Get, Post, Put, Patch, Delete}
+use Rattle.definitions.specs.declared.policies.PolicySaid.{PolicySaid}
+use Rattle.definitions.specs.declared.policies.PolicySaid.TheVariants.{Nothing}
 use Rattle.definitions.specs.declared.refusals.Part.{Part}
 use Rattle.definitions.specs.declared.refusals.Part.TheVariants as part
 use Rattle.definitions.specs.Texts.Kinds.{group, plural, kind_named, has_status}
 use Rattle.definitions.specs.Texts.Names.{Name, is_namespace}
 use Rattle.definitions.specs.State.History.{View}
-use Rattle.definitions.specs.Requests.DeleteOptions.{Options, options_of, options_with}
+use Rattle.definitions.specs.Requests.DeleteOptions.{Options, options_of, options_with, policy_said}
 use Rattle.definitions.specs.Requests.Collections as collections
-use Rattle.definitions.specs.Requests.Collections.{ListOptions, WatchOptions, Collection, Read}
-use Rattle.definitions.specs.Requests.Queries.{pairs_of}
-use Rattle.definitions.specs.Requests.RequestQueries.{Query, collection_query, delete_query, other_query}
+use Rattle.definitions.specs.Requests.Collections.{ListOptions, WatchOptions, Collection, Read, everything, collection_of}
+use Rattle.definitions.specs.Requests.Queries.{Pairs, pairs_of, member, has_any}
 use Rattle.definitions.specs.Objects.Values.{data_of}
 use Rattle.definitions.specs.Answers.Refusals.{Refusal, bad_request, no_such_path, method_not_allowed, too_large}
 use Rattle.definitions.specs.Answers.Verbs.{Request, get_object, create_object, update_object, update_status, patch_object, delete_object}
@@ -53,62 +56,43 @@ path_text (status_of n) = object_text n ++ codes "/status"
 abbrev pub segments : List ℕ → List (List ℕ)
 segments path = slice_split (λ b. b == 47) path
 
--- the forms of a path, with its group and its parts
-pub data Form : Type 0 where
-  all_form : Group → (resource : List ℕ) → Form
-  namespace_form : Group → (namespace resource : List ℕ) → Form
-  object_form : Group → (namespace resource name : List ℕ) → Form
-  status_form : Group → (namespace resource name : List ℕ) → Form
-
--- below a prefix: `P`, `namespaces/N/P`, `namespaces/N/P/O` and `namespaces/N/P/O/status`
-abbrev pub below : Group → List (List ℕ) → Option Form
-below g [] = None
-below g (resource ∷ []) = Some (all_form g resource)
-below g (word ∷ n ∷ []) = None
-below g (word ∷ n ∷ resource ∷ []) = if bytes_eq (codes "namespaces") word then Some (namespace_form g n resource) else None
-below g (word ∷ n ∷ resource ∷ name ∷ []) = if bytes_eq (codes "namespaces") word then Some (object_form g n resource name) else None
-below g (word ∷ n ∷ resource ∷ name ∷ last ∷ []) =
-    if bytes_eq (codes "namespaces") word && bytes_eq (codes "status") last then Some (status_form g n resource name) else None
-below g (word ∷ n ∷ resource ∷ name ∷ last ∷ more ∷ rest) = None
-
 -- the segments after the words of a prefix
 abbrev pub after_words : List (List ℕ) → List (List ℕ) → Option (List (List ℕ))
 after_words [] segs = Some segs
 after_words (word ∷ words) [] = None
 after_words (word ∷ words) (s ∷ segs) = if bytes_eq word s then after_words words segs else None
 
-abbrev pub below_apps : Option (List (List ℕ)) → Option Form
-below_apps (Some rest) = below Apps rest
-below_apps None = None
+abbrev pub with_status : Kind → Option Kind
+with_status k = if has_status k then Some k else None
 
-abbrev pub below_either : List (List ℕ) → Option (List (List ℕ)) → Option Form
-below_either segs (Some rest) = below Core rest
-below_either segs None = below_apps (after_words (codes "apis" ∷ codes "apps" ∷ codes "v1" ∷ []) segs)
+-- below a prefix: `P`, `namespaces/N/P`, `namespaces/N/P/O` and `namespaces/N/P/O/status`
+abbrev pub below : Group → List (List ℕ) → Option Route
+below g (resource ∷ []) = option_map (λ k. collection k None) (kind_named g resource)
+below g (word ∷ n ∷ resource ∷ []) = if bytes_eq (codes "namespaces") word then option_map (λ k. collection k (Some n)) (kind_named g resource) else None
+below g (word ∷ n ∷ resource ∷ name ∷ []) =
+    if bytes_eq (codes "namespaces") word then option_map (λ k. object_at (record { kind = k; namespace = n; name = name })) (kind_named g resource) else None
+below g (word ∷ n ∷ resource ∷ name ∷ last ∷ []) =
+    if bytes_eq (codes "namespaces") word && bytes_eq (codes "status") last
+    then option_map (λ k. status_of (record { kind = k; namespace = n; name = name })) (option_and_then with_status (kind_named g resource)) else None
+below g segs = None
 
 -- the prefix is `api/v1` or `apis/apps/v1`
-abbrev pub by_prefix : List (List ℕ) → Option Form
-by_prefix segs = below_either segs (after_words (codes "api" ∷ codes "v1" ∷ []) segs)
+abbrev pub by_prefix : List (List ℕ) → Option Route
+by_prefix segs =
+    option_map_or (below Core) (after_words (codes "api" ∷ codes "v1" ∷ []) segs)
+    (option_and_then (below Apps) (after_words (codes "apis" ∷ codes "apps" ∷ codes "v1" ∷ []) segs))
 
 abbrev pub is_filled : List ℕ → Bool
 is_filled s = nat_lt 0 (length s)
 
 -- the path begins with a slash, and no segment after it is empty
-abbrev pub form_of : List (List ℕ) → Option Form
-form_of ([] ∷ segs) = if list_all is_filled segs then by_prefix segs else None
-form_of _ = None
-
-abbrev pub with_status : Kind → Option Kind
-with_status k = if has_status k then Some k else None
-
-abbrev pub route_of : Form → Option Route
-route_of (all_form g resource) = option_map (λ k. collection k None) (kind_named g resource)
-route_of (namespace_form g n resource) = option_map (λ k. collection k (Some n)) (kind_named g resource)
-route_of (object_form g n resource name) = option_map (λ k. object_at (record { kind = k; namespace = n; name = name })) (kind_named g resource)
-route_of (status_form g n resource name) = option_map (λ k. status_of (record { kind = k; namespace = n; name = name })) (option_and_then with_status (kind_named g resource))
+abbrev pub route_of : List (List ℕ) → Option Route
+route_of ([] ∷ segs) = if list_all is_filled segs then by_prefix segs else None
+route_of _ = None
 
 -- the route with this path (Kubernetes API Concepts, Resource URIs)
 abbrev pub route : List ℕ → Option Route
-route path = option_and_then route_of (form_of (segments path))
+route path = route_of (segments path)
 
 -- whether the namespace that a route names can be one
 abbrev pub names_namespace : Route → Bool
@@ -122,19 +106,12 @@ names_namespace (status_of n) = is_namespace n.namespace
 -- the methods of each route (Kubernetes API Concepts, API verbs)
 abbrev pub is_allowed : Method → Route → Bool
 is_allowed Get r = true
-is_allowed Post (collection k None) = false
-is_allowed Post (collection k (Some ns)) = true
-is_allowed Post (object_at n) = false
-is_allowed Post (status_of n) = false
-is_allowed Put (collection k ns) = false
+is_allowed Post (collection k ns) = is_some ns
 is_allowed Put (object_at n) = true
 is_allowed Put (status_of n) = true
-is_allowed Patch (collection k ns) = false
 is_allowed Patch (object_at n) = true
-is_allowed Patch (status_of n) = false
-is_allowed Delete (collection k ns) = false
 is_allowed Delete (object_at n) = true
-is_allowed Delete (status_of n) = false
+is_allowed method r = false
 
 -- a target is a path, and a query after a `?` (RFC 3986, Path)
 abbrev pub path_of : List ℕ → List ℕ
@@ -153,43 +130,38 @@ pub data Asked : Type 0 where
   list : View → ListOptions → Asked
   watch : View → WatchOptions → Asked
 
-abbrev pub body_or : Option Data → Result Data Refusal
-body_or None = Err (bad_request part.Body)
-body_or (Some d) = Ok d
+-- what a query adds to a request: which objects of a collection are asked for and what of them, and what is said of a delete's policy
+pub record Query : Type 0 where
+  pub collection : Collection
+  pub policy : PolicySaid
+
+-- a part of the request that is not understood is a refusal
+abbrev pub or_bad_request : {A : Type 0} → Result A Part → Result A Refusal
+or_bad_request found = result_map_both (λ a. a) bad_request found
 
 -- the data of a body, or the refusal of what is no JSON in UTF-8
 abbrev pub body_of : List ℕ → Result Data Refusal
-body_of text = body_or (data_of text)
+body_of text = ok_or (data_of text) (bad_request part.Body)
 
-abbrev pub asks_with : (Data → Request) → Result Data Refusal → Result Asked Refusal
-asks_with f (Err e) = Err e
-asks_with f (Ok d) = Ok (request (f d))
-
--- a request with the data of its body
-abbrev pub with_body : (Data → Request) → List ℕ → Result Asked Refusal
-with_body f text = asks_with f (body_of text)
-
-abbrev pub options_or : Result Options Part → Result Options Refusal
-options_or (Err p) = Err (bad_request p)
-options_or (Ok o) = Ok o
-
-abbrev pub options_in : Result Data Refusal → Result Options Refusal
-options_in (Err e) = Err e
-options_in (Ok d) = options_or (options_of d)
+-- the request that is made of what was read
+abbrev pub asks_with : {A : Type 0} → (A → Request) → Result A Refusal → Result Asked Refusal
+asks_with f found = result_map_both (λ a. request (f a)) (λ e. e) found
 
 -- the options of a delete: what its body says or, without one, its query
 abbrev pub delete_options : Query → List ℕ → Result Options Refusal
-delete_options q text = if length text == 0 then options_or (options_with part.Query None None q.policy) else options_in (body_of text)
+delete_options q text =
+    if length text == 0 then or_bad_request (options_with part.Query None None q.policy)
+    else result_flatten (result_map_both (λ d. or_bad_request (options_of d)) (λ e. e) (body_of text))
 
-abbrev pub deletes_with : Name → Result Options Refusal → Result Asked Refusal
-deletes_with n (Err e) = Err e
-deletes_with n (Ok o) = Ok (request (delete_object n o))
+-- a query of which nothing counts but what is said of a delete's policy; it may not ask for a dry run (Kubernetes API Concepts, Dry-run)
+abbrev pub only_policy : Pairs → PolicySaid → Result Query Part
+only_policy pairs policy = if has_any (codes "dryRun" ∷ []) pairs then Err part.Query else Ok (record { collection = everything; policy = policy })
 
--- the query that a method and a route take
+-- what the query of a target adds, by the method and the route, or which part of it is not understood
 abbrev pub query_for : Method → Route → List ℕ → Result Query Part
-query_for Get (collection k ns) target = collection_query (pairs_of target)
-query_for Delete r target = delete_query (pairs_of target)
-query_for method r target = other_query (pairs_of target)
+query_for Get (collection k ns) target = result_map_both (λ c. record { collection = c; policy = Nothing }) (λ p. p) (collection_of (pairs_of target))
+query_for Delete r target = only_policy (pairs_of target) (policy_said (member (codes "propagationPolicy") (pairs_of target)))
+query_for method r target = only_policy (pairs_of target) Nothing
 
 -- what is selected of a collection
 abbrev pub selected : Kind → Option (List ℕ) → Collection → View
@@ -204,19 +176,12 @@ abbrev pub asked : Method → Route → Query → List ℕ → Result Asked Refu
 asked Get (collection k ns) q text = Ok (read_as (selected k ns q.collection) q.collection.read)
 asked Get (object_at n) q text = Ok (request (get_object n))
 asked Get (status_of n) q text = Ok (request (get_object n))
-asked Post (collection k None) q text = Err method_not_allowed
-asked Post (collection k (Some ns)) q text = with_body (create_object k ns) text
-asked Post (object_at n) q text = Err method_not_allowed
-asked Post (status_of n) q text = Err method_not_allowed
-asked Put (collection k ns) q text = Err method_not_allowed
-asked Put (object_at n) q text = with_body (update_object n) text
-asked Put (status_of n) q text = with_body (update_status n) text
-asked Patch (collection k ns) q text = Err method_not_allowed
-asked Patch (object_at n) q text = with_body (patch_object n) text
-asked Patch (status_of n) q text = Err method_not_allowed
-asked Delete (collection k ns) q text = Err method_not_allowed
-asked Delete (object_at n) q text = deletes_with n (delete_options q text)
-asked Delete (status_of n) q text = Err method_not_allowed
+asked Post (collection k (Some ns)) q text = asks_with (create_object k ns) (body_of text)
+asked Put (object_at n) q text = asks_with (update_object n) (body_of text)
+asked Put (status_of n) q text = asks_with (update_status n) (body_of text)
+asked Patch (object_at n) q text = asks_with (patch_object n) (body_of text)
+asked Delete (object_at n) q text = asks_with (delete_object n) (delete_options q text)
+asked method r q text = Err method_not_allowed
 
 -- what is asked, or the first refusal: of the query, of the length of the body, of what the body says
 abbrev pub asked_with : Method → Route → List ℕ → Result Query Part → Result Asked Refusal

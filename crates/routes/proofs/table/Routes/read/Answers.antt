@@ -2,7 +2,8 @@ use Rattle.std.proofs.Common.{◌≡◌, refl, sym, ap, ◌∙◌, subst, Some, 
 use Rattle.matchit.specs.Router.{RouteOf}
 use Rattle.matchit.specs.Params.{walk, named, AllText}
 use Rattle.matchit.specs.Seek.{first}
-use Rattle.definitions.specs.Targets.{Form, form_of, segments, route_of}
+use Rattle.definitions.specs.Targets.{segments}
+use Rattle.definitions.proofs.PathForms.{Form, form_of, route_of, by_form}
 use Rattle.routes.specs.Table.{table}
 use Rattle.routes.specs.Seen.{assembled}
 use Rattle.routes.specs.declared.entries.Entry.{Entry}
@@ -21,7 +22,7 @@ returns-in_default c =
     let h : Reads path (first table path) (form_of (segments path)) = reads path bytes c.utf8.path in
     let e : first table path ≡ None = ap (λ z. first z path) (sym c.args.self.now.whole) ∙ c.in_default.ensures.missing in
     let P : Option (RouteOf Entry) → Type 0 = λ z. Reads path z (form_of (segments path)) in
-    none path (form_of (segments path)) (subst P e h)
+    none path (form_of (segments path)) (subst P e h) ∙ sym (by_form path)
 
 pub returns : goal.returns
 returns c =
@@ -40,6 +41,7 @@ returns c =
     let b = now-of c.get-namespace.result (named (codes "namespace") (walk r.pattern r.text found.params.path.now r.names 0 0)) (c.get-namespace.ensures texts) in
     let d = now-of c.get-name.result (named (codes "name") (walk r.pattern r.text found.params.path.now r.names 0 0)) (c.get-name.ensures texts) in
     c.assemble.ensures
-    ∙ (λ i. option_and_then route_of (assembled found.value.now (a i) (b i) (d i)))
-    ∙ (λ i. option_and_then route_of (assembled found.value.now (named (codes "resource") (sym moved i)) (named (codes "namespace") (sym moved i)) (named (codes "name") (sym moved i))))
-    ∙ ap (option_and_then route_of) (assembled-reads path r (form_of (segments path)) known)
+    ∙ (λ i. assembled found.value.now (a i) (b i) (d i))
+    ∙ (λ i. assembled found.value.now (named (codes "resource") (sym moved i)) (named (codes "namespace") (sym moved i)) (named (codes "name") (sym moved i)))
+    ∙ assembled-reads path r (form_of (segments path)) known
+    ∙ sym (by_form path)
