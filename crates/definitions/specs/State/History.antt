@@ -1,5 +1,5 @@
 -- What has happened, the state at each revision, and its lists.
-use Rattle.std.specs.Prelude.{ℕ, ◌≤◌, ◌+◌, ◌-◌, ◌==◌, ◌&&◌, Bool, true, List, [], ◌∷◌, length, take, filter, slice_get, option_and_then, Option, Some, None, if◌then◌else◌}
+use Rattle.std.specs.Prelude.{ℕ, ◌+◌, ◌-◌, ◌==◌, ◌&&◌, Bool, true, List, [], ◌∷◌, length, take, filter, slice_get, option_and_then, Option, Some, None, if◌then◌else◌}
 use Rattle.std.specs.BTreeMap.{insert_entry, is_at}
 use Rattle.std.specs.Map.{remove_entry, lookup}
 use Rattle.std.specs.Str.{bytes_eq}
@@ -33,16 +33,6 @@ writes (compaction r ∷ h) = writes h
 -- the revision of the empty store is 1, and each write takes the next one (etcd API, Revisions)
 abbrev pub present : History → ℕ
 present h = length (writes h) + 1
-
--- these entries can follow when revision r is present: a compaction reaches no further than what has happened before it (etcd API, Compact)
-abbrev pub Follows : ℕ → History → Type 0
-Follows r [] = Unit {0}
-Follows r (write w ∷ h) = Follows (r + 1) h
-Follows r (compaction c ∷ h) = (c ≤ r) × Follows r h
-
--- these entries can happen, from the beginning
-abbrev pub CanHappen : History → Type 0
-CanHappen h = Follows 1 h
 
 -- the writes up to revision r: the n-th has revision n + 1
 abbrev pub up_to : ℕ → History → List Write

@@ -1,5 +1,5 @@
 -- Lists cut into pages (Kubernetes API Concepts, Retrieving large results sets in chunks).
-use Rattle.std.specs.Prelude.{◌≡◌, ◌==◌, ℕ, ◌-◌, List, [], ◌∷◌, length, map, take, filter, flat_map, Bool, true, nat_le, Option, Some, None, if◌then◌else◌}
+use Rattle.std.specs.Prelude.{◌==◌, ℕ, ◌-◌, List, [], ◌∷◌, length, map, take, filter, Bool, true, nat_le, Option, Some, None, if◌then◌else◌}
 use Rattle.std.specs.List.Sorted.{IsStrictlySortedBy}
 use Rattle.std.specs.Ordering.{nat_cmp, then_cmp, on, is_lt}
 use Rattle.std.specs.Cmp.Lexicographic.{slice_cmp}
@@ -54,14 +54,3 @@ page_of ms n p = if n == 0 then record { items = after_place p ms; next = None }
 -- how many members follow that page
 abbrev pub remaining : Members → ℕ → Option Place → ℕ
 remaining ms n p = if n == 0 then 0 else length (after_place p ms) - n
-
--- the pages of a list, from a place on, whatever the limits: each but the first is asked for by the place where the one
--- before it ended, and the last one has no next
-abbrev pub ArePages : Members → Option Place → List Page → Type 0
-ArePages ms p [] = ⊥
-ArePages ms p (g ∷ []) = ((n : ℕ) × (g ≡ page_of ms n p)) × (g.next ≡ None)
-ArePages ms p (g ∷ h ∷ gs) = ((n : ℕ) × (g ≡ page_of ms n p)) × ((q : Place) × (g.next ≡ Some q) × ArePages ms (Some q) (h ∷ gs))
-
--- the items of one page after those of another
-abbrev pub joined : List Page → Members
-joined gs = flat_map (λ g. g.items) gs
