@@ -1,4 +1,4 @@
--- What a delete does to an object: it is removed, or marked as being deleted while finalizers are left (Kubernetes, Finalizers; Garbage Collection).
+-- What a delete does to an object: it is removed or, while finalizers are left, its deletionTimestamp is set (Kubernetes, Finalizers; Garbage Collection).
 use Rattle.std.specs.Prelude.{ℕ, List, [], Bool, true, not, ◌&&◌, ◌||◌, ◌==◌, Option, Some, None, Result, Ok, Err, unwrap_or, codes, if◌then◌else◌}
 use Rattle.std.specs.Str.{bytes_eq}
 use Rattle.serde_json.specs.Data.{Data, string, array, Items, no_items, item, Members, put}
@@ -26,17 +26,17 @@ orphan = codes "orphan"
 abbrev pub foreground : List ℕ
 foreground = codes "foregroundDeletion"
 
--- the finalizers by which the garbage collector knows a policy (Kubernetes, Garbage Collection)
+-- whether it is one of the finalizers by which the garbage collector knows a policy (Kubernetes, Garbage Collection)
 abbrev pub is_of_policy : Data → Bool
 is_of_policy d = text_is (bytes_eq orphan) d || text_is (bytes_eq foreground) d
 
--- that of each policy
+-- the finalizers of each policy
 abbrev pub of_policy : Policy → Items
 of_policy Orphan = item (string orphan) no_items
 of_policy Foreground = item (string foreground) no_items
 of_policy Background = no_items
 
--- these finalizers without those of a policy, and others after them
+-- these finalizers without those of any policy, and then the last ones
 abbrev pub others_then : Items → Items → Items
 others_then last no_items = last
 others_then last (item d ds) = if is_of_policy d then others_then last ds else item d (others_then last ds)
@@ -59,22 +59,22 @@ left_by (Some p) ds = if are_of p ds then ds else others_then (of_policy p) ds
 
 -- ---- what becomes of an object
 
--- the metadata of an object that is being deleted from this moment on, if it was not before: that is a new generation (Kubernetes API Conventions, Metadata)
+-- the metadata with its deletionTimestamp set, if it was not before: that is a new generation (Kubernetes API Conventions, Metadata)
 abbrev pub with_deletion : Kind → List ℕ → Data → Members
 with_deletion k moment held =
     if is_being_deleted held then metadata_of held else put (codes "deletionTimestamp") (string moment) (with_next_generation (has_generation k) held (metadata_of held))
 
--- the object as being deleted, with these finalizers left, and so far at its version
+-- the object with its deletionTimestamp set and these finalizers, and so far at its version
 abbrev pub marked : Kind → List ℕ → Items → Data → Data
 marked k moment left held = with_metadata (put (codes "finalizers") (array left) (with_deletion k moment held)) held
 
--- what a delete does: the object is removed, or marked, or kept as it is
+-- what a delete does: the object is removed, or stored with its deletionTimestamp set, or left as it is
 pub data Fate : Type 0 where
   remove : Fate
   mark : Data → Fate
   keep : Fate
 
--- an object is removed if no finalizer is left; what is being deleted already and has the finalizers left is kept as it is (Kubernetes, Finalizers)
+-- an object is removed if no finalizer is left; one that is being deleted already, with the finalizers that are left, stays as it is (Kubernetes, Finalizers)
 abbrev pub fate : Kind → Option Policy → List ℕ → Data → Fate
 fate k policy moment held =
     if items_len (left_by policy (finalizers held)) == 0 then remove
@@ -86,7 +86,7 @@ decided k o moment held =
     if differs o.uid (uid held) then Err mismatch.Uid
     else (if differs o.version (version held) then Err mismatch.ResourceVersion else Ok (fate k o.policy moment held))
 
--- what an update writes: the object in the place of the one that is held or, where nothing keeps it any more, its removal (Kubernetes, Finalizers)
+-- what an update writes: the object in the place of the one that is stored or, where its last finalizer is removed, its removal (Kubernetes, Finalizers)
 abbrev pub after_update : Name → Data → Data → Write
 after_update k held new = record { key = k; put = if is_let_go held new then None else Some new }
 

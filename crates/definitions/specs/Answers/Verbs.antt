@@ -39,13 +39,13 @@ pub data Request : Type 0 where
   patch_object : Name → Data → Request
   delete_object : Name → Options → Request
 
--- an answer: its HTTP status code, its body, and at most one write
+-- an answer: its HTTP status code, its body, and the write that it makes, if any
 pub record Answer : Type 0 where
   pub code : ℕ
   pub body : Data
   pub write : Option Write
 
--- an answer, with at most one write, or a refusal, with none
+-- an answer, or a refusal, which writes nothing
 pub data Outcome : Type 0 where
   answered : Answer → Outcome
   refused : Refusal → Outcome
@@ -88,11 +88,11 @@ abbrev pub refuse_field : Name → Option Field → Outcome → Outcome
 refuse_field k None o = o
 refuse_field k (Some f) o = refused (invalid k f)
 
--- an object is written under its key, and answered
+-- an object is stored under its key, and answered
 abbrev pub stored : ℕ → Name → Data → Outcome
 stored code k d = answered (record { code = code; body = d; write = Some (record { key = k; put = Some d }) })
 
--- an object is removed, and answered
+-- the object under a key is removed, and this is answered
 abbrev pub removed : Name → Data → Outcome
 removed k d = answered (record { code = 200; body = d; write = Some (record { key = k; put = None }) })
 
@@ -102,15 +102,16 @@ is_too_large d = nat_lt longest_object (length (compact_text d))
 abbrev pub is_past_greatest : ℕ → Bool
 is_past_greatest r = nat_lt greatest_revision r
 
--- whether a write makes more objects than there may be, or has a revision past the greatest
+-- whether a write after revision r makes more objects than there may be, or has a revision past the greatest
 abbrev pub overflows : history.Members → ℕ → Write → Bool
 overflows ms r w = (nat_le most_objects (length ms) && is_some w.put && not (is_some (found w.key ms))) || is_past_greatest (r + 1)
 
--- what a body says, with what is filled in where its spec leaves it out
+-- with what is filled in where the spec leaves it out
 abbrev pub with_defaults : Kind → Result Data Part → Result Data Part
 with_defaults k (Err p) = Err p
 with_defaults k (Ok o) = Ok (defaulted k o)
 
+-- what a body says as an object of a kind, with its defaults
 abbrev pub said : Kind → Data → Result Data Part
 said k d = with_defaults k (reading k d)
 
@@ -174,11 +175,11 @@ create_read kind ns (Ok o) ms r moment =
 abbrev pub put_in_place : Name → Data → ℕ → Outcome
 put_in_place k d r = refuse_if (is_too_large d) too_large (refuse_if (is_past_greatest (r + 1)) storage_full (stored 200 k d))
 
--- what nothing keeps any more is removed, and answered at the revision of its removal (Kubernetes, Finalizers)
+-- the object under a key is removed, and this is answered, if a revision is left for the removal
 abbrev pub let_go : Name → Data → ℕ → Outcome
 let_go k d r = refuse_if (is_past_greatest (r + 1)) storage_full (removed k d)
 
--- an object in the place of the one that is held: where it says the same nothing is written
+-- an object replaces the one that is stored, which is removed where its last finalizer is; what says the same writes nothing (Kubernetes, Finalizers)
 abbrev pub replace_changed : Name → Data → Data → ℕ → Outcome
 replace_changed k held d r =
     if says_the_same held d then shown held
@@ -236,7 +237,7 @@ patch k d ms r = refuse_if (not (is_body d)) (bad_request part.Body) (or_absent 
 
 -- ---- delete
 
--- a mark is a write; it has no limit of its own, for what is too long to be marked could not be deleted
+-- an object with its deletionTimestamp set is stored, however large it is, for it could not be deleted else
 abbrev pub put_mark : ℕ → Name → Data → ℕ → Outcome
 put_mark code k d r = refuse_if (is_past_greatest (r + 1)) storage_full (stored code k (at_revision (r + 1) (metadata_of d) d))
 
