@@ -13,3 +13,4 @@ pub mod TaskOrder
 pub mod TokenTexts
 pub mod TokensRead
 pub mod Uids
+pub mod VerbSteps
