@@ -3,9 +3,8 @@ ghost use Rattle.std.specs.Prelude.{◌≡◌, ◌≢◌, ◌++◌, ◌∷◌, [
 ghost use Rattle.definitions.specs.Frames.{frame_text};
 ghost use Rattle.definitions.specs.Lines.{line_text, reply_text, outcome, shown};
 ghost use Rattle.definitions.specs.Refusals.{success_body};
-ghost use Rattle.definitions.specs.Streams.{change, event_of, text_of};
+ghost use Rattle.definitions.specs.Streams.{change, event_of, text_of, added_lines};
 ghost use Rattle.definitions.specs.Verbs.{refused};
-ghost use Rattle.definitions.specs.WatchReplies.{added_lines};
 ghost use Rattle.meta.specs.Faults.{refusal_of};
 ghost use Rattle.meta.specs.Members.{member_of};
 ghost use Rattle.meta.specs.declared.faults.Fault.TheVariants as faults;

@@ -42,9 +42,8 @@ changes h v a b = changes_after v (up_to a h) (drop (a - 1) (up_to b h))
 
 -- what is there of the object after the change
 abbrev pub put_of : ChangeKind → Data → Option Data
-put_of Added d = Some d
-put_of Modified d = Some d
 put_of Deleted d = None
+put_of kind d = Some d
 
 -- a change applied to what is there
 abbrev pub play_one : Members → Change → Members

@@ -1,5 +1,5 @@
 -- What has happened, the state at each revision, and its lists.
-use Rattle.std.specs.Prelude.{ℕ, ◌+◌, ◌-◌, ◌==◌, ◌&&◌, Bool, true, List, [], ◌∷◌, length, take, filter, slice_get, option_and_then, Option, Some, None, if◌then◌else◌}
+use Rattle.std.specs.Prelude.{ℕ, ◌+◌, ◌-◌, ◌==◌, ◌&&◌, Bool, true, List, [], ◌∷◌, length, take, filter, Option, Some, None, if◌then◌else◌}
 use Rattle.std.specs.BTreeMap.{insert_entry, is_at}
 use Rattle.std.specs.Map.{remove_entry, lookup}
 use Rattle.std.specs.Str.{bytes_eq}
@@ -46,10 +46,6 @@ last_of before k (w ∷ ws) = last_of (if is_named k w.key then w.put else befor
 -- the object under a key at a revision (Kubernetes API Concepts, Resource versions)
 abbrev pub state : History → ℕ → Name → Option Data
 state h r k = last_of None k (up_to r h)
-
--- the object that the write at a place put, the first place being 0
-abbrev pub put_at : History → ℕ → Option Data
-put_at h place = option_and_then (λ w. w.put) (slice_get (writes h) place)
 
 -- names and their objects, in the order of names
 abbrev pub Members : Type 0

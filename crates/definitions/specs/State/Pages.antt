@@ -1,5 +1,5 @@
 -- Lists cut into pages (Kubernetes API Concepts, Retrieving large results sets in chunks).
-use Rattle.std.specs.Prelude.{◌==◌, ℕ, ◌-◌, List, [], ◌∷◌, length, map, take, filter, Bool, true, nat_le, Option, Some, None, if◌then◌else◌}
+use Rattle.std.specs.Prelude.{◌==◌, ◌||◌, ℕ, ◌-◌, List, [], ◌∷◌, length, map, take, filter, Bool, true, nat_le, Option, Some, None, if◌then◌else◌}
 use Rattle.std.specs.List.Sorted.{IsStrictlySortedBy}
 use Rattle.std.specs.Ordering.{nat_cmp, then_cmp, on, is_lt}
 use Rattle.std.specs.Cmp.Lexicographic.{slice_cmp}
@@ -43,13 +43,11 @@ pub record Page : Type 0 where
   pub items : Members
   pub next : Option Place
 
--- the first n, and where they end if there are more
-abbrev pub first_of : ℕ → Members → Page
-first_of n ms = if nat_le (length ms) n then record { items = ms; next = None } else record { items = take n ms; next = last_place (take n ms) }
-
--- the page of a list after a place; a limit of 0 is no limit
+-- the page of a list after a place: at most n members, and where they end if there are more; a limit of 0 is no limit
 abbrev pub page_of : Members → ℕ → Option Place → Page
-page_of ms n p = if n == 0 then record { items = after_place p ms; next = None } else first_of n (after_place p ms)
+page_of ms n p =
+    let rest = after_place p ms in
+    if n == 0 || nat_le (length rest) n then record { items = rest; next = None } else record { items = take n rest; next = last_place (take n rest) }
 
 -- how many members follow that page
 abbrev pub remaining : Members → ℕ → Option Place → ℕ

@@ -15,13 +15,9 @@ pub data Line : Type 0 where
   initial : Name → Data → Line
   initial_end : ℕ → Line
 
--- the event that shows a change
-abbrev pub change_event : Change → Event
-change_event c = record { kind = frame_kind c.kind; object = c.object }
-
 -- the event that a line of a watch of a kind shows
 abbrev pub event_of : Kind → Line → Event
-event_of k (change c) = change_event c
+event_of k (change c) = record { kind = frame_kind c.kind; object = c.object }
 event_of k (bookmark r) = bookmark_event k false r
 event_of k (initial n d) = record { kind = Added; object = d }
 event_of k (initial_end r) = bookmark_event k true r
@@ -33,21 +29,22 @@ text_of k ls = flat_map (λ l. frame_text (event_of k l)) ls
 -- these changes in order, and bookmarks, each at least at the revision of what is before it, below that of each change after it, and at most at b (Kubernetes API Concepts, Watch bookmarks)
 abbrev pub Goes : ℕ → ℕ → List Change → List Line → Type 0
 Goes at b [] [] = Unit {0}
-Goes at b (c ∷ cs) [] = ⊥
-Goes at b [] (change d ∷ ls) = ⊥
 Goes at b (c ∷ cs) (change d ∷ ls) = (d ≡ c) × Goes c.revision b cs ls
 Goes at b [] (bookmark r ∷ ls) = (at ≤ r) × (r ≤ b) × Goes r b [] ls
 Goes at b (c ∷ cs) (bookmark r ∷ ls) = (at ≤ r) × (r ≤ b) × (r < c.revision) × Goes r b (c ∷ cs) ls
-Goes at b cs (initial n d ∷ ls) = ⊥
-Goes at b cs (initial_end r ∷ ls) = ⊥
+Goes at b cs ls = ⊥
 
 -- a stream of h, v from a to b
 abbrev pub IsStream : History → View → ℕ → ℕ → List Line → Type 0
 IsStream h v a b ls = Goes a b (changes h v a b) ls
 
+-- the objects that are there, each as if it had just been added
+abbrev pub added_lines : Members → List Line
+added_lines ms = map (λ m. initial m.0 m.1) ms
+
 -- the list at a, the bookmark that closes it, then a stream from a (Kubernetes API Concepts, Streaming lists)
 abbrev pub IsInitialStream : History → View → ℕ → ℕ → List Line → Type 0
-IsInitialStream h v a b ls = (more : List Line) × (ls ≡ map (λ m. initial m.0 m.1) (list h v a) ++ initial_end a ∷ more) × IsStream h v a b more
+IsInitialStream h v a b ls = (more : List Line) × (ls ≡ added_lines (list h v a) ++ initial_end a ∷ more) × IsStream h v a b more
 
 -- ---- what they make of the list
 
