@@ -10,7 +10,8 @@ use Rattle.definitions.specs.Metadata as metadata
 use Rattle.definitions.specs.Metadata.{is_other}
 use Rattle.definitions.specs.Names.{Name}
 use Rattle.definitions.specs.Refusals.{invalid}
-use Rattle.definitions.specs.Verbs.{Outcome, refused, refuse_field, create_read, create_checked, create_as, new_name}
+use Rattle.definitions.specs.Verbs.{Outcome, refused, refuse_field, new_name}
+use Rattle.definitions.proofs.VerbSteps.{create_read, create_checked, create_as}
 use Rattle.definitions.specs.NewObjects.{created, with_first_status}
 use Rattle.meta.specs.declared.faults.Fault.{Fault}
 use Rattle.meta.specs.declared.faults.Fault.TheVariants as fault

@@ -11,3 +11,4 @@ pub mod RevisionTexts
 pub mod TokenTexts
 pub mod TokensRead
 pub mod Uids
+pub mod VerbSteps

@@ -1,5 +1,5 @@
--- Pages, joined, and what remains after them.
-use Rattle.std.proofs.Common.{zero, suc, append-nil, ◌≡◌, ◌≤◌, ◌<◌, ◌+◌, ◌-◌, ℕ, ◌==◌, ◌&&◌, List, [], ◌∷◌, ◌++◌, length, map, take, drop, filter, Bool, true, false, cond, Option, Some, None, Ordering, Less, Equal, Greater, refl, sym, ap, ap₂, ◌∙◌, subst, append_assoc, arith, nat_le, nat_eq}
+-- Pages, and what remains after them.
+use Rattle.std.proofs.Common.{zero, suc, ◌≡◌, ◌≤◌, ◌<◌, ◌+◌, ◌-◌, ℕ, ◌==◌, ◌&&◌, [], ◌∷◌, ◌++◌, length, map, take, drop, filter, Bool, true, false, cond, Option, Some, None, Ordering, Less, Equal, Greater, refl, sym, ap, ◌∙◌, subst, append_assoc, arith, nat_le, nat_eq}
 use Rattle.std.specs.Cmp.{IsTotalOrder, then_total, on_total, nat_cmp_total}
 use Rattle.std.specs.Ordering.{is_lt, ordering_reverse, ordering_then, nat_cmp}
 use Rattle.std.specs.List.{AllByRecursion}
@@ -15,7 +15,7 @@ use Rattle.definitions.specs.SelectorFields.{fields_meet}
 use Rattle.definitions.specs.Selectors.{meets_all}
 use Rattle.definitions.specs.Names.{Name, name_cmp}
 use Rattle.definitions.specs.History.{History, View, Members, viewed, in_view, in_namespace, list, up_to, members}
-use Rattle.definitions.specs.Pages.{Place, place_of, place_cmp, after_place, last_place, Page, page_of, remaining, ArePages, joined, AreInPlace}
+use Rattle.definitions.specs.Pages.{Place, place_of, place_cmp, after_place, last_place, page_of, remaining, AreInPlace}
 use Rattle.definitions.proofs.PutLaws.{IsAbove, IsAscending, IsAscending-after_all}
 
 abbrev pub order : Name → Name → Ordering
@@ -72,7 +72,7 @@ some_taken (suc n) [] h l e = not_false (sym (le-leb 0 (suc n) (omega arith)) �
 some_taken (suc n) (x ∷ xs) h l e = last_there x (take n xs) e
 
 -- a page without a next has all that is left
-no_next : (ms : Members) (n : ℕ) (p : Option Place) (b c : Bool) → nat_eq n 0 ≡ b → nat_le (length (after_place p ms)) n ≡ c → (page_of ms n p).next ≡ None → (page_of ms n p).items ≡ after_place p ms
+pub no_next : (ms : Members) (n : ℕ) (p : Option Place) (b c : Bool) → nat_eq n 0 ≡ b → nat_le (length (after_place p ms)) n ≡ c → (page_of ms n p).next ≡ None → (page_of ms n p).items ≡ after_place p ms
 no_next ms n p true c h l e = rw h refl
 no_next ms n p false true h l e = rw (h, l) refl
 no_next ms n p false false h l e =
@@ -90,28 +90,12 @@ has_next ms n p q false false h l e =
     let is : (page_of ms n p).next ≡ last_place (take n (after_place p ms)) = rw (h, l) refl in
     (rw (h, l) refl, sym is ∙ e)
 
-left_after : (ms front : Members) (n : ℕ) (rest : Members) (q : Place) → IsAscending order ms → ms ≡ front ++ rest → last_place (take n rest) ≡ Some q → after_place (Some q) ms ≡ drop n rest
+pub left_after : (ms front : Members) (n : ℕ) (rest : Members) (q : Place) → IsAscending order ms → ms ≡ front ++ rest → last_place (take n rest) ≡ Some q → after_place (Some q) ms ≡ drop n rest
 left_after ms front n rest q a is e =
     let s = last_split (take n rest) q e in
     let whole : ms ≡ (front ++ s.0) ++ s.1 ∷ drop n rest =
     is ∙ ap (λ z. front ++ z) (sym (take-append-drop n rest) ∙ ap (λ z. z ++ drop n rest) s.2 ∙ append_assoc s.0 (s.1 ∷ []) (drop n rest)) ∙ sym (append_assoc front s.0 (s.1 ∷ drop n rest)) in
     ap (λ o. after_place o ms) (sym s.3) ∙ ap (later (place_of s.1.0)) whole ∙ rest_later (front ++ s.0) s.1 (drop n rest) (subst (IsAscending order) whole a)
-
-joined_from : (ms : Members) (gs : List Page) (front rest : Members) (p : Option Place) → IsAscending order ms → ms ≡ front ++ rest → after_place p ms ≡ rest → ArePages ms p gs → joined gs ≡ rest
-joined_from ms [] front rest p a is left h = absurd h
-joined_from ms (g ∷ []) front rest p a is left h =
-    let n = h.0.0 in
-    let none : (page_of ms n p).next ≡ None = ap (λ z. z.next) (sym h.0.1) ∙ h.1 in
-    append-nil g.items ∙ ap (λ z. z.items) h.0.1 ∙ no_next ms n p (nat_eq n 0) (nat_le (length (after_place p ms)) n) refl refl none ∙ left
-joined_from ms (g ∷ k ∷ gs) front rest p a is left h =
-    let n = h.0.0 in
-    let q = h.1.0 in
-    let some : (page_of ms n p).next ≡ Some q = ap (λ z. z.next) (sym h.0.1) ∙ h.1.1 in
-    let next = has_next ms n p q (nat_eq n 0) (nat_le (length (after_place p ms)) n) refl refl some in
-    let last : last_place (take n rest) ≡ Some q = ap (λ z. last_place (take n z)) (sym left) ∙ next.1 in
-    let more : ms ≡ (front ++ take n rest) ++ drop n rest = is ∙ ap (λ z. front ++ z) (sym (take-append-drop n rest)) ∙ sym (append_assoc front (take n rest) (drop n rest)) in
-    let others = joined_from ms (k ∷ gs) (front ++ take n rest) (drop n rest) (Some q) a more (left_after ms front n rest q a is last) h.1.2 in
-    ap₂ (λ x y. x ++ y) (ap (λ z. z.items) h.0.1 ∙ next.0 ∙ ap (take n) left) others ∙ take-append-drop n rest
 
 -- ---- lists are in the order of places
 
@@ -156,15 +140,12 @@ pub ascending_viewed : (v : View) (es : Members) → IsAscending name_cmp es →
 ascending_viewed v [] a = tt
 ascending_viewed v (e ∷ es) a = ascending_cond v (in_view v e.0 e.1) e es refl a.0 (ascending_viewed v es a.1)
 
-ascending_list : (h : History) (v : View) (r : ℕ) → IsAscending order (list h v r)
+pub ascending_list : (h : History) (v : View) (r : ℕ) → IsAscending order (list h v r)
 ascending_list h v r = ascending_viewed v (members h r) (IsAscending-after_all [] (up_to r h) (tt {0}))
 
 pub all_after : (ms : Members) → after_place None ms ≡ ms
 all_after [] = refl
 all_after (m ∷ ms) = ap (λ z. m ∷ z) (all_after ms)
-
-pub pages_are_lists : (h : History) (v : View) (r : ℕ) (gs : List Page) → ArePages (list h v r) None gs → joined gs ≡ list h v r
-pages_are_lists h v r gs are = joined_from (list h v r) gs [] (list h v r) None (ascending_list h v r) refl (all_after (list h v r)) are
 
 all_below : (k : Name) (ms : Members) → IsAbove order k ms → AllByRecursion (λ y. place_cmp (place_of k) y ≡ Less) (map (λ m. place_of m.0) ms)
 all_below k [] a = tt

@@ -1,11 +1,11 @@
 -- A Status has no fractions.
-use Rattle.std.proofs.Common.{◌≡◌, ℕ, List, Option, Some, None, codes, false, refl}
+use Rattle.std.proofs.Common.{◌≡◌, ℕ, List, Option, Some, None, option_map, codes, false, refl}
 use Rattle.serde_json.specs.Data.{number, unsigned, string, object, no_members, member}
 use Rattle.serde_json.specs.Written.{has_float}
 use Rattle.definitions.specs.declared.kinds.Kind.{Kind}
 use Rattle.definitions.specs.declared.kinds.Kind.TheVariants.{ConfigMap, Pod, ReplicaSet, Deployment}
 use Rattle.definitions.specs.Names.{Name}
-use Rattle.definitions.specs.Refusals.{Refusal, code, message, reason, about, details, refusal_details, after_details, status_body}
+use Rattle.definitions.specs.Refusals.{Refusal, code, message, told, details, with_optional, status_body}
 
 details_clean : (kind : Kind) (ns name : List ℕ) → has_float (details (record { kind = kind; namespace = ns; name = name }) no_members) ≡ false
 details_clean ConfigMap ns name = refl
@@ -18,7 +18,7 @@ clean : (n : ℕ) (said why : List ℕ) (o : Option Name)
     (object
     (member (codes "apiVersion") (string (codes "v1"))
     (member (codes "code") (number (unsigned n))
-    (after_details (refusal_details o)
+    (with_optional (codes "details") (option_map (λ k. details k no_members) o)
     (member (codes "kind") (string (codes "Status"))
     (member (codes "message") (string said)
     (member (codes "metadata") (object no_members) (member (codes "reason") (string why) (member (codes "status") (string (codes "Failure")) no_members))))))))) ≡ false
@@ -26,4 +26,4 @@ clean n said why None = refl
 clean n said why (Some k) = rw (details_clean k.kind k.namespace k.name) refl
 
 pub status_clean : (f : Refusal) → has_float (status_body f) ≡ false
-status_clean f = clean (code f) (message f) (reason f) (about f)
+status_clean f = clean (code f) (message f) (told f).reason (told f).about

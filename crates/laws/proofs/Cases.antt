@@ -20,7 +20,8 @@ use Rattle.definitions.specs.Reading.{is_body, reading}
 use Rattle.definitions.specs.Refusals.{Refusal, bad_request, not_found, already_exists, conflict, invalid, too_large, storage_full}
 use Rattle.definitions.specs.Replacements.{in_place, is_let_go, says_the_same, updated, with_said_status}
 use Rattle.definitions.specs.Values.{merged}
-use Rattle.definitions.specs.Verbs.{Request, get_object, list_objects, create_object, update_object, update_status, patch_object, delete_object, Outcome, answered, refused, accept_at, accept, shown, stored, removed, said, create_as, create_checked, create_read, new_name, put_in_place, let_go, replace_changed, replace_with, if_same, replace, update_read, restate, restate_with, status_read, patch_read, patch, by_fate, by_decision, delete, names_path, is_too_large, is_past_greatest, most_objects, status_put}
+use Rattle.definitions.specs.Verbs.{Request, get_object, list_objects, create_object, update_object, update_status, patch_object, delete_object, Outcome, answered, refused, accept_at, accept, shown, stored, removed, said, new_name, put_in_place, let_go, if_same, replace, replace_status, by_decision, names_path, is_too_large, is_past_greatest, most_objects}
+use Rattle.definitions.proofs.VerbSteps.{create_as, create_checked, create_read, replace_changed, replace_with, update_read, restate, status_read, patch_read, patch, by_fate, delete, status_put}
 use Rattle.laws.proofs.Guards.{guard, guard_field, there, either}
 
 module _ (P : Outcome → Type 0) (refusal : (f : Refusal) → P (refused f)) where
@@ -109,7 +110,7 @@ module _ (P : Outcome → Type 0) (refusal : (f : Refusal) → P (refused f)) wh
     of_status_put k (Err p) ms r put = refusal (bad_request p)
     of_status_put k (Ok o) ms r put =
         guard P refusal (not (names_path k o)) (bad_request part.Object) _
-        (λ _. there P refusal k (restate_with k o r) (found k ms)
+        (λ _. there P refusal k (replace_status k o r) (found k ms)
         (λ held is.
         let d = with_said_status k.kind held o in
         let new = at_revision (r + 1) (metadata_of d) d in

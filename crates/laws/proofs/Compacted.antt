@@ -1,6 +1,7 @@
 -- What a compaction leaves as it is.
 use Rattle.std.proofs.Common.{◌≡◌, ◌≤◌, ℕ, ◌+◌, ◌-◌, List, [], ◌∷◌, ◌++◌, length, take, sym, ◌∙◌, subst, arith, append-nil}
-use Rattle.definitions.specs.History.{History, Write, write, compaction, writes, Follows, present, after_all}
+use Rattle.definitions.specs.History.{History, Write, write, compaction, writes, present, after_all}
+use Rattle.laws.specs.Happening.{Follows}
 use Rattle.server_state.specs.Snapshots.{snapshot}
 use Rattle.laws.proofs.Past.{writes-append}
 

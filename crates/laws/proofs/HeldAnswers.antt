@@ -12,7 +12,8 @@ use Rattle.definitions.specs.declared.versions.At.TheVariants.{Present, NotOlder
 use Rattle.definitions.specs.Versions.{listed_as, once_present, listed_at, watched, watched_from}
 use Rattle.definitions.specs.Lists.{list_answer}
 use Rattle.server_state.specs.Servers.{Server, window_of, watch_by, Holds}
-use Rattle.definitions.specs.WatchReplies.{told_lines, added_lines, lines_by}
+use Rattle.definitions.specs.WatchReplies.{told_lines, lines_by}
+use Rattle.definitions.specs.Streams.{added_lines}
 use Rattle.laws.specs.ServerLaws.{ServersList, ServersWatch, ServersAnswerLists, ServersShow, ListsAreServed}
 use Rattle.laws.proofs.ServedWindows.{watch_served, list_undone, revisions_served}
 

@@ -6,7 +6,8 @@ use Rattle.serde_json.specs.Data.{Data}
 use Rattle.definitions.specs.declared.kinds.Kind.{Kind}
 use Rattle.definitions.specs.declared.kinds.Kind.TheVariants.{ConfigMap, Pod, ReplicaSet, Deployment}
 use Rattle.definitions.specs.Kinds.{rank}
-use Rattle.definitions.specs.History.{History, Write, write, compaction, Members, writes, CanHappen, present, members, found, after, after_all}
+use Rattle.definitions.specs.History.{History, Write, write, compaction, Members, writes, present, members, found, after, after_all}
+use Rattle.laws.specs.Happening.{CanHappen}
 use Rattle.definitions.specs.Refusals.{too_new}
 use Rattle.definitions.specs.Verbs.{accept_at, accept, write_of, with_write}
 use Rattle.server_state.specs.Snapshots.{Snapshot, snapshot, written}

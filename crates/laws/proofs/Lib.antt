@@ -18,6 +18,7 @@ pub mod Guards
 pub mod HeldAnswers
 pub mod HeldHistories
 pub mod HeldMembers
+pub mod JoinedPages
 pub mod JsonOrder
 pub mod JsonTexts
 pub mod KeptWrites

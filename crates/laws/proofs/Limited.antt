@@ -1,6 +1,7 @@
 -- Limits of all that is reached.
 use Rattle.std.proofs.Common.{◌≤◌, ◌+◌, ℕ, [], ◌∷◌, ◌++◌, length, false, IfSome, Option, Some, None, ◌≡◌, sym, subst, arith}
-use Rattle.definitions.specs.History.{History, Write, write, compaction, Follows, CanHappen, members, present}
+use Rattle.definitions.specs.History.{History, Write, write, compaction, members, present}
+use Rattle.laws.specs.Happening.{Follows, CanHappen}
 use Rattle.definitions.specs.Verbs.{accept, with_write, write_of, overflows}
 use Rattle.laws.proofs.Compacted.{snapshot-compaction, follows_compaction}
 use Rattle.laws.proofs.Limits.{Within, within-write, room}

@@ -8,7 +8,8 @@ use Rattle.definitions.specs.Metadata.{uid, version, differs}
 use Rattle.definitions.specs.Names.{Name}
 use Rattle.definitions.specs.Reading.{reading}
 use Rattle.definitions.specs.Values.{merged}
-use Rattle.definitions.specs.Verbs.{said, with_defaults}
+use Rattle.definitions.specs.Verbs.{said}
+use Rattle.definitions.proofs.VerbSteps.{with_defaults}
 use Rattle.laws.proofs.Cases.{of_delete, of_patch, of_status, of_update}
 use Rattle.laws.proofs.VerbLaws.{found-state, one_object, same, version-defaulted}
 

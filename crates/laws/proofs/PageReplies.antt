@@ -14,8 +14,10 @@ use Rattle.definitions.specs.History.{History, View, Members, present, viewed, l
 use Rattle.definitions.specs.Lists.{list_answer, page_body, told_count, token_after}
 use Rattle.definitions.specs.Metadata.{metadata_text}
 use Rattle.definitions.specs.Names.{Name}
-use Rattle.definitions.specs.Pages.{Place, Page, place_of, is_after, after_place, last_place, page_of, ArePages, joined}
-use Rattle.definitions.specs.PageTokens.{Token, token_place, token_text, token_of}
+use Rattle.definitions.specs.Pages.{Place, Page, place_of, is_after, after_place, last_place, page_of}
+use Rattle.laws.specs.PageLaws.{ArePages, joined}
+use Rattle.definitions.specs.PageTokens.{Token, token_place, token_text}
+use Rattle.definitions.specs.ReadTokens.{token_of}
 use Rattle.definitions.specs.Refusals.{Refusal, bad_request, not_found, no_such_path, method_not_allowed, already_exists, conflict, expired, length_required, too_large, unsupported_media_type, invalid, no_memory, too_new, storage_full, code}
 use Rattle.laws.specs.ReplyLaws.{Asked, body_of, IsAnswered, continue_in, GoOn, items_in, then_items, all_items, revision_at, revision_of, AreAt, PageRepliesAreLists}
 use Rattle.definitions.specs.Revisions.{greatest_revision}
@@ -28,7 +30,8 @@ use Rattle.laws.proofs.Limited.{limited}
 use Rattle.laws.proofs.NameBytes.{namespace_text, name_text}
 use Rattle.laws.proofs.Past.{past}
 use Rattle.laws.proofs.ValidNames.{IsValid, IsValidAt, all_valid}
-use Rattle.definitions.proofs.PageLists.{pages_are_lists, has_next}
+use Rattle.definitions.proofs.PageLists.{has_next}
+use Rattle.laws.proofs.JoinedPages.{pages_are_lists}
 use Rattle.definitions.proofs.TokensRead.{token_is_read}
 
 -- ---- what an answer of 200 is

@@ -20,7 +20,8 @@ use Rattle.definitions.specs.Kinds.{api_version, kind_text}
 use Rattle.definitions.specs.Reading.{is_absent, schema_of, item_of, tidied, tidied_items, tidied_members, empty, reading}
 use Rattle.definitions.specs.Schemas.{member_at}
 use Rattle.definitions.specs.Values.{data_of, members_of, inner_of, without, found_or_null, is_null, merged, merged_members, with_member, with_default}
-use Rattle.definitions.specs.Verbs.{said, with_defaults}
+use Rattle.definitions.specs.Verbs.{said}
+use Rattle.definitions.proofs.VerbSteps.{with_defaults}
 use Rattle.laws.proofs.JsonOrder.{IsOrdered, IsOrdered-put, IsOrdered-without, IsOrdered-tidied, IsOrdered-filled}
 use Rattle.laws.proofs.NeatMembers.{opens}
 use Rattle.laws.proofs.NumbersRead.{number_read}

@@ -25,7 +25,8 @@ use Rattle.definitions.specs.Reading.{reading, is_body}
 use Rattle.definitions.specs.Refusals.{bad_request, not_found, invalid, storage_full}
 use Rattle.definitions.specs.Replacements.{generation, in_place, is_let_go, is_new_generation, next_generation, said_status, says_the_same, updated, with_next_generation, with_said_status}
 use Rattle.definitions.specs.Values.{inner_of, members_of, merged}
-use Rattle.definitions.specs.Verbs.{Request, get_object, list_objects, create_object, update_object, update_status, patch_object, delete_object, accept, by_decision, by_fate, delete, removed, stored, shown, said, create_read, new_name, update_read, replace, replace_with, replace_changed, let_go, put_in_place, status_read, restate, restate_with, patch, patch_read, names_path, is_past_greatest, most_objects, status_put}
+use Rattle.definitions.specs.Verbs.{Request, get_object, list_objects, create_object, update_object, update_status, patch_object, delete_object, accept, by_decision, removed, stored, shown, said, new_name, replace, let_go, put_in_place, replace_status, names_path, is_past_greatest, most_objects}
+use Rattle.definitions.proofs.VerbSteps.{by_fate, delete, create_read, update_read, replace_with, replace_changed, status_read, restate, patch, patch_read, status_put}
 use Rattle.laws.proofs.Cases.{of_create}
 use Rattle.laws.proofs.Guards.{there, either}
 use Rattle.laws.proofs.HeldMembers.{name-new_metadata, namespace-new_metadata, uid-new_metadata, name-in_place, namespace-in_place, uid-in_place, text-with_next_generation}
@@ -152,7 +153,7 @@ by_status_put : (k : Name) (d : Data) (read : Result Data Part) (ms : history.Me
 by_status_put k d (Err p) ms r is a held = tt
 by_status_put k d (Ok o) ms r is a held =
     behind (r + 1) (not (names_path k o)) (bad_request part.Object) _
-    (λ path. there (Stores (r + 1)) (λ f. tt) k (restate_with k o r) (found k ms)
+    (λ path. there (Stores (r + 1)) (λ f. tt) k (replace_status k o r) (found k ms)
     (λ was at.
     let there_is = subst (λ x. IfSome x (IsHeld k)) at held in
     by_if_same (r + 1) k o was (restate k was (with_said_status k.kind was o) r) (by_restate k o r there_is.0 was (whole_read k.kind d o is) (parsed_reading k.kind d o is a) there_is.1)))

@@ -10,7 +10,7 @@ use Rattle.definitions.specs.Changes.{Change, changes, changes_after, play}
 use Rattle.definitions.specs.Streams.{Line, change, bookmark, Goes, IsStream}
 use Rattle.laws.specs.WatchLaws.{AreBetween}
 use Rattle.definitions.specs.Windows.{floor, within}
-use Rattle.definitions.specs.Versions.{Watched, last_change, watched, watched_from, bookmark_above, lines_from}
+use Rattle.definitions.specs.Versions.{Watched, last_change, watched, watched_from, lines_from}
 use Rattle.laws.specs.ServerLaws.{WatchesStand, WatchesGoOn}
 use Rattle.laws.proofs.Past.{writes-append}
 use Rattle.laws.proofs.Played.{list_played, goes_on, lie_between}
@@ -107,7 +107,7 @@ lines_go (c ∷ cs) a b ls g = (refl, lines_go cs c.revision b ls g)
 pub lines_stream : (h : History) (v : View) (a : ℕ) (w : Watched) → Stands h v a w → IsStream h v a w.stands (lines_from a w)
 lines_stream h v a w s =
     subst (λ cs. Goes a w.stands cs (lines_from a w)) (sym s.3)
-    (lines_go w.changes a w.stands (bookmark_above (last_change a w.changes) w.stands) (bookmark_goes (nat_lt (last_change a w.changes) w.stands) (last_change a w.changes) w.stands refl))
+    (lines_go w.changes a w.stands (cond (nat_lt (last_change a w.changes) w.stands) (bookmark w.stands ∷ []) []) (bookmark_goes (nat_lt (last_change a w.changes) w.stands) (last_change a w.changes) w.stands refl))
 
 -- a watch that is given something stands
 pub given_stands : (size : ℕ) (h : History) (v : View) (a n : ℕ) (w : Watched) → watched_from size h v a n ≡ Ok w

@@ -12,7 +12,8 @@ use Rattle.definitions.specs.NewObjects.{first_status, with_status}
 use Rattle.definitions.specs.Reading.{reading}
 use Rattle.definitions.specs.Replacements.{as_held, in_place, keeping, kept, kept_of, said_status, with_said_status}
 use Rattle.definitions.specs.Values.{members_of, without}
-use Rattle.definitions.specs.Verbs.{said, with_defaults}
+use Rattle.definitions.specs.Verbs.{said}
+use Rattle.definitions.proofs.VerbSteps.{with_defaults}
 use Rattle.laws.proofs.DefaultsRead.{defaults_read}
 use Rattle.definitions.proofs.FirstStatus.{get-members_of}
 use Rattle.definitions.proofs.JsonMembers.{get_member-without_other}

@@ -6,6 +6,7 @@ pub mod ExpectationLaws
 pub mod FinalizerLaws
 pub mod FloorLaws
 pub mod GrammarLaws
+pub mod Happening
 pub mod HistoryLaws
 pub mod IdentityLaws
 pub mod LifecycleLaws

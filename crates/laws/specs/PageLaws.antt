@@ -1,12 +1,24 @@
 -- What follows from the definitions of pages and of their tokens.
-use Rattle.std.specs.Prelude.{◌≡◌, ◌≤◌, ◌<◌, ◌+◌, ◌==◌, ◌↔◌, ℕ, List, length, Option, Some, None, if◌then◌else◌}
+use Rattle.std.specs.Prelude.{◌≡◌, ◌≤◌, ◌<◌, ◌+◌, ◌==◌, ◌↔◌, ℕ, List, [], ◌∷◌, length, flat_map, Option, Some, None, if◌then◌else◌}
 use Rattle.definitions.specs.History.{History, View, Members, list}
-use Rattle.definitions.specs.Pages.{Place, after_place, last_place, Page, page_of, remaining, ArePages, joined, AreInPlace}
-use Rattle.definitions.specs.PageTokens.{Token, IsToken, token_of}
+use Rattle.definitions.specs.Pages.{Place, after_place, last_place, Page, page_of, remaining, AreInPlace}
+use Rattle.definitions.specs.PageTokens.{Token, IsToken}
+use Rattle.definitions.specs.ReadTokens.{token_of}
 
 -- the list of a view does
 abbrev pub ListsAreInPlace : Type 0
 ListsAreInPlace = (h : History) (v : View) (r : ℕ) → AreInPlace (list h v r)
+
+-- the pages of a list, from a place on, whatever the limits: each but the first is asked for by the place where the one
+-- before it ended, and the last one has no next
+abbrev pub ArePages : Members → Option Place → List Page → Type 0
+ArePages ms p [] = ⊥
+ArePages ms p (g ∷ []) = ((n : ℕ) × (g ≡ page_of ms n p)) × (g.next ≡ None)
+ArePages ms p (g ∷ h ∷ gs) = ((n : ℕ) × (g ≡ page_of ms n p)) × ((q : Place) × (g.next ≡ Some q) × ArePages ms (Some q) (h ∷ gs))
+
+-- the items of one page after those of another
+abbrev pub joined : List Page → Members
+joined gs = flat_map (λ g. g.items) gs
 
 -- the pages of a list, whatever their limits, joined, are the list
 abbrev pub PagesAreLists : Type 0

@@ -1,7 +1,8 @@
 -- What has happened at a server, whoever asked: what counts as that, and how far it goes.
 use Rattle.std.specs.Prelude.{◌≡◌, ◌≤◌, ◌++◌, ℕ, List, length, true, Ok}
 use Rattle.definitions.specs.declared.methods.Method.{Method}
-use Rattle.definitions.specs.History.{History, CanHappen, writes, present, members}
+use Rattle.definitions.specs.History.{History, writes, present, members}
+use Rattle.laws.specs.Happening.{CanHappen}
 use Rattle.line_protocol.specs.Lines.{history_of}
 use Rattle.definitions.specs.Moments.{is_moment}
 use Rattle.definitions.specs.Reached.{IsAsked, IsTime, IsReached}

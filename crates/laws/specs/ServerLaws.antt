@@ -1,6 +1,7 @@
 -- What follows from the definitions of servers: one that follows a history answers as the history does.
 use Rattle.std.specs.Prelude.{◌≡◌, ◌≤◌, ◌↔◌, ℕ, [], ◌∷◌, ◌++◌, List, Result, Ok, Err, IsOk}
-use Rattle.definitions.specs.History.{History, Write, write, CanHappen, View, present, list}
+use Rattle.definitions.specs.History.{History, Write, write, View, present, list}
+use Rattle.laws.specs.Happening.{CanHappen}
 use Rattle.definitions.specs.Refusals.{Refusal}
 use Rattle.definitions.specs.Verbs.{Request, accept_at, accept, write_of, history_after}
 use Rattle.definitions.specs.Changes.{changes, play}

@@ -1,3 +1,4 @@
 pub mod Fates
 pub mod Finalizers
 pub mod Options
+pub mod Updates

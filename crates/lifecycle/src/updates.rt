@@ -1,7 +1,7 @@
 //! What an update leaves of an object that is being deleted.
 ghost use Rattle.std.specs.Prelude.{◌≡◌, IfOk};
-ghost use Rattle.definitions.specs.Deletion.{after_update};
 ghost use Rattle.definitions.specs.Replacements.{is_let_go};
+ghost use Rattle.lifecycle.specs.Updates.{after_update};
 ghost use Rattle.meta.specs.Keys.{name_of};
 ghost use Rattle.meta.specs.Writes.{write_of};
 

@@ -10,7 +10,7 @@ use Rattle.definitions.specs.Frames.{kind_text, frame_kind}
 use Rattle.definitions.specs.History.{History, present}
 use Rattle.controllers.specs.Reflectors.{with_list, all_fed, play_deltas}
 use Rattle.laws.specs.SentLaws.{whole, IsShort, listed_at}
-use Rattle.definitions.specs.Streams.{Line, change, bookmark, initial, initial_end, Goes, change_event}
+use Rattle.definitions.specs.Streams.{Line, change, bookmark, initial, initial_end, Goes, event_of}
 use Rattle.laws.proofs.Limited.{limited}
 use Rattle.laws.proofs.SentChanges.{changes_told}
 use Rattle.laws.proofs.SentLists.{lists_put, lists_read}
@@ -29,7 +29,7 @@ length-framed Bookmark t = omega (arith, length-append t (codes ",\"type\":\"BOO
 length-framed Error t = omega (arith, length-append t (codes ",\"type\":\"ERROR\"}\n"))
 
 -- a line has room for a short change
-pub within : (c : Change) → IsShort c → IsWithin (change_event c)
+pub within : (c : Change) → IsShort c → IsWithin (event_of c.key.kind (change c))
 within c short =
     let kind = frame_kind c.kind in
     record {
@@ -43,7 +43,7 @@ all_back : (k : Kind) (ls : List Line) (at b : ℕ) (cs : List Change) → b ≤
 all_back k [] at b cs low g short read = tt
 all_back k (change d ∷ ls) at b [] low g short read = absurd g
 all_back k (change d ∷ ls) at b (c ∷ cs) low g short read =
-    (read.0 (subst (λ x. IsWithin (change_event x)) (sym g.0) (within c short.0)), all_back k ls c.revision b cs low g.1 short.1 read.1)
+    (read.0 (subst (λ x. IsWithin (event_of k (change x))) (sym g.0) (within c short.0)), all_back k ls c.revision b cs low g.1 short.1 read.1)
 all_back k (bookmark r ∷ ls) at b [] low g short read =
     (read.0 (IsWithin-bookmark k false r (omega (arith, g.1, low))), all_back k ls r b [] low g.2 short read.1)
 all_back k (bookmark r ∷ ls) at b (c ∷ cs) low g short read =

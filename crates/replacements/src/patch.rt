@@ -3,7 +3,8 @@ ghost use Rattle.std.specs.Prelude.{◌≡◌, ◌≤◌, List, ℕ};
 ghost use Rattle.serde_json.specs.View.{view};
 ghost use Rattle.definitions.specs.Revisions.{greatest_revision};
 ghost use Rattle.definitions.specs.Values.{merged};
-ghost use Rattle.definitions.specs.Verbs.{accept_at, patch_object, patch_read, said};
+ghost use Rattle.definitions.specs.Verbs.{accept_at, patch_object, said};
+ghost use Rattle.definitions.proofs.VerbSteps.{patch_read};
 ghost use Rattle.meta.specs.Keys.{name_of};
 ghost use Rattle.answers.specs.Serves.{Serves};
 

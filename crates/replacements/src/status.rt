@@ -5,7 +5,8 @@ ghost use Rattle.serde_json.specs.View.{view};
 ghost use Rattle.serde_json.specs.Written.{has_float};
 ghost use Rattle.definitions.specs.Replacements.{said_status, with_said_status};
 ghost use Rattle.definitions.specs.Revisions.{greatest_revision};
-ghost use Rattle.definitions.specs.Verbs.{accept_at, update_status, restate, restate_with};
+ghost use Rattle.definitions.specs.Verbs.{accept_at, update_status, replace_status};
+ghost use Rattle.definitions.proofs.VerbSteps.{restate};
 ghost use Rattle.meta.specs.Keys.{name_of};
 ghost use Rattle.answers.specs.Serves.{Serves};
 
@@ -58,7 +59,7 @@ fn restate_with(
     held: &Held<'_>,
 ) -> Result<(Reply, Option<Write>), Fault>
     requires { before ≤ greatest_revision }
-    ensures { Serves (restate_with (name_of key) object.value before held.now.object.value) result }
+    ensures { Serves (replace_status (name_of key) object.value before held.now.object.value) result }
 {
     match mismatch(&object, &held.object) {
         Some(why) => Err(Fault::Conflict(key, why)),

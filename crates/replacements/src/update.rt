@@ -5,7 +5,8 @@ ghost use Rattle.definitions.specs.Metadata.{metadata_of, with_metadata};
 ghost use Rattle.definitions.specs.Replacements.{in_place, keeping, kept, kept_of};
 ghost use Rattle.definitions.specs.Revisions.{greatest_revision};
 ghost use Rattle.definitions.specs.Values.{members_of};
-ghost use Rattle.definitions.specs.Verbs.{accept_at, update_object, replace, replace_with, replace_changed};
+ghost use Rattle.definitions.specs.Verbs.{accept_at, update_object, replace};
+ghost use Rattle.definitions.proofs.VerbSteps.{replace_with, replace_changed};
 ghost use Rattle.meta.specs.Keys.{name_of};
 ghost use Rattle.answers.specs.Serves.{Serves};
 

@@ -3,7 +3,7 @@ ghost use Rattle.std.specs.Prelude.{◌≡◌, IfOk, string_bytes, option_map, c
 ghost use Rattle.serde_json.specs.Data.{string, no_members, member};
 ghost use Rattle.serde_json.specs.View.{view};
 ghost use Rattle.serde_json.specs.Written.{compact_text};
-ghost use Rattle.definitions.specs.Refusals.{code, reason, about, details, status_body, success_body};
+ghost use Rattle.definitions.specs.Refusals.{code, told, details, status_body, success_body};
 ghost use Rattle.reply.specs.Bare.{bare_body};
 ghost use Rattle.meta.specs.Faults.{refusal_of};
 ghost use Rattle.meta.specs.Keys.{name_of};
@@ -36,7 +36,7 @@ pub fn code(fault: &Fault) -> u16
 
 /// The reason, a word for programs.
 fn reason(fault: &Fault) -> &'static str
-    ensures { result.now ≡ reason (refusal_of fault.now) }
+    ensures { result.now ≡ (told (refusal_of fault.now)).reason }
 {
     match fault {
         Fault::BadRequest(_) => "BadRequest",
@@ -57,7 +57,7 @@ fn reason(fault: &Fault) -> &'static str
 
 /// The key that the details of a fault name, if it has details.
 fn about(fault: &Fault) -> Option<&Key>
-    ensures { option_map (λ key. name_of key.now) result ≡ about (refusal_of fault.now) }
+    ensures { option_map (λ key. name_of key.now) result ≡ (told (refusal_of fault.now)).about }
 {
     match fault {
         Fault::NotFound(key) => Some(key),

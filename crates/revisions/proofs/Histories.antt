@@ -6,10 +6,10 @@ use Rattle.std.specs.Prelude.{ℕ, slice_get, Option, Some, None, option_map, op
 use Rattle.std.specs.Option.{option_copied}
 use denote.Ref.{Bor}
 use Rattle.meta.specs.declared.stored.StoredObject.{StoredObject}
-use Rattle.definitions.specs.History.{writes, put_at}
+use Rattle.definitions.specs.History.{writes}
 use Rattle.meta.specs.Writes.{write_of}
 use Rattle.meta.specs.declared.writes.Write.{Write}
-use Rattle.revisions.specs.Journals.{history_of}
+use Rattle.revisions.specs.Journals.{history_of, put_at}
 
 pub writes-history_of : (ws : List Write) → writes (history_of ws) ≡ map write_of ws
 writes-history_of [] = refl

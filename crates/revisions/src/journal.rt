@@ -23,7 +23,7 @@ impl Model for Journal {
 
     ghost coded = { coded_history };
 
-    ghost use Rattle.revisions.specs.Journals.{history_of};
+    ghost use Rattle.revisions.specs.Journals.{history_of, put_at};
 
     ghost view = { λ j. history_of j.writes.items };
 }
@@ -34,7 +34,7 @@ impl Journal {
     ghost use Rattle.meta.specs.Writes.{write_of};
     ghost use Rattle.selector.specs.Views.{view_of};
     ghost use Rattle.definitions.specs.History as history;
-    ghost use Rattle.definitions.specs.History.{writes, list, put_at};
+    ghost use Rattle.definitions.specs.History.{writes, list};
     ghost use Rattle.definitions.specs.Changes.{changes};
     ghost use Rattle.revisions.specs.Events.{change_seen};
 

@@ -2,8 +2,8 @@
 ghost use Rattle.std.specs.Prelude.{◌≡◌, IfOk, OnOk, ◌-◌, take, option_map};
 ghost use Rattle.meta.specs.Keys.{name_of};
 ghost use Rattle.meta.specs.Writes.{write_of};
-ghost use Rattle.definitions.specs.History.{members, after, put_at, put_or_remove};
-ghost use Rattle.revisions.specs.Journals.{history_of};
+ghost use Rattle.definitions.specs.History.{members, after, put_or_remove};
+ghost use Rattle.revisions.specs.Journals.{history_of, put_at};
 ghost use Rattle.revisions.specs.Seen.{seen};
 
 use meta::keys::Key;

@@ -1,10 +1,10 @@
--- What a delete does to an object: it is removed, or marked as being deleted while finalizers are left (Kubernetes, Finalizers; Garbage Collection).
+-- What a delete does to an object: it is removed or, while finalizers are left, its deletionTimestamp is set (Kubernetes, Finalizers; Garbage Collection).
 use Rattle.std.specs.Prelude.{ℕ, List, [], Bool, true, not, ◌&&◌, ◌||◌, ◌==◌, Option, Some, None, Result, Ok, Err, unwrap_or, codes, if◌then◌else◌}
 use Rattle.std.specs.Str.{bytes_eq}
 use Rattle.serde_json.specs.Data.{Data, string, array, Items, no_items, item, Members, put}
 use Rattle.serde_json.specs.Events.{items_len}
 use Rattle.definitions.specs.declared.kinds.Kind.{Kind}
-use Rattle.definitions.specs.declared.kinds.Kind.TheVariants.{ConfigMap, Pod, ReplicaSet, Deployment}
+use Rattle.definitions.specs.declared.kinds.Kind.TheVariants.{Pod}
 use Rattle.definitions.specs.declared.policies.Policy.{Policy}
 use Rattle.definitions.specs.declared.policies.Policy.TheVariants.{Orphan, Foreground, Background}
 use Rattle.definitions.specs.declared.refusals.Mismatch.{Mismatch}
@@ -13,10 +13,9 @@ use Rattle.definitions.specs.Objects.Checks.{finalizers, text_is, has_text}
 use Rattle.definitions.specs.Requests.DeleteOptions.{Options}
 use Rattle.definitions.specs.Texts.Kinds.{has_generation}
 use Rattle.definitions.specs.Objects.Metadata.{metadata_of, with_metadata, at_revision, uid, version, is_being_deleted, differs}
-use Rattle.definitions.specs.State.History.{Write}
 use Rattle.definitions.specs.Texts.Names.{Name}
 use Rattle.definitions.specs.Answers.Refusals.{success_body}
-use Rattle.definitions.specs.Objects.Replacements.{is_let_go, with_next_generation}
+use Rattle.definitions.specs.Objects.Replacements.{with_next_generation}
 
 -- ---- finalizers
 
@@ -26,17 +25,17 @@ orphan = codes "orphan"
 abbrev pub foreground : List ℕ
 foreground = codes "foregroundDeletion"
 
--- the finalizers by which the garbage collector knows a policy (Kubernetes, Garbage Collection)
+-- whether it is one of the finalizers by which the garbage collector knows a policy (Kubernetes, Garbage Collection)
 abbrev pub is_of_policy : Data → Bool
 is_of_policy d = text_is (bytes_eq orphan) d || text_is (bytes_eq foreground) d
 
--- that of each policy
+-- the finalizers of each policy
 abbrev pub of_policy : Policy → Items
 of_policy Orphan = item (string orphan) no_items
 of_policy Foreground = item (string foreground) no_items
 of_policy Background = no_items
 
--- these finalizers without those of a policy, and others after them
+-- these finalizers without those of any policy, and then the last ones
 abbrev pub others_then : Items → Items → Items
 others_then last no_items = last
 others_then last (item d ds) = if is_of_policy d then others_then last ds else item d (others_then last ds)
@@ -59,52 +58,44 @@ left_by (Some p) ds = if are_of p ds then ds else others_then (of_policy p) ds
 
 -- ---- what becomes of an object
 
--- the metadata of an object that is being deleted from this moment on, if it was not before: that is a new generation (Kubernetes API Conventions, Metadata)
+-- the metadata with its deletionTimestamp set, if it was not before: that is a new generation (Kubernetes API Conventions, Metadata)
 abbrev pub with_deletion : Kind → List ℕ → Data → Members
-with_deletion k moment held =
-    if is_being_deleted held then metadata_of held else put (codes "deletionTimestamp") (string moment) (with_next_generation (has_generation k) held (metadata_of held))
+with_deletion k moment old =
+    if is_being_deleted old then metadata_of old else put (codes "deletionTimestamp") (string moment) (with_next_generation (has_generation k) old (metadata_of old))
 
--- the object as being deleted, with these finalizers left, and so far at its version
+-- the object with its deletionTimestamp set and these finalizers, and so far at its version
 abbrev pub marked : Kind → List ℕ → Items → Data → Data
-marked k moment left held = with_metadata (put (codes "finalizers") (array left) (with_deletion k moment held)) held
+marked k moment left old = with_metadata (put (codes "finalizers") (array left) (with_deletion k moment old)) old
 
--- what a delete does: the object is removed, or marked, or kept as it is
+-- what a delete does: the object is removed, or stored with its deletionTimestamp set, or left as it is
 pub data Fate : Type 0 where
   remove : Fate
   mark : Data → Fate
   keep : Fate
 
--- an object is removed if no finalizer is left; what is being deleted already and has the finalizers left is kept as it is (Kubernetes, Finalizers)
+-- an object is removed if no finalizer is left; one that is being deleted already, with the finalizers that are left, stays as it is (Kubernetes, Finalizers)
 abbrev pub fate : Kind → Option Policy → List ℕ → Data → Fate
-fate k policy moment held =
-    if items_len (left_by policy (finalizers held)) == 0 then remove
-    else (if is_being_deleted held && leaves policy (finalizers held) then keep else mark (marked k moment (left_by policy (finalizers held)) held))
+fate k policy moment old =
+    let left = left_by policy (finalizers old) in
+    if items_len left == 0 then remove else (if is_being_deleted old && leaves policy (finalizers old) then keep else mark (marked k moment left old))
 
 -- what a delete does, or the first of its preconditions that is not met (Kubernetes API reference, Preconditions)
 abbrev pub decided : Kind → Options → List ℕ → Data → Result Fate Mismatch
-decided k o moment held =
-    if differs o.uid (uid held) then Err mismatch.Uid
-    else (if differs o.version (version held) then Err mismatch.ResourceVersion else Ok (fate k o.policy moment held))
-
--- what an update writes: the object in the place of the one that is held or, where nothing keeps it any more, its removal (Kubernetes, Finalizers)
-abbrev pub after_update : Name → Data → Data → Write
-after_update k held new = record { key = k; put = if is_let_go held new then None else Some new }
+decided k o moment old =
+    if differs o.uid (uid old) then Err mismatch.Uid
+    else (if differs o.version (version old) then Err mismatch.ResourceVersion else Ok (fate k o.policy moment old))
 
 -- ---- answers
 
 -- what is answered for a removed object: of a Pod the Pod, at the revision of its removal, of the others that it is gone
 abbrev pub gone : Name → Data → Data
-gone k held = success_body (Some (k, unwrap_or (uid held) []))
+gone k old = success_body (Some (k, unwrap_or (uid old) []))
 
 abbrev pub removal_of : Kind → Name → ℕ → Data → Data
-removal_of ConfigMap k r held = gone k held
-removal_of Pod k r held = at_revision r (metadata_of held) held
-removal_of ReplicaSet k r held = gone k held
-removal_of Deployment k r held = gone k held
+removal_of Pod k r old = at_revision r (metadata_of old) old
+removal_of kind k r old = gone k old
 
 -- the HTTP status code for an object that is not removed: it is accepted that its dependents go first (RFC 9110, 202 Accepted)
 abbrev pub kept_code : Option Policy → ℕ
-kept_code None = 200
-kept_code (Some Orphan) = 200
 kept_code (Some Foreground) = 202
-kept_code (Some Background) = 200
+kept_code policy = 200

@@ -1,56 +1,43 @@
 -- What a list is answered: a page of it, and what it says of itself (Kubernetes API Concepts, Collections; Retrieving large results sets in chunks).
-use Rattle.std.specs.Prelude.{ℕ, List, [], ◌∷◌, Bool, true, false, not, ◌&&◌, Option, Some, None, Result, Ok, Err, codes, decimal, if◌then◌else◌}
+use Rattle.std.specs.Prelude.{ℕ, Bool, not, ◌&&◌, ◌==◌, length, Option, Some, None, option_map, Result, Ok, Err, codes, if◌then◌else◌}
 use Rattle.serde_json.specs.Data as json
-use Rattle.serde_json.specs.Data.{Data, string, number, unsigned, no_members, member}
+use Rattle.serde_json.specs.Data.{Data, string, number, unsigned, member}
 use Rattle.definitions.specs.declared.kinds.Kind.{Kind}
 use Rattle.definitions.specs.State.History.{History, View}
 use Rattle.definitions.specs.Requests.Collections.{ListOptions}
 use Rattle.definitions.specs.State.Pages.{Place, Page, page_of, remaining}
 use Rattle.definitions.specs.Requests.PageTokens.{Token, token_text}
-use Rattle.definitions.specs.Answers.Refusals.{Refusal}
-use Rattle.definitions.specs.Answers.Verbs.{Outcome, answered, refused, list_with}
+use Rattle.definitions.specs.Answers.Refusals.{Refusal, with_optional}
+use Rattle.server_state.specs.Servers as servers
+use Rattle.server_state.specs.Servers.{Server}
+use Rattle.definitions.specs.Answers.Verbs.{Outcome, refused, shown, at_version, list_with}
 use Rattle.definitions.specs.Answers.Versions.{Listed, list_for}
 
 -- the token that asks for what comes after a place, in the list at revision r
 abbrev pub token_after : ℕ → Place → Token
 token_after r p = record { name = p.name; namespace = p.namespace; revision = r }
 
-abbrev pub version_member : ℕ → json.Members
-version_member r = member (codes "resourceVersion") (string (decimal r)) no_members
-
--- how many objects follow, where that is told
-abbrev pub count_member : Option ℕ → json.Members → json.Members
-count_member None ms = ms
-count_member (Some n) ms = member (codes "remainingItemCount") (number (unsigned n)) ms
-
--- what a page at revision r says of itself: how to go on, how many objects follow, its revision (Kubernetes API reference, ListMeta)
+-- what a page at revision r says of itself: how to go on, how many objects follow, if that is told, and its revision (Kubernetes API reference, ListMeta)
 abbrev pub page_metadata : ℕ → Option ℕ → Option Place → json.Members
-page_metadata r count None = version_member r
-page_metadata r count (Some p) = member (codes "continue") (string (token_text (token_after r p))) (count_member count (version_member r))
+page_metadata r count None = at_version r
+page_metadata r count (Some p) = member (codes "continue") (string (token_text (token_after r p))) (with_optional (codes "remainingItemCount") (option_map (λ n. number (unsigned n)) count) (at_version r))
 
 -- a page at revision r (Kubernetes API Concepts, Collections)
 abbrev pub page_body : Kind → ℕ → Option ℕ → Page → Data
 page_body k r count page = list_with k (page_metadata r count page.next) page.items
 
-abbrev is_empty : {X : Type 0} → List X → Bool
-is_empty [] = true
-is_empty (x ∷ xs) = false
-
 -- whether the view selects by labels or fields
 abbrev pub is_selective : View → Bool
-is_selective v = not (is_empty v.labels && is_empty v.fields)
+is_selective v = not (length v.labels == 0 && length v.fields == 0)
 
 -- how many objects follow a page is told where nothing is selected (Kubernetes API reference, ListMeta)
 abbrev pub told_count : View → ListOptions → Listed → Option ℕ
 told_count v o l = if is_selective v then None else Some (remaining l.members o.limit o.after)
 
 -- the page of a list that is asked
-abbrev pub page_answer : View → ListOptions → Listed → Outcome
-page_answer v o l = answered (record { code = 200; body = page_body v.kind l.revision (told_count v o l) (page_of l.members o.limit o.after); write = None })
-
 abbrev pub list_answer : View → ListOptions → Result Listed Refusal → Outcome
 list_answer v o (Err f) = refused f
-list_answer v o (Ok l) = page_answer v o l
+list_answer v o (Ok l) = shown (page_body v.kind l.revision (told_count v o l) (page_of l.members o.limit o.after))
 
 -- what a list is answered after all that has happened, with windows of this size
 abbrev pub list_outcome : ℕ → History → View → ListOptions → Outcome

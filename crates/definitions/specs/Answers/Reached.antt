@@ -1,13 +1,13 @@
 -- What can have happened at a server: requests that were accepted one after another, whoever asked, and compactions between them.
-use Rattle.std.specs.Prelude.{◌≡◌, ◌≤◌, ◌<◌, ◌^◌, ℕ, ℤ, pos, negsuc, List, [], ◌∷◌, ◌++◌, length, true}
+use Rattle.std.specs.Prelude.{◌≡◌, ◌≤◌, ◌<◌, ◌^◌, ℕ, pos, negsuc, List, [], ◌∷◌, ◌++◌, length, true}
 use Rattle.std.specs.Ordering.{nat_cmp}
 use Rattle.std.specs.declared.cmp.Ordering.TheVariants.{Less}
 use Rattle.std.specs.Cmp.Lexicographic.{slice_cmp}
 use Rattle.std.specs.Str.{IsUtf8}
-use Rattle.serde_json.specs.Data.{Num, unsigned, negative, float, Data, null, boolean, number, string, array, object, Items, no_items, item, Members, no_members, member}
+use Rattle.serde_json.specs.Data.{Num, unsigned, negative, float, Data, number, string, array, object, Items, no_items, item, Members, no_members, member}
 use Rattle.definitions.specs.State.History.{History, compaction, present}
 use Rattle.definitions.specs.Texts.Names.{is_namespace}
-use Rattle.definitions.specs.Answers.Verbs.{Request, get_object, list_objects, create_object, update_object, update_status, patch_object, delete_object, accept, history_after}
+use Rattle.definitions.specs.Answers.Verbs.{Request, create_object, update_object, update_status, patch_object, accept, history_after}
 
 -- ---- what is asked
 
@@ -16,27 +16,21 @@ abbrev pub IsBefore : List ℕ → Members → Type 0
 IsBefore k no_members = Unit {0}
 IsBefore k (member l d ms) = (slice_cmp nat_cmp k l ≡ Less) × IsBefore k ms
 
--- an integer from -2^63 up to below zero
-abbrev pub IsBelowZero : ℤ → Type 0
-IsBelowZero (pos n) = ⊥
-IsBelowZero (negsuc n) = n < 2 ^ 63
-
--- a number as a parser gives it: an integer of 64 bits, or whatever float (RFC 8259, Numbers)
+-- a number as a parser gives it: an integer from -2^63 up to below 2^64, `negative` just if it is below zero, or whatever float (RFC 8259, Numbers)
 abbrev pub IsInRange : Num → Type 0
 IsInRange (unsigned n) = n < 2 ^ 64
-IsInRange (negative z) = IsBelowZero z
+IsInRange (negative (pos n)) = ⊥
+IsInRange (negative (negsuc n)) = n < 2 ^ 63
 IsInRange (float x) = Unit {0}
 
--- data as a parser gives it: the members of each object in the order of their names, each name once (RFC 8259, Objects), each
--- integer one of 64 bits, and each text in UTF-8
+-- data as a parser gives it: the members of each object in the order of their names, each name once (RFC 8259, Objects), and each text in UTF-8
 abbrev mutual
   pub IsParsed : Data → Type 0
-  IsParsed null = Unit {0}
-  IsParsed (boolean b) = Unit {0}
   IsParsed (number n) = IsInRange n
   IsParsed (string t) = IsUtf8 t
   IsParsed (array ds) = AreParsed ds
   IsParsed (object ms) = AreInOrder ms
+  IsParsed d = Unit {0}
 
   pub AreParsed : Items → Type 0
   AreParsed no_items = Unit {0}
@@ -48,13 +42,11 @@ abbrev mutual
 
 -- a request as it can be read of bytes: a create is in a namespace, and a body is as a parser gives it
 abbrev pub IsAsked : Request → Type 0
-IsAsked (get_object k) = Unit {0}
-IsAsked (list_objects v) = Unit {0}
 IsAsked (create_object kind ns d) = (is_namespace ns ≡ true) × IsParsed d
 IsAsked (update_object k d) = IsParsed d
 IsAsked (update_status k d) = IsParsed d
 IsAsked (patch_object k d) = IsParsed d
-IsAsked (delete_object k o) = Unit {0}
+IsAsked q = Unit {0}
 
 -- a text in UTF-8, as long as a moment can be; it is not read
 abbrev pub IsTime : List ℕ → Type 0

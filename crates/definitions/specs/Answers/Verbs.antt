@@ -1,5 +1,6 @@
 -- What each request is answered, and what it writes, by cases over what is there at the present revision.
 use Rattle.std.specs.Prelude.{ℕ, ◌+◌, List, [], ◌∷◌, ◌++◌, Bool, not, ◌||◌, length, map, Option, Some, None, Result, Ok, Err, codes, decimal, nat_le, nat_lt, is_some, ◌&&◌, if◌then◌else◌}
+use Rattle.std.specs.Result.{result_map_both}
 use Rattle.serde_json.specs.Data.{Data, string, array, object, Members, no_members, member}
 use Rattle.serde_json.specs.View.{items_of}
 use Rattle.serde_json.specs.Written.{compact_text}
@@ -39,13 +40,13 @@ pub data Request : Type 0 where
   patch_object : Name → Data → Request
   delete_object : Name → Options → Request
 
--- an answer: its HTTP status code, its body, and at most one write
+-- an answer: its HTTP status code, its body, and the write that it makes, if any
 pub record Answer : Type 0 where
   pub code : ℕ
   pub body : Data
   pub write : Option Write
 
--- an answer, with at most one write, or a refusal, with none
+-- an answer, or a refusal, which writes nothing
 pub data Outcome : Type 0 where
   answered : Answer → Outcome
   refused : Refusal → Outcome
@@ -78,21 +79,35 @@ most_objects = 65536
 abbrev pub longest_object : ℕ
 longest_object = 1572864
 
--- ---- pieces of the cases
+-- ---- what the verbs share
 
 abbrev pub refuse_if : Bool → Refusal → Outcome → Outcome
 refuse_if b f o = if b then refused f else o
 
--- a field of an object is at fault, or none is
+-- a field of the object with this name is at fault, or none is
 abbrev pub refuse_field : Name → Option Field → Outcome → Outcome
 refuse_field k None o = o
 refuse_field k (Some f) o = refused (invalid k f)
 
--- an object is written under its key, and answered
+-- what is done with a body, if it can be read
+abbrev pub if_read : Result Data Part → (Data → Outcome) → Outcome
+if_read (Err p) next = refused (bad_request p)
+if_read (Ok o) next = next o
+
+-- what is done with the object that is there, if there is one
+abbrev pub or_absent : Name → (Data → Outcome) → Option Data → Outcome
+or_absent k next None = refused (not_found k)
+or_absent k next (Some d) = next d
+
+-- an object is answered as it stands (Kubernetes API Concepts, GET)
+abbrev pub shown : Data → Outcome
+shown d = answered (record { code = 200; body = d; write = None })
+
+-- an object is stored under its key, and answered
 abbrev pub stored : ℕ → Name → Data → Outcome
 stored code k d = answered (record { code = code; body = d; write = Some (record { key = k; put = Some d }) })
 
--- an object is removed, and answered
+-- the object under a key is removed, and this is answered
 abbrev pub removed : Name → Data → Outcome
 removed k d = answered (record { code = 200; body = d; write = Some (record { key = k; put = None }) })
 
@@ -102,27 +117,15 @@ is_too_large d = nat_lt longest_object (length (compact_text d))
 abbrev pub is_past_greatest : ℕ → Bool
 is_past_greatest r = nat_lt greatest_revision r
 
--- whether a write makes more objects than there may be, or has a revision past the greatest
+-- whether a write after revision r makes more objects than there may be, or has a revision past the greatest
 abbrev pub overflows : history.Members → ℕ → Write → Bool
 overflows ms r w = (nat_le most_objects (length ms) && is_some w.put && not (is_some (found w.key ms))) || is_past_greatest (r + 1)
 
--- what a body says, with what is filled in where its spec leaves it out
-abbrev pub with_defaults : Kind → Result Data Part → Result Data Part
-with_defaults k (Err p) = Err p
-with_defaults k (Ok o) = Ok (defaulted k o)
-
+-- what a body says as an object of a kind, with what is filled in where its spec leaves it out
 abbrev pub said : Kind → Data → Result Data Part
-said k d = with_defaults k (reading k d)
+said k d = result_map_both (defaulted k) (λ p. p) (reading k d)
 
--- ---- get and list
-
-abbrev pub or_absent : Name → (Data → Outcome) → Option Data → Outcome
-or_absent k f None = refused (not_found k)
-or_absent k f (Some d) = f d
-
--- an object is answered as it stands (Kubernetes API Concepts, GET)
-abbrev pub shown : Data → Outcome
-shown d = answered (record { code = 200; body = d; write = None })
+-- ---- list
 
 -- an object as an item of a list, which says the kind once for all (Kubernetes API Concepts, Collections)
 abbrev pub as_item : Data → Data
@@ -136,20 +139,14 @@ list_with k metadata ms =
     (member (codes "items") (array (items_of (map (λ m. as_item m.1) ms)))
     (member (codes "kind") (string (kind_text k ++ codes "List")) (member (codes "metadata") (object metadata) no_members))))
 
+abbrev pub at_version : ℕ → Members
+at_version r = member (codes "resourceVersion") (string (decimal r)) no_members
+
 -- a list at a revision
 abbrev pub list_body : Kind → ℕ → history.Members → Data
-list_body k r ms = list_with k (member (codes "resourceVersion") (string (decimal r)) no_members) ms
-
-abbrev pub listed : View → history.Members → ℕ → Outcome
-listed v ms r = answered (record { code = 200; body = list_body v.kind r (viewed v ms); write = None })
+list_body k r ms = list_with k (at_version r) ms
 
 -- ---- create
-
--- an object is put where none is, in the first case that there is (Kubernetes API Concepts, POST)
-abbrev pub create_as : Name → Data → history.Members → ℕ → Outcome
-create_as k d ms r =
-    refuse_if (is_too_large d) too_large
-    (refuse_if (is_some (found k ms)) (already_exists k) (refuse_if (nat_le most_objects (length ms) || is_past_greatest (r + 1)) storage_full (stored 201 k d)))
 
 abbrev pub is_free : Kind → List ℕ → history.Members → List ℕ → Bool
 is_free kind ns ms name = not (is_some (found (record { kind = kind; namespace = ns; name = name }) ms))
@@ -158,112 +155,76 @@ is_free kind ns ms name = not (is_some (found (record { kind = kind; namespace =
 abbrev pub new_name : Kind → List ℕ → Data → history.Members → ℕ → Name
 new_name kind ns o ms r = record { kind = kind; namespace = ns; name = name_from (is_free kind ns ms) (name o) (generate_name o) (r + 1) }
 
--- each field of a new object, which has its first status by then, is as it has to be
-abbrev pub create_checked : Name → Data → history.Members → ℕ → List ℕ → Outcome
-create_checked k o ms r moment = refuse_field k (create_fault k.kind k.name r (with_first_status k.kind o)) (create_as k (created k.kind (r + 1) k.namespace k.name moment o) ms r)
-
--- a new object names no other namespace than its path, and no version
-abbrev pub create_read : Kind → List ℕ → Result Data Part → history.Members → ℕ → List ℕ → Outcome
-create_read kind ns (Err p) ms r moment = refused (bad_request p)
-create_read kind ns (Ok o) ms r moment =
-    refuse_if (is_other (namespace o) ns || is_some (version o)) (bad_request part.Object) (create_checked (new_name kind ns o ms r) o ms r moment)
+-- a new object, with its first status, is stored if none has its name and its fields are as they have to be (Kubernetes API Concepts, POST)
+abbrev pub create : Kind → List ℕ → Data → history.Members → ℕ → List ℕ → Outcome
+create kind ns o ms r moment =
+    let k = new_name kind ns o ms r in
+    let new = created kind (r + 1) ns k.name moment o in
+    refuse_if (is_other (namespace o) ns || is_some (version o)) (bad_request part.Object)
+    (refuse_field k (create_fault kind k.name r (with_first_status kind o))
+    (refuse_if (is_too_large new) too_large
+    (refuse_if (is_some (found k ms)) (already_exists k) (refuse_if (nat_le most_objects (length ms) || is_past_greatest (r + 1)) storage_full (stored 201 k new)))))
 
 -- ---- update
 
--- an object is put in the place of another
-abbrev pub put_in_place : Name → Data → ℕ → Outcome
-put_in_place k d r = refuse_if (is_too_large d) too_large (refuse_if (is_past_greatest (r + 1)) storage_full (stored 200 k d))
-
--- what nothing keeps any more is removed, and answered at the revision of its removal (Kubernetes, Finalizers)
-abbrev pub let_go : Name → Data → ℕ → Outcome
-let_go k d r = refuse_if (is_past_greatest (r + 1)) storage_full (removed k d)
-
--- an object in the place of the one that is held: where it says the same nothing is written
-abbrev pub replace_changed : Name → Data → Data → ℕ → Outcome
-replace_changed k held d r =
-    if says_the_same held d then shown held
-    else (let new = updated k.kind (r + 1) held d in if is_let_go held new then let_go k new r else put_in_place k new r)
-
--- each field of what replaces an object is as it has to be
-abbrev pub replace_with : Name → Data → Data → ℕ → Outcome
-replace_with k held d r = refuse_field k (update_fault k.kind k.name r held d) (replace_changed k held d r)
-
--- what is there has the uid and the version that are named (Kubernetes API Conventions, Concurrency Control and Consistency)
-abbrev pub if_same : Name → Data → Data → Outcome → Outcome
-if_same k o held next =
-    refuse_if (differs (uid o) (uid held)) (conflict k mismatch.Uid) (refuse_if (differs (version o) (version held)) (conflict k mismatch.Modified) next)
-
--- an update names the object of its path, and no other namespace
+-- whether an object names the one of a path, and no other namespace
 abbrev pub names_path : Name → Data → Bool
 names_path k o = not (is_other (namespace o) k.namespace) && not (differs (Some k.name) (name o))
 
+-- what is done with a body that can be read, and names the object of the path
+abbrev pub if_named : Name → Result Data Part → (Data → Outcome) → Outcome
+if_named k read next = if_read read (λ o. refuse_if (not (names_path k o)) (bad_request part.Object) (next o))
+
+-- what is done where the object that is stored has the uid and the version that another names (Kubernetes API Conventions, Concurrency Control and Consistency)
+abbrev pub if_same : Name → Data → Data → Outcome → Outcome
+if_same k o old next =
+    refuse_if (differs (uid o) (uid old)) (conflict k mismatch.Uid) (refuse_if (differs (version o) (version old)) (conflict k mismatch.Modified) next)
+
+-- an object is stored in the place of another
+abbrev pub put_in_place : Name → Data → ℕ → Outcome
+put_in_place k d r = refuse_if (is_too_large d) too_large (refuse_if (is_past_greatest (r + 1)) storage_full (stored 200 k d))
+
+-- the object under a key is removed, and this is answered, if a revision is left for the removal
+abbrev pub let_go : Name → Data → ℕ → Outcome
+let_go k d r = refuse_if (is_past_greatest (r + 1)) storage_full (removed k d)
+
+-- an object replaces the one that is stored, which is removed where its last finalizer is; what says the same writes nothing (Kubernetes API Concepts, PUT; Kubernetes, Finalizers)
 abbrev pub replace : Name → Data → ℕ → Data → Outcome
-replace k o r held = if_same k o held (replace_with k held (in_place k.kind held o) r)
+replace k o r old =
+    let d = in_place k.kind old o in
+    let new = updated k.kind (r + 1) old d in
+    if_same k o old
+    (refuse_field k (update_fault k.kind k.name r old d) (if says_the_same old d then shown old else (if is_let_go old new then let_go k new r else put_in_place k new r)))
 
--- the object that is there is replaced (Kubernetes API Concepts, PUT)
-abbrev pub update_read : Name → Result Data Part → history.Members → ℕ → Outcome
-update_read k (Err p) ms r = refused (bad_request p)
-update_read k (Ok o) ms r = refuse_if (not (names_path k o)) (bad_request part.Object) (or_absent k (replace k o r) (found k ms))
-
--- ---- update of the status
-
--- a status that says the same is not written, and no count is below 0
-abbrev pub restate : Name → Data → Data → ℕ → Outcome
-restate k held d r =
-    refuse_if (not (is_status_valid k.kind d)) (invalid k field.Status) (if says_the_same held d then shown held else put_in_place k (at_revision (r + 1) (metadata_of d) d) r)
-
-abbrev pub restate_with : Name → Data → ℕ → Data → Outcome
-restate_with k o r held = if_same k o held (restate k held (with_said_status k.kind held o) r)
-
--- of the object that is there the status is replaced, and nothing else (Kubernetes API Conventions, Spec and Status)
-abbrev pub status_put : Name → Result Data Part → history.Members → ℕ → Outcome
-status_put k (Err p) ms r = refused (bad_request p)
-status_put k (Ok o) ms r = refuse_if (not (names_path k o)) (bad_request part.Object) (or_absent k (restate_with k o r) (found k ms))
-
--- a kind without a status has none to be replaced, whatever the body says
-abbrev pub status_read : Name → Result Data Part → history.Members → ℕ → Outcome
-status_read k read ms r = refuse_if (not (has_status k.kind)) (not_found k) (status_put k read ms r)
-
--- ---- patch
-
-abbrev pub patch_read : Name → ℕ → Data → Result Data Part → Outcome
-patch_read k r held (Err p) = refused (bad_request p)
-patch_read k r held (Ok o) = refuse_if (not (names_path k o)) (bad_request part.Object) (replace k o r held)
-
--- a merge patch (RFC 7396) of the object that is there says what an update of it says (Kubernetes API Concepts, PATCH)
-abbrev pub patch : Name → Data → history.Members → ℕ → Outcome
-patch k d ms r = refuse_if (not (is_body d)) (bad_request part.Body) (or_absent k (λ held. patch_read k r held (said k.kind (merged held d))) (found k ms))
+-- the status that an object says replaces that of the one that is stored, and nothing else is taken of it (Kubernetes API Conventions, Spec and Status)
+abbrev pub replace_status : Name → Data → ℕ → Data → Outcome
+replace_status k o r old =
+    let d = with_said_status k.kind old o in
+    if_same k o old
+    (refuse_if (not (is_status_valid k.kind d)) (invalid k field.Status) (if says_the_same old d then shown old else put_in_place k (at_revision (r + 1) (metadata_of d) d) r))
 
 -- ---- delete
 
--- a mark is a write; it has no limit of its own, for what is too long to be marked could not be deleted
-abbrev pub put_mark : ℕ → Name → Data → ℕ → Outcome
-put_mark code k d r = refuse_if (is_past_greatest (r + 1)) storage_full (stored code k (at_revision (r + 1) (metadata_of d) d))
-
-abbrev pub by_fate : Name → ℕ → Data → ℕ → Fate → Outcome
-by_fate k code held r remove = let_go k (removal_of k.kind k (r + 1) held) r
-by_fate k code held r (mark d) = put_mark code k d r
-by_fate k code held r keep = answered (record { code = code; body = held; write = None })
-
+-- the object that is stored is removed, or its deletionTimestamp is set, however large it is then (Kubernetes API Concepts, DELETE)
 abbrev pub by_decision : Name → ℕ → Data → ℕ → Result Fate Mismatch → Outcome
-by_decision k code held r (Err why) = refused (conflict k why)
-by_decision k code held r (Ok f) = by_fate k code held r f
-
--- the object that is there is removed, or is being deleted from then on (Kubernetes API Concepts, DELETE)
-abbrev pub delete : Name → Options → history.Members → ℕ → List ℕ → Outcome
-delete k o ms r moment = or_absent k (λ held. by_decision k (kept_code o.policy) held r (decided k.kind o moment held)) (found k ms)
+by_decision k code old r (Err why) = refused (conflict k why)
+by_decision k code old r (Ok remove) = let_go k (removal_of k.kind k (r + 1) old) r
+by_decision k code old r (Ok (mark d)) = refuse_if (is_past_greatest (r + 1)) storage_full (stored code k (at_revision (r + 1) (metadata_of d) d))
+by_decision k code old r (Ok keep) = answered (record { code = code; body = old; write = None })
 
 -- ---- the verbs
 
--- what a request is answered and writes, over what is there
+-- what a request is answered and writes, over what is there at revision r; a merge patch (RFC 7396) updates by the object that it makes (Kubernetes API Concepts, PATCH)
 abbrev pub accept_at : Request → history.Members → ℕ → List ℕ → Outcome
 accept_at (get_object k) ms r moment = or_absent k shown (found k ms)
-accept_at (list_objects v) ms r moment = listed v ms r
-accept_at (create_object kind ns d) ms r moment = create_read kind ns (said kind d) ms r moment
-accept_at (update_object k d) ms r moment = update_read k (said k.kind d) ms r
-accept_at (update_status k d) ms r moment = status_read k (reading k.kind d) ms r
-accept_at (patch_object k d) ms r moment = patch k d ms r
-accept_at (delete_object k o) ms r moment = delete k o ms r moment
+accept_at (list_objects v) ms r moment = shown (list_body v.kind r (viewed v ms))
+accept_at (create_object kind ns d) ms r moment = if_read (said kind d) (λ o. create kind ns o ms r moment)
+accept_at (update_object k d) ms r moment = if_named k (said k.kind d) (λ o. or_absent k (replace k o r) (found k ms))
+accept_at (update_status k d) ms r moment =
+    refuse_if (not (has_status k.kind)) (not_found k) (if_named k (reading k.kind d) (λ o. or_absent k (replace_status k o r) (found k ms)))
+accept_at (patch_object k d) ms r moment =
+    refuse_if (not (is_body d)) (bad_request part.Body) (or_absent k (λ old. if_named k (said k.kind (merged old d)) (λ o. replace k o r old)) (found k ms))
+accept_at (delete_object k o) ms r moment = or_absent k (λ old. by_decision k (kept_code o.policy) old r (decided k.kind o moment old)) (found k ms)
 
 -- the answer to a request at a moment, after all that has happened
 abbrev pub accept : Request → History → List ℕ → Outcome

@@ -16,7 +16,6 @@ pub record Listed : Type 0 where
   pub revision : ℕ
   pub members : Members
 
--- these as a list at r
 abbrev pub listed_as : ℕ → Members → Listed
 listed_as r ms = record { revision = r; members = ms }
 
@@ -55,13 +54,9 @@ watched now a n cs = record { changes = take n cs; stands = if nat_le (length cs
 abbrev pub watched_from : ℕ → History → View → ℕ → ℕ → Result Watched Refusal
 watched_from size h v a n = result_map_both (watched (present h) a n) (λ f. f) (since size h v a (n + 1))
 
--- a bookmark at b, where the stream stands below it (Kubernetes API Concepts, Watch bookmarks)
-abbrev pub bookmark_above : ℕ → ℕ → List Line
-bookmark_above at b = if nat_lt at b then bookmark b ∷ [] else []
-
--- the lines that show this to a watch from a
+-- the lines that show this to a watch from a: the changes, and a bookmark where it stands above the last one (Kubernetes API Concepts, Watch bookmarks)
 abbrev pub lines_from : ℕ → Watched → List Line
-lines_from a w = map change w.changes ++ bookmark_above (last_change a w.changes) w.stands
+lines_from a w = map change w.changes ++ (if nat_lt (last_change a w.changes) w.stands then bookmark w.stands ∷ [] else [])
 
 -- ---- compactions
 

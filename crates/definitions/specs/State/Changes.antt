@@ -14,7 +14,7 @@ pub record Change : Type 0 where
   pub key : Name
   pub object : Data
 
--- an object as it was, at the revision of the write by which it is gone
+-- an object as it was, at the revision of the write by which it is removed
 abbrev pub gone_at : ℕ → Data → Data
 gone_at r d = at_revision r (metadata_of d) d
 
@@ -38,19 +38,18 @@ changes_after v before (w ∷ ws) = write_change v before w ++ changes_after v (
 abbrev pub changes : History → View → ℕ → ℕ → List Change
 changes h v a b = changes_after v (up_to a h) (drop (a - 1) (up_to b h))
 
--- ---- playing them
+-- ---- what they make of the list
 
 -- what is there of the object after the change
 abbrev pub put_of : ChangeKind → Data → Option Data
-put_of Added d = Some d
-put_of Modified d = Some d
 put_of Deleted d = None
+put_of kind d = Some d
 
--- a change taken into what is held
+-- a change applied to what is there
 abbrev pub play_one : Members → Change → Members
 play_one ms c = put_or_remove ms c.key (put_of c.kind c.object)
 
--- changes taken in one after another
+-- changes applied one after another
 abbrev pub play : Members → List Change → Members
 play ms [] = ms
 play ms (c ∷ cs) = play (play_one ms c) cs

@@ -1,5 +1,5 @@
 -- What has happened, the state at each revision, and its lists.
-use Rattle.std.specs.Prelude.{ℕ, ◌≤◌, ◌+◌, ◌-◌, ◌==◌, ◌&&◌, Bool, true, List, [], ◌∷◌, length, take, filter, slice_get, option_and_then, Option, Some, None, if◌then◌else◌}
+use Rattle.std.specs.Prelude.{ℕ, ◌+◌, ◌-◌, ◌==◌, ◌&&◌, Bool, true, List, [], ◌∷◌, length, take, filter, Option, Some, None, if◌then◌else◌}
 use Rattle.std.specs.BTreeMap.{insert_entry, is_at}
 use Rattle.std.specs.Map.{remove_entry, lookup}
 use Rattle.std.specs.Str.{bytes_eq}
@@ -34,16 +34,6 @@ writes (compaction r ∷ h) = writes h
 abbrev pub present : History → ℕ
 present h = length (writes h) + 1
 
--- these entries can follow when revision r is present: a compaction reaches no further than what has happened before it (etcd API, Compact)
-abbrev pub Follows : ℕ → History → Type 0
-Follows r [] = Unit {0}
-Follows r (write w ∷ h) = Follows (r + 1) h
-Follows r (compaction c ∷ h) = (c ≤ r) × Follows r h
-
--- these entries can happen, from the beginning
-abbrev pub CanHappen : History → Type 0
-CanHappen h = Follows 1 h
-
 -- the writes up to revision r: the n-th has revision n + 1
 abbrev pub up_to : ℕ → History → List Write
 up_to r h = take (r - 1) (writes h)
@@ -56,10 +46,6 @@ last_of before k (w ∷ ws) = last_of (if is_named k w.key then w.put else befor
 -- the object under a key at a revision (Kubernetes API Concepts, Resource versions)
 abbrev pub state : History → ℕ → Name → Option Data
 state h r k = last_of None k (up_to r h)
-
--- the object that the write at a place put, the first place being 0
-abbrev pub put_at : History → ℕ → Option Data
-put_at h place = option_and_then (λ w. w.put) (slice_get (writes h) place)
 
 -- names and their objects, in the order of names
 abbrev pub Members : Type 0

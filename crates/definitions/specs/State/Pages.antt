@@ -1,5 +1,5 @@
 -- Lists cut into pages (Kubernetes API Concepts, Retrieving large results sets in chunks).
-use Rattle.std.specs.Prelude.{◌≡◌, ◌==◌, ℕ, ◌-◌, List, [], ◌∷◌, length, map, take, filter, flat_map, Bool, true, nat_le, Option, Some, None, if◌then◌else◌}
+use Rattle.std.specs.Prelude.{◌==◌, ◌||◌, ℕ, ◌-◌, List, [], ◌∷◌, length, map, take, filter, Bool, true, nat_le, Option, Some, None, if◌then◌else◌}
 use Rattle.std.specs.List.Sorted.{IsStrictlySortedBy}
 use Rattle.std.specs.Ordering.{nat_cmp, then_cmp, on, is_lt}
 use Rattle.std.specs.Cmp.Lexicographic.{slice_cmp}
@@ -43,25 +43,12 @@ pub record Page : Type 0 where
   pub items : Members
   pub next : Option Place
 
--- the first n, and where they end if there are more
-abbrev pub first_of : ℕ → Members → Page
-first_of n ms = if nat_le (length ms) n then record { items = ms; next = None } else record { items = take n ms; next = last_place (take n ms) }
-
--- the page of a list after a place; a limit of 0 is no limit
+-- the page of a list after a place: at most n members, and where they end if there are more; a limit of 0 is no limit
 abbrev pub page_of : Members → ℕ → Option Place → Page
-page_of ms n p = if n == 0 then record { items = after_place p ms; next = None } else first_of n (after_place p ms)
+page_of ms n p =
+    let rest = after_place p ms in
+    if n == 0 || nat_le (length rest) n then record { items = rest; next = None } else record { items = take n rest; next = last_place (take n rest) }
 
 -- how many members follow that page
 abbrev pub remaining : Members → ℕ → Option Place → ℕ
 remaining ms n p = if n == 0 then 0 else length (after_place p ms) - n
-
--- the pages of a list, from a place on, whatever the limits: each but the first is asked for by the place where the one
--- before it ended, and the last one has no next
-abbrev pub ArePages : Members → Option Place → List Page → Type 0
-ArePages ms p [] = ⊥
-ArePages ms p (g ∷ []) = ((n : ℕ) × (g ≡ page_of ms n p)) × (g.next ≡ None)
-ArePages ms p (g ∷ h ∷ gs) = ((n : ℕ) × (g ≡ page_of ms n p)) × ((q : Place) × (g.next ≡ Some q) × ArePages ms (Some q) (h ∷ gs))
-
--- the items of one page after those of another
-abbrev pub joined : List Page → Members
-joined gs = flat_map (λ g. g.items) gs

@@ -15,13 +15,9 @@ pub data Line : Type 0 where
   initial : Name → Data → Line
   initial_end : ℕ → Line
 
--- the event that shows a change
-abbrev pub change_event : Change → Event
-change_event c = record { kind = frame_kind c.kind; object = c.object }
-
 -- the event that a line of a watch of a kind shows
 abbrev pub event_of : Kind → Line → Event
-event_of k (change c) = change_event c
+event_of k (change c) = record { kind = frame_kind c.kind; object = c.object }
 event_of k (bookmark r) = bookmark_event k false r
 event_of k (initial n d) = record { kind = Added; object = d }
 event_of k (initial_end r) = bookmark_event k true r
@@ -30,39 +26,34 @@ event_of k (initial_end r) = bookmark_event k true r
 abbrev pub text_of : Kind → List Line → List ℕ
 text_of k ls = flat_map (λ l. frame_text (event_of k l)) ls
 
--- from where the stream stands, these changes in order, with bookmarks between: the revision of a bookmark is at least that
--- of each line before it, below that of each change after it, and at most b (Kubernetes API Concepts, Watch bookmarks)
+-- these changes in order, and bookmarks, each at least at the revision of what is before it, below that of each change after it, and at most at b (Kubernetes API Concepts, Watch bookmarks)
 abbrev pub Goes : ℕ → ℕ → List Change → List Line → Type 0
 Goes at b [] [] = Unit {0}
-Goes at b (c ∷ cs) [] = ⊥
-Goes at b [] (change d ∷ ls) = ⊥
 Goes at b (c ∷ cs) (change d ∷ ls) = (d ≡ c) × Goes c.revision b cs ls
 Goes at b [] (bookmark r ∷ ls) = (at ≤ r) × (r ≤ b) × Goes r b [] ls
 Goes at b (c ∷ cs) (bookmark r ∷ ls) = (at ≤ r) × (r ≤ b) × (r < c.revision) × Goes r b (c ∷ cs) ls
-Goes at b cs (initial n d ∷ ls) = ⊥
-Goes at b cs (initial_end r ∷ ls) = ⊥
+Goes at b cs ls = ⊥
 
 -- a stream of h, v from a to b
 abbrev pub IsStream : History → View → ℕ → ℕ → List Line → Type 0
 IsStream h v a b ls = Goes a b (changes h v a b) ls
 
--- the lines that show the list at a
-abbrev pub initial_lines : History → View → ℕ → List Line
-initial_lines h v a = map (λ m. initial m.0 m.1) (list h v a)
+-- the objects that are there, each as if it had just been added
+abbrev pub added_lines : Members → List Line
+added_lines ms = map (λ m. initial m.0 m.1) ms
 
 -- the list at a, the bookmark that closes it, then a stream from a (Kubernetes API Concepts, Streaming lists)
 abbrev pub IsInitialStream : History → View → ℕ → ℕ → List Line → Type 0
-IsInitialStream h v a b ls = (more : List Line) × (ls ≡ initial_lines h v a ++ initial_end a ∷ more) × IsStream h v a b more
+IsInitialStream h v a b ls = (more : List Line) × (ls ≡ added_lines (list h v a) ++ initial_end a ∷ more) × IsStream h v a b more
 
--- ---- playing the lines
+-- ---- what they make of the list
 
 abbrev pub play_line : Members → Line → Members
 play_line ms (change c) = play_one ms c
-play_line ms (bookmark r) = ms
 play_line ms (initial n d) = put_or_remove ms n (Some d)
-play_line ms (initial_end r) = ms
+play_line ms l = ms
 
--- lines taken in one after another
+-- lines applied one after another
 abbrev pub play_lines : Members → List Line → Members
 play_lines ms [] = ms
 play_lines ms (l ∷ ls) = play_lines (play_line ms l) ls

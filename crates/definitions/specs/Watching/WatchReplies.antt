@@ -5,16 +5,13 @@ use Rattle.definitions.specs.State.History as history
 use Rattle.definitions.specs.State.History.{History, View, present, list}
 use Rattle.definitions.specs.Requests.Collections.{WatchOptions}
 use Rattle.definitions.specs.Answers.Refusals.{Refusal}
-use Rattle.definitions.specs.Watching.Streams.{Line, change, initial}
+use Rattle.server_state.specs.Servers.{Server, watch_by}
+use Rattle.definitions.specs.Watching.Streams.{Line, change, added_lines}
 use Rattle.definitions.specs.Answers.Versions.{Watched, watched_from, lines_from}
 
 -- the lines of what a watch from a is given, with bookmarks or without
 abbrev pub told_lines : Bool → ℕ → Watched → List Line
 told_lines bookmarks a w = if bookmarks then lines_from a w else map change w.changes
-
--- the objects that are there, each as if it had just been added
-abbrev pub added_lines : history.Members → List Line
-added_lines ms = map (λ m. initial m.0 m.1) ms
 
 -- by what is there, and by what a watch from each revision is given
 abbrev pub lines_by : history.Members → (ℕ → Result Watched Refusal) → Bool → Option ℕ → Result (List Line) Refusal

@@ -4,7 +4,7 @@ use Rattle.definitions.specs.Checks.{create_fault}
 use Rattle.definitions.specs.Defaults.{defaulted}
 use Rattle.definitions.specs.Metadata.{at_revision, metadata_of}
 use Rattle.definitions.specs.NewObjects.{created, new_metadata, with_first_status}
-use Rattle.definitions.specs.Verbs.{create_read}
+use Rattle.definitions.proofs.VerbSteps.{create_read}
 use Rattle.definitions.proofs.FirstStatus.{metadata_of-first}
 use Rattle.meta.specs.Keys.{name_of}
 use Rattle.answers.specs.Serves.{Serves}

@@ -1,4 +1,4 @@
-use Rattle.definitions.proofs.PageLists.{pages_are_lists}
+use Rattle.laws.proofs.JoinedPages.{pages_are_lists}
 use Rattle.laws.proofs.page_laws.pages_are_lists.Goals as goal
 
 pub returns : goal.returns

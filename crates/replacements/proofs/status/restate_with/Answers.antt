@@ -1,6 +1,6 @@
 use Rattle.std.proofs.Common.{inr, sym, subst}
 use Rattle.definitions.specs.Replacements.{with_said_status}
-use Rattle.definitions.specs.Verbs.{restate}
+use Rattle.definitions.proofs.VerbSteps.{restate}
 use Rattle.meta.specs.Keys.{name_of}
 use Rattle.answers.specs.Serves.{Serves}
 use Rattle.replacements.proofs.Replacing.{if_same-other, if_same-same}

@@ -1,6 +1,6 @@
 use Rattle.std.proofs.Common.{inr}
 use Rattle.definitions.specs.Replacements.{in_place}
-use Rattle.definitions.specs.Verbs.{replace_with}
+use Rattle.definitions.proofs.VerbSteps.{replace_with}
 use Rattle.meta.specs.Keys.{name_of}
 use Rattle.replacements.proofs.Replacing.{if_same-other}
 use Rattle.replacements.proofs.update.replace_held.Goals as goal

@@ -1,6 +1,5 @@
 use Rattle.std.proofs.Common.{◌≡◌, ◌++◌, map, drop}
-use Rattle.definitions.specs.Streams.{text_of}
-use Rattle.definitions.specs.WatchReplies.{added_lines}
+use Rattle.definitions.specs.Streams.{text_of, added_lines}
 use Rattle.meta.specs.Members.{member_of}
 use Rattle.session.proofs.lines.push_members.Given as goal
 

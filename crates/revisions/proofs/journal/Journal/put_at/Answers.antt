@@ -1,6 +1,6 @@
 use Rattle.std.proofs.Common.{ap, ◌∙◌}
-use Rattle.definitions.specs.History.{History, put_at}
-use Rattle.revisions.specs.Journals.{history_of}
+use Rattle.definitions.specs.History.{History}
+use Rattle.revisions.specs.Journals.{history_of, put_at}
 use Rattle.revisions.proofs.journal.Journal.put_at.Goals as goal
 
 pub returns : goal.returns
