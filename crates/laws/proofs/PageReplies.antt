@@ -16,8 +16,7 @@ use Rattle.definitions.specs.Metadata.{metadata_text}
 use Rattle.definitions.specs.Names.{Name}
 use Rattle.definitions.specs.Pages.{Place, Page, place_of, is_after, after_place, last_place, page_of}
 use Rattle.laws.specs.PageLaws.{ArePages, joined}
-use Rattle.definitions.specs.PageTokens.{Token, token_place, token_text}
-use Rattle.definitions.specs.ReadTokens.{token_of}
+use Rattle.definitions.specs.PageTokens.{Token, token_place, token_text, token_of}
 use Rattle.definitions.specs.Refusals.{Refusal, bad_request, not_found, no_such_path, method_not_allowed, already_exists, conflict, expired, length_required, too_large, unsupported_media_type, invalid, no_memory, too_new, storage_full, code}
 use Rattle.laws.specs.ReplyLaws.{Asked, body_of, IsAnswered, continue_in, GoOn, items_in, then_items, all_items, revision_at, revision_of, AreAt, PageRepliesAreLists}
 use Rattle.definitions.specs.Revisions.{greatest_revision}

@@ -10,7 +10,7 @@ use Rattle.definitions.specs.Labels.{is_label_key, is_label_value}
 use Rattle.laws.specs.SelectorGrammar.{AreBlanks, IsValueText, IsKeyText, IsNegatedText, IsComparedText}
 use Rattle.definitions.specs.Selectors.{label_key, label_value, each_read, put_first, requiring}
 use Rattle.definitions.specs.SelectorTexts as texts
-use Rattle.definitions.specs.SelectorTexts.{is_blank, is_comma, is_equals, is_opening, trimmed, still_inside, parts, before_last, compared_requirement, without_equals, set_operator, value_in, listed_values, set_requirement, plain_requirement, unblanked_requirement, requirement, said_by_text}
+use Rattle.definitions.specs.SelectorTexts.{is_comma, is_equals, is_opening, trimmed, before_last, compared_requirement, without_equals, plain_requirement, unblanked_requirement, requirement}
 use Rattle.laws.proofs.SelectorBlanks.{ends-plain, is_soft, soft-no-comma, soft-no-equals, soft-no-opening, soft-no-mark, all-append, all-none, all-at, soft-plain, soft-blanks, shortened, trimmed-over, trimmed-around, trimmed-plain-around, trimmed-plain-after, trimmed-plain-before, trimmed-shortened, all-shortened}
 use Rattle.laws.proofs.SelectorForms.{first, second, own-key, own-value}
 use Rattle.laws.proofs.SelectorPlain.{is_plain, cut-at, key-plain, value-plain, begins, begins-plain, ends-with, trimmed-plain}

@@ -1,5 +1,5 @@
 -- Values that say given requirements are read as these.
-use Rattle.std.proofs.Common.{◌≡◌, ℕ, List, [], ◌∷◌, Bool, true, false, cond, not, ◌&&◌, ◌||◌, Some, Ok, Err, codes, is_some, refl, ap, ap₂, ◌∙◌}
+use Rattle.std.proofs.Common.{◌≡◌, ℕ, List, [], ◌∷◌, Bool, true, false, cond, not, ◌&&◌, ◌||◌, Some, option_and_then, Ok, Err, ok_or, codes, is_some, refl, ap, ap₂, ◌∙◌}
 use Rattle.std.specs.List.{list_all}
 use Rattle.std.specs.Str.{is_utf8}
 use Rattle.serde_json.specs.Data.{Data, string, array, object, Items, item, no_members, member}
@@ -12,7 +12,7 @@ use Rattle.definitions.specs.declared.schemas.Schema.TheVariants.{Expression}
 use Rattle.definitions.specs.Labels.{is_label_key, is_label_value}
 use Rattle.definitions.specs.Reading.{fits, items_fit, tidied, tidied_items}
 use Rattle.laws.specs.SelectorForms.{is_sound, text_items, operator_name, expression_value, expression_items, selector_value, pair_value}
-use Rattle.definitions.specs.SelectorValues.{mistyped, operator_named, item_values, fitting, operated, expression_requirement, expression_requirements, both, or_unfit, said_by_value}
+use Rattle.definitions.specs.SelectorValues.{mistyped, operator_named, item_values, fitting, expression_requirement, expression_requirements, both, unfit, said_by_value}
 use Rattle.definitions.specs.Selectors.{Requirement, label_key, label_value, each_read, put_first, requiring}
 
 pub first : (u v : Bool) → (u && v) ≡ true → u ≡ true
@@ -63,7 +63,7 @@ named NotIn = refl
 named Exists = refl
 named DoesNotExist = refl
 
-parts-of : (r : Requirement) → expression_requirement (expression_value r) ≡ operated (label_key r.key) (operator_named (operator_name r.operator)) (item_values (text_items r.values))
+parts-of : (r : Requirement) → expression_requirement (expression_value r) ≡ option_and_then (λ (o : Operator). requiring (label_key r.key) o (option_and_then (fitting o) (item_values (text_items r.values)))) (operator_named (operator_name r.operator))
 unfolding serde_json_on_literals is_utf8
 parts-of r = refl
 
@@ -98,7 +98,7 @@ all-tidy (r ∷ rs) = ap₂ item (one-tidy r ∙ ap (with_values r) (texts-tidy 
 -- of a value the parts that are read
 value-parts : (rs : List Requirement) → said_by_value (selector_value rs)
     ≡ cond (items_have_float (expression_items rs) || false || not (items_fit (Object Expression) (expression_items rs) && true)) (Err mistyped)
-    (or_unfit (both (Some []) (expression_requirements (tidied_items (Object Expression) (expression_items rs)))))
+    (ok_or (both (Some []) (expression_requirements (tidied_items (Object Expression) (expression_items rs)))) unfit)
 unfolding serde_json_on_literals is_utf8
 value-parts rs = refl
 
@@ -108,24 +108,24 @@ expression-read r h =
     let k = own-key r.key (first (is_label_key r.key) (list_all is_label_value r.values) (first kv (is_some (fitting r.operator r.values)) h)) in
     let vs = values-read r.values (second (is_label_key r.key) (list_all is_label_value r.values) (first kv (is_some (fitting r.operator r.values)) h)) in
     let f = goes-with r.operator r.values (second kv (is_some (fitting r.operator r.values)) h) in
-    parts-of r ∙ ap (λ x. operated x (operator_named (operator_name r.operator)) (item_values (text_items r.values))) k
-    ∙ ap₂ (operated (Some r.key)) (named r.operator) vs
+    parts-of r ∙ ap (λ x. option_and_then (λ (o : Operator). requiring x o (option_and_then (fitting o) (item_values (text_items r.values)))) (operator_named (operator_name r.operator))) k
+    ∙ ap₂ (λ f x. option_and_then (λ (o : Operator). requiring (Some r.key) o (option_and_then (fitting o) x)) f) (named r.operator) vs
     ∙ ap (requiring (Some r.key) r.operator) f
 
 expressions-read : (rs : List Requirement) → list_all is_sound rs ≡ true → expression_requirements (expression_items rs) ≡ Some rs
 expressions-read [] h = refl
 expressions-read (r ∷ rs) h = ap₂ put_first (expression-read r (first (is_sound r) (list_all is_sound rs) h)) (expressions-read rs (second (is_sound r) (list_all is_sound rs) h))
 
-value-says : (rs : List Requirement) → said_by_value (selector_value rs) ≡ or_unfit (both (Some []) (expression_requirements (expression_items rs)))
+value-says : (rs : List Requirement) → said_by_value (selector_value rs) ≡ ok_or (both (Some []) (expression_requirements (expression_items rs))) unfit
 value-says rs = value-parts rs ∙ rw (all-whole rs, all-fit rs, all-tidy rs) refl
 
 pub value-read : (rs : List Requirement) → list_all is_sound rs ≡ true → said_by_value (selector_value rs) ≡ Ok rs
-value-read rs h = value-says rs ∙ ap (λ x. or_unfit (both (Some []) x)) (expressions-read rs h)
+value-read rs h = value-says rs ∙ ap (λ x. ok_or (both (Some []) x) unfit) (expressions-read rs h)
 
-pair-says : (k v : List ℕ) → said_by_value (pair_value k v) ≡ or_unfit (both (put_first (requiring (label_key k) In (each_read label_value (v ∷ []))) (Some [])) (Some []))
+pair-says : (k v : List ℕ) → said_by_value (pair_value k v) ≡ ok_or (both (put_first (requiring (label_key k) In (each_read label_value (v ∷ []))) (Some [])) (Some [])) unfit
 unfolding serde_json_on_literals is_utf8
 pair-says k v = refl
 
 pub pair-read : (k v : List ℕ) → is_label_key k ≡ true → is_label_value v ≡ true → said_by_value (pair_value k v) ≡ Ok (record { key = k; operator = In; values = v ∷ [] } ∷ [])
 pair-read k v h g =
-    pair-says k v ∙ ap₂ (λ x y. or_unfit (both (put_first (requiring x In (put_first y (Some []))) (Some [])) (Some []))) (own-key k h) (own-value v g)
+    pair-says k v ∙ ap₂ (λ x y. ok_or (both (put_first (requiring x In (put_first y (Some []))) (Some [])) (Some [])) unfit) (own-key k h) (own-value v g)

@@ -9,7 +9,7 @@ use Rattle.laws.specs.GrammarLaws.{ReadTextsAreWritten}
 use Rattle.laws.specs.SelectorGrammar.{AreBlanks, IsKeyText, IsSign, IsWord, IsRequirementText, alone, negated, compared, listed, IsSelectorText}
 use Rattle.definitions.specs.Selectors.{Requirement, label_key, label_value, each_read, only_if, requiring}
 use Rattle.definitions.specs.SelectorTexts as texts
-use Rattle.definitions.specs.SelectorTexts.{is_blank, is_comma, is_equals, is_opening, trimmed, still_inside, parts_from, parts, before_last, compared_requirement, without_equals, set_operator, value_in, listed_values, set_requirement, in_requirement, plain_requirement, unblanked_requirement, requirement, said_by_text}
+use Rattle.definitions.specs.SelectorTexts.{is_blank, is_comma, is_equals, is_opening, trimmed, still_inside, parts_from, parts, before_last, compared_requirement, without_equals, set_operator, value_in, listed_values, in_requirement, plain_requirement, unblanked_requirement, requirement, said_by_text}
 use Rattle.laws.proofs.SelectorBlanks.{only-blanks, shortened, trims}
 use Rattle.laws.proofs.SelectorForms.{first}
 use Rattle.laws.proofs.SelectorPlain.{and-true}
@@ -123,7 +123,7 @@ record Operated (key : Option (List ℕ)) (f : Option Operator) (vs : Option (Li
   is_operator : f ≡ Some operator
   says : requiring key operator vs ≡ Some r
 
-operated : (key : Option (List ℕ)) (f : Option Operator) (vs : Option (List (List ℕ))) (r : Requirement) → set_requirement key f vs ≡ Some r → Operated key f vs r
+operated : (key : Option (List ℕ)) (f : Option Operator) (vs : Option (List (List ℕ))) (r : Requirement) → option_and_then (λ (o : Operator). requiring key o vs) f ≡ Some r → Operated key f vs r
 operated key None vs r h = cc
 operated key (Some o) vs r h = record { operator = o; is_operator = refl; says = h }
 

@@ -1,5 +1,5 @@
 -- What a text or a value says is sound.
-use Rattle.std.proofs.Common.{◌≡◌, ℕ, List, [], ◌∷◌, Bool, true, false, ◌&&◌, Option, None, Some, is_some, option_and_then, length, ◌==◌, Result, Ok, Err, codes, if◌then◌else◌, refl, ◌∙◌, subst, ◌||◌, not}
+use Rattle.std.proofs.Common.{◌≡◌, ℕ, List, [], ◌∷◌, Bool, true, false, ◌&&◌, Option, None, Some, is_some, option_and_then, length, ◌==◌, Result, Ok, Err, ok_or, codes, if◌then◌else◌, refl, ◌∙◌, subst, ◌||◌, not}
 use Rattle.std.specs.List.{list_all, list_any, before_first, after_first, slice_split, onto_first}
 use Rattle.std.specs.Str.{bytes_eq}
 use Rattle.std.proofs.lemmas.List.Folds.{list_all-append}
@@ -11,8 +11,8 @@ use Rattle.definitions.specs.declared.selectors.Operator.{Operator}
 use Rattle.definitions.specs.declared.selectors.Operator.TheVariants.{In, NotIn, Exists, DoesNotExist}
 use Rattle.definitions.specs.Labels.{is_label_key, is_label_value}
 use Rattle.laws.specs.SelectorForms.{is_sound}
-use Rattle.definitions.specs.SelectorTexts.{is_blank, is_comma, is_equals, is_opening, trimmed, without_equals, parts, before_last, compared, comparison, compared_requirement, set_operator, value_in, listed_values, set_requirement, in_requirement, plain_requirement, unblanked_requirement, requirement, said_by_text}
-use Rattle.definitions.specs.SelectorValues.{Flaw, mistyped, selector_shape, requirements_in, text_in, items_in, label_requirements, operator_named, item_values, fitting, operated, expression_requirement, expression_requirements, both, or_unfit, said_by_value}
+use Rattle.definitions.specs.SelectorTexts.{is_blank, is_comma, is_equals, is_opening, trimmed, without_equals, parts, before_last, compared, comparison, compared_requirement, set_operator, value_in, listed_values, in_requirement, plain_requirement, unblanked_requirement, requirement, said_by_text}
+use Rattle.definitions.specs.SelectorValues.{Flaw, mistyped, unfit, selector_shape, requirements_in, text_in, items_in, label_requirements, operator_named, item_values, fitting, expression_requirement, expression_requirements, both, said_by_value}
 use Rattle.definitions.specs.Values.{inner_of}
 use Rattle.definitions.specs.Selectors.{Requirement, label_key, label_value, each_read, only_if, put_first, requiring}
 use Rattle.laws.proofs.SelectorPlain.{and-true}
@@ -106,10 +106,10 @@ between-valued : (found : Option (List ℕ)) → Valued (option_and_then listed_
 between-valued None = tt
 between-valued (Some t) = listed-valued t
 
-set-sound : (k w : List ℕ) (vs : Option (List (List ℕ))) → Valued vs → IsSoundOr (set_requirement (label_key k) (set_operator w) vs)
+set-sound : (k w : List ℕ) (vs : Option (List (List ℕ))) → Valued vs → IsSoundOr (option_and_then (λ (o : Operator). requiring (label_key k) o vs) (set_operator w))
 set-sound k w vs h = by (bytes_eq w (codes "in")) (bytes_eq w (codes "notin"))
   where
-    by : (b c : Bool) → IsSoundOr (set_requirement (label_key k) (if b then Some In else only_if c NotIn) vs)
+    by : (b c : Bool) → IsSoundOr (option_and_then (λ (o : Operator). requiring (label_key k) o vs) (if b then Some In else only_if c NotIn))
     by true c = required k In vs (fit-in vs h)
     by false true = required k NotIn vs (fit-notin vs h)
     by false false = tt
@@ -178,7 +178,7 @@ fitted Exists (Some (v ∷ vs)) h = tt
 fitted DoesNotExist (Some []) h = (refl, refl)
 fitted DoesNotExist (Some (v ∷ vs)) h = tt
 
-operated-sound : (k : List ℕ) (o : Option Operator) (vs : Option (List (List ℕ))) → AllValued vs → IsSoundOr (operated (label_key k) o vs)
+operated-sound : (k : List ℕ) (o : Option Operator) (vs : Option (List (List ℕ))) → AllValued vs → IsSoundOr (option_and_then (λ (p : Operator). requiring (label_key k) p (option_and_then (fitting p) vs)) o)
 operated-sound k None vs h = tt
 operated-sound k (Some o) vs h = required k o (option_and_then (fitting o) vs) (fitted o vs h)
 
@@ -198,11 +198,11 @@ abbrev AreSoundOk : Result (List Requirement) Flaw → Type 0
 AreSoundOk (Ok rs) = list_all is_sound rs ≡ true
 AreSoundOk (Err e) = Unit {0}
 
-unfit-or : (rs : Option (List Requirement)) → AreSoundOr rs → AreSoundOk (or_unfit rs)
+unfit-or : (rs : Option (List Requirement)) → AreSoundOr rs → AreSoundOk (ok_or rs unfit)
 unfit-or None h = tt
 unfit-or (Some rs) h = h
 
-members-ok : (d : Data) → AreSoundOk (or_unfit (requirements_in d))
+members-ok : (d : Data) → AreSoundOk (ok_or (requirements_in d) unfit)
 members-ok d =
     let pairs = label_requirements (inner_of (get (codes "matchLabels") d)) in
     let others = expression_requirements (items_in (get (codes "matchExpressions") d)) in
@@ -211,7 +211,7 @@ members-ok d =
 value-ok : (d : Data) → AreSoundOk (said_by_value d)
 value-ok d = by (has_float d || not (fits selector_shape d))
   where
-    by : (b : Bool) → AreSoundOk (if b then Err mistyped else or_unfit (requirements_in (tidied selector_shape d)))
+    by : (b : Bool) → AreSoundOk (if b then Err mistyped else ok_or (requirements_in (tidied selector_shape d)) unfit)
     by true = tt
     by false = members-ok (tidied selector_shape d)
 

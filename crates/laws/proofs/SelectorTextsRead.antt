@@ -9,7 +9,7 @@ use Rattle.definitions.specs.declared.selectors.Operator.{Operator}
 use Rattle.definitions.specs.declared.selectors.Operator.TheVariants.{In, NotIn, Exists, DoesNotExist}
 use Rattle.definitions.specs.Labels.{is_label_key, is_label_value}
 use Rattle.laws.specs.SelectorForms.{is_sound, text_with, requirement_text, selector_text}
-use Rattle.definitions.specs.SelectorTexts.{is_blank, is_comma, is_equals, is_opening, trimmed, still_inside, parts_from, parts, before_last, compared, compared_requirement, without_equals, set_operator, value_in, listed_values, set_requirement, in_requirement, plain_requirement, unblanked_requirement, requirement, said_by_text}
+use Rattle.definitions.specs.SelectorTexts.{is_blank, is_comma, is_equals, is_opening, trimmed, still_inside, parts_from, parts, before_last, compared, compared_requirement, without_equals, set_operator, value_in, listed_values, in_requirement, plain_requirement, unblanked_requirement, requirement, said_by_text}
 use Rattle.definitions.specs.SelectorValues.{fitting}
 use Rattle.definitions.specs.Selectors.{Requirement, label_key, label_value, each_read, only_if, put_first, requiring}
 use Rattle.laws.proofs.SelectorForms.{first, second, own-key, own-value}
@@ -284,8 +284,8 @@ listing-read k word v w vs o h g n s =
     let d = cut-at is_blank k 32 word (none is_blank plain-no-blank k p) refl in
     ap requirement a ∙ after-key k ((32 ∷ word) ++ 40 ∷ list) h (ap (λ x. begins (reverse x)) (sym a) ∙ e) ∙ ap plain_requirement (sym a)
     ∙ lists t head list c.0 c.1 c.2
-    ∙ ap₂ (λ x y. set_requirement (label_key x) (set_operator (trimmed y)) (option_and_then listed_values (before_last 41 list))) d.1 d.2
-    ∙ ap₂ (λ x y. set_requirement x y (option_and_then listed_values (before_last 41 list))) (own-key k h) s
+    ∙ ap₂ (λ x y. option_and_then (λ (p : Operator). requiring (label_key x) p (option_and_then listed_values (before_last 41 list))) (set_operator (trimmed y))) d.1 d.2
+    ∙ ap₂ (λ x y. option_and_then (λ (p : Operator). requiring x p (option_and_then listed_values (before_last 41 list))) y) (own-key k h) s
     ∙ ap (λ x. requiring (Some k) o (option_and_then listed_values x)) (last-here j 41)
     ∙ ap (λ x. requiring (Some k) o x) (listed-read v w vs g)
 

@@ -7,7 +7,7 @@ use Rattle.definitions.specs.declared.selectors.Operator.TheVariants.{In, NotIn,
 use Rattle.laws.specs.GrammarLaws.{WrittenTextsAreRead, TextsAreClear}
 use Rattle.laws.specs.SelectorGrammar.{AreBlanks, IsValueText, AreValuesText, IsWord, IsListedText, IsRequirementText, alone, negated, compared, listed, IsSelectorText}
 use Rattle.definitions.specs.Selectors.{Requirement, label_key, label_value, each_read, put_first, requiring}
-use Rattle.definitions.specs.SelectorTexts.{is_blank, is_comma, is_opening, trimmed, parts, before_last, set_operator, value_in, listed_values, set_requirement, plain_requirement, unblanked_requirement, requirement, said_by_text}
+use Rattle.definitions.specs.SelectorTexts.{is_blank, is_comma, is_opening, trimmed, parts, before_last, set_operator, value_in, listed_values, plain_requirement, unblanked_requirement, requirement, said_by_text}
 use Rattle.laws.proofs.SelectorBlanks.{is_soft, soft-no-comma, soft-no-opening, all-append, all-weaker, all-none, soft-plain, soft-blanks, trimmed-around, trimmed-plain-around, all-blank}
 use Rattle.laws.proofs.SelectorCompared.{IsRead, closes-soft, closes-only, closes-inner, is_inner, inner-soft, some-text, value-soft, value-trimmed, some-key, alone-read, negated-read, compared-read, begins-key, plain-key}
 use Rattle.laws.proofs.SelectorForms.{first, second, own-key, own-value}
@@ -116,8 +116,8 @@ module _ (t k : List ℕ) (o : Operator) (vs : List (List ℕ)) (w : IsListedTex
       ∙ ap unblanked_requirement (trimmed-around w.before (head ++ 40 ∷ list) w.after w.is_before w.is_after (begins-key k gap (40 ∷ list) w.after w.is_key) ends)
       ∙ ap unblanked_requirement (sym (append-nil (head ++ 40 ∷ list))) ∙ plain-key k gap (40 ∷ list) [] w.is_key ∙ ap plain_requirement (append-nil (head ++ 40 ∷ list))
       ∙ lists (head ++ 40 ∷ list) head list c.0 c.1 c.2
-      ∙ ap₂ (λ x y. set_requirement (label_key x) (set_operator y) found) d.0 d.1
-      ∙ ap₂ (λ x y. set_requirement x y found) (own-key k w.is_key) (word-is o w.word w.is_word).0
+      ∙ ap₂ (λ x y. option_and_then (λ (p : Operator). requiring (label_key x) p found) (set_operator y)) d.0 d.1
+      ∙ ap₂ (λ x y. option_and_then (λ (p : Operator). requiring x p found) y) (own-key k w.is_key) (word-is o w.word w.is_word).0
       ∙ ap (λ x. requiring (Some k) o (option_and_then listed_values x)) (last-here w.values 41)
       ∙ ap (λ x. requiring (Some k) o x) (listed-if w.values (something w.values w.is_something) ∙ values-are.1)
 

@@ -2,8 +2,7 @@
 use Rattle.std.specs.Prelude.{◌≡◌, ◌≤◌, ◌<◌, ◌+◌, ◌==◌, ◌↔◌, ℕ, List, [], ◌∷◌, length, flat_map, Option, Some, None, if◌then◌else◌}
 use Rattle.definitions.specs.History.{History, View, Members, list}
 use Rattle.definitions.specs.Pages.{Place, after_place, last_place, Page, page_of, remaining, AreInPlace}
-use Rattle.definitions.specs.PageTokens.{Token, IsToken}
-use Rattle.definitions.specs.ReadTokens.{token_of}
+use Rattle.definitions.specs.PageTokens.{Token, IsToken, token_of}
 
 -- the list of a view does
 abbrev pub ListsAreInPlace : Type 0

@@ -1,8 +1,8 @@
 //! Selectors of fields.
 ghost use Rattle.std.specs.Prelude.{◌≡◌, [], Some, IfOk, IfErr, length, ◌==◌};
-ghost use Rattle.std.specs.List.{slice_split};
-ghost use Rattle.definitions.specs.SelectorFields.{field_meets, field_named, field_requirement, fields_meet, has_blank, is_wanted, said_of_fields};
-ghost use Rattle.definitions.specs.SelectorTexts.{is_comma};
+ghost use Rattle.std.specs.List.{list_any, slice_split};
+ghost use Rattle.definitions.specs.SelectorFields.{field_meets, field_named, field_requirement, fields_meet, is_wanted, said_of_fields};
+ghost use Rattle.definitions.specs.SelectorTexts.{is_blank, is_comma};
 ghost use Rattle.definitions.specs.Selectors.{each_read};
 ghost use Rattle.selector.specs.Seen.{Reads, RefusesText, field_requirement_of, field_requirements_of};
 
@@ -53,7 +53,7 @@ fn field_named(text: &[u8]) -> Option<SelectableField>
 }
 
 fn has_blank(text: &[u8]) -> bool
-    ensures { result ≡ has_blank text.now }
+    ensures { result ≡ list_any is_blank text.now }
 {
     text.iter().any(|byte| is_blank(*byte))
 }

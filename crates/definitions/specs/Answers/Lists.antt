@@ -8,8 +8,6 @@ use Rattle.definitions.specs.Requests.Collections.{ListOptions}
 use Rattle.definitions.specs.State.Pages.{Place, Page, page_of, remaining}
 use Rattle.definitions.specs.Requests.PageTokens.{Token, token_text}
 use Rattle.definitions.specs.Answers.Refusals.{Refusal, with_optional}
-use Rattle.server_state.specs.Servers as servers
-use Rattle.server_state.specs.Servers.{Server}
 use Rattle.definitions.specs.Answers.Verbs.{Outcome, refused, shown, at_version, list_with}
 use Rattle.definitions.specs.Answers.Versions.{Listed, list_for}
 

@@ -1,5 +1,6 @@
 -- What a value says that selects by labels, as `spec.selector` does (Kubernetes API reference, LabelSelector).
-use Rattle.std.specs.Prelude.{ℕ, ◌&&◌, ◌||◌, not, List, [], ◌∷◌, ◌++◌, Bool, true, false, codes, if◌then◌else◌, Option, None, Some, option_and_then, unwrap_or, Result, Ok, Err}
+use Rattle.std.specs.Prelude.{ℕ, ◌&&◌, ◌||◌, not, List, [], ◌∷◌, ◌++◌, Bool, true, false, codes, if◌then◌else◌, Option, None, Some, option_and_then, unwrap_or, ok_or, Result, Err}
+use Rattle.std.specs.Map.{lookup}
 use Rattle.std.specs.Str.{bytes_eq}
 use Rattle.serde_json.specs.Data.{Data, Items, no_items, item, Members, no_members, member}
 use Rattle.serde_json.specs.Find.{get, as_str, as_array}
@@ -9,15 +10,13 @@ use Rattle.definitions.specs.declared.schemas.Shape.TheVariants.{Object}
 use Rattle.definitions.specs.declared.schemas.Schema.TheVariants.{Selector}
 use Rattle.definitions.specs.declared.selectors.Operator.{Operator}
 use Rattle.definitions.specs.declared.selectors.Operator.TheVariants.{In, NotIn, Exists, DoesNotExist}
-use Rattle.definitions.specs.Texts.Selectors.{Requirement, each_read, label_key, label_value, only_if, put_first, requiring}
+use Rattle.definitions.specs.Texts.Selectors.{Requirement, each_read, label_key, label_value, put_first, requiring}
 use Rattle.definitions.specs.Objects.Values.{inner_of}
 use Rattle.definitions.specs.Objects.Reading.{fits, tidied}
 
--- why a value selects nothing
+-- why a value selects nothing: a member has a wrong type, or a key, an operator or values do not go
 pub data Flaw : Type 0 where
-  -- a member of a wrong type
   mistyped : Flaw
-  -- a key, an operator or values that do not go
   unfit : Flaw
 
 -- ---- what is there
@@ -49,10 +48,7 @@ label_requirements (member k d ms) =
 
 abbrev pub operator_named : List ℕ → Option Operator
 operator_named word =
-    if bytes_eq word (codes "In") then Some In
-    else (if bytes_eq word (codes "NotIn") then Some NotIn
-    else (if bytes_eq word (codes "Exists") then Some Exists
-    else only_if (bytes_eq word (codes "DoesNotExist")) DoesNotExist))
+    lookup (bytes_eq word) ((codes "In", In) ∷ (codes "NotIn", NotIn) ∷ (codes "Exists", Exists) ∷ (codes "DoesNotExist", DoesNotExist) ∷ [])
 
 abbrev pub item_values : Items → Option (List (List ℕ))
 item_values no_items = Some []
@@ -60,37 +56,26 @@ item_values (item d ds) = put_first (label_value (text_in (Some d))) (item_value
 
 -- values that an operator goes with: some for `In` and `NotIn`, none for the others
 abbrev pub fitting : Operator → List (List ℕ) → Option (List (List ℕ))
-fitting In [] = None
 fitting In (v ∷ vs) = Some (v ∷ vs)
-fitting NotIn [] = None
 fitting NotIn (v ∷ vs) = Some (v ∷ vs)
 fitting Exists [] = Some []
-fitting Exists (v ∷ vs) = None
 fitting DoesNotExist [] = Some []
-fitting DoesNotExist (v ∷ vs) = None
-
-abbrev pub operated : Option (List ℕ) → Option Operator → Option (List (List ℕ)) → Option Requirement
-operated key None values = None
-operated key (Some operator) values = requiring key operator (option_and_then (fitting operator) values)
+fitting operator values = None
 
 -- one of `matchExpressions`
 abbrev pub expression_requirement : Data → Option Requirement
 expression_requirement d =
-    operated (label_key (text_in (get (codes "key") d))) (operator_named (text_in (get (codes "operator") d)))
-    (item_values (items_in (get (codes "values") d)))
+    option_and_then
+    (λ operator. requiring (label_key (text_in (get (codes "key") d))) operator (option_and_then (fitting operator) (item_values (items_in (get (codes "values") d)))))
+    (operator_named (text_in (get (codes "operator") d)))
 
 abbrev pub expression_requirements : Items → Option (List Requirement)
 expression_requirements no_items = Some []
 expression_requirements (item d ds) = put_first (expression_requirement d) (expression_requirements ds)
 
 abbrev pub both : {A : Type 0} → Option (List A) → Option (List A) → Option (List A)
-both None bs = None
-both (Some as') None = None
 both (Some as') (Some bs) = Some (as' ++ bs)
-
-abbrev pub or_unfit : Option (List Requirement) → Result (List Requirement) Flaw
-or_unfit None = Err unfit
-or_unfit (Some rs) = Ok rs
+both as' bs = None
 
 -- what a selector has to be
 abbrev pub selector_shape : Shape
@@ -102,4 +87,4 @@ requirements_in d = both (label_requirements (inner_of (get (codes "matchLabels"
 
 -- a value is read as an object is: each number is whole, the known members have their types, and what is null counts as absent
 abbrev pub said_by_value : Data → Result (List Requirement) Flaw
-said_by_value d = if has_float d || not (fits selector_shape d) then Err mistyped else or_unfit (requirements_in (tidied selector_shape d))
+said_by_value d = if has_float d || not (fits selector_shape d) then Err mistyped else ok_or (requirements_in (tidied selector_shape d)) unfit

@@ -1,5 +1,5 @@
 -- What the query of a collection asks: which objects, and whether they are listed or watched (Kubernetes API reference, ListOptions).
-use Rattle.std.specs.Prelude.{ℕ, zero, suc, List, [], ◌∷◌, Bool, true, false, ◌&&◌, ◌||◌, ◌==◌, length, nat_le, nat_lt, Option, Some, None, option_map, unwrap_or, Result, Ok, Err, codes, if◌then◌else◌}
+use Rattle.std.specs.Prelude.{ℕ, zero, suc, List, [], ◌∷◌, Bool, ◌&&◌, ◌||◌, ◌==◌, length, nat_le, nat_lt, Option, Some, None, option_map, unwrap_or, Result, Ok, Err, codes, if◌then◌else◌}
 use Rattle.std.specs.List.{list_all}
 use Rattle.std.specs.Map.{lookup}
 use Rattle.std.specs.Result.{result_map_both}
@@ -20,7 +20,7 @@ use Rattle.definitions.specs.declared.versions.Match.{Match}
 use Rattle.definitions.specs.declared.versions.Match.TheVariants as match
 use Rattle.definitions.specs.declared.versions.At.TheVariants.{Present, NotOlder, Exact}
 
--- what is made of a value, if it is understood
+-- what is made of a value, if it is understood; else the query is at fault
 abbrev pub understood : {A B : Type 0} → Option A → (A → Result B Part) → Result B Part
 understood None next = Err part.Query
 understood (Some a) next = next a
@@ -88,7 +88,7 @@ abbrev pub watch_from : Option ℕ → Option ℕ
 watch_from (Some (suc r)) = Some (suc r)
 watch_from version = None
 
--- whether a member is there and says so
+-- whether a member is there, and says `true` or `1`
 abbrev pub is_asked : Option (List ℕ) → Bool
 is_asked value = bytes_eq (or_empty value) (codes "true") || bytes_eq (or_empty value) (codes "1")
 

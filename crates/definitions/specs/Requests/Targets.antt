@@ -96,8 +96,7 @@ route path = route_of (segments path)
 
 -- whether the namespace that a route names can be one
 abbrev pub names_namespace : Route → Bool
-names_namespace (collection k None) = true
-names_namespace (collection k (Some ns)) = is_namespace ns
+names_namespace (collection k ns) = option_map_or is_namespace ns true
 names_namespace (object_at n) = is_namespace n.namespace
 names_namespace (status_of n) = is_namespace n.namespace
 

@@ -3,7 +3,7 @@ use Rattle.std.specs.Prelude.{ℕ, ◌&&◌, List, [], ◌∷◌, Bool, true, fa
 use Rattle.std.specs.List.{list_all, list_any, slice_split}
 use Rattle.std.specs.Str.{bytes_eq}
 use Rattle.definitions.specs.declared.selectors.Operator.{Operator}
-use Rattle.definitions.specs.declared.selectors.Operator.TheVariants.{In, NotIn, Exists, DoesNotExist}
+use Rattle.definitions.specs.declared.selectors.Operator.TheVariants.{In}
 use Rattle.definitions.specs.declared.selectors.SelectableField.{SelectableField}
 use Rattle.definitions.specs.declared.selectors.SelectableField.TheVariants.{Name, Namespace}
 use Rattle.definitions.specs.Texts.SelectorTexts.{Comparison, comparison, is_blank, is_comma, is_equals}
@@ -20,19 +20,14 @@ field_named t = if bytes_eq t (codes "metadata.name") then Some Name else only_i
 
 abbrev pub is_wanted : Operator → Bool
 is_wanted In = true
-is_wanted NotIn = false
-is_wanted Exists = false
-is_wanted DoesNotExist = false
-
-abbrev pub has_blank : List ℕ → Bool
-has_blank t = list_any is_blank t
+is_wanted operator = false
 
 abbrev pub field_compared : Comparison → Option FieldRequirement
 field_compared c = option_map (λ (f : SelectableField). record { field = f; wanted = is_wanted c.operator; value = c.right }) (field_named c.left)
 
 -- a field, `=`, `==` or `!=`, and a value, with no blank in it
 abbrev pub field_requirement : List ℕ → Option FieldRequirement
-field_requirement t = if list_any is_equals t && not (has_blank t) then field_compared (comparison t) else None
+field_requirement t = if list_any is_equals t && not (list_any is_blank t) then field_compared (comparison t) else None
 
 -- what a field selector's text says; the empty text says nothing
 abbrev pub said_of_fields : List ℕ → Option (List FieldRequirement)

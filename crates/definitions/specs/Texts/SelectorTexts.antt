@@ -76,15 +76,11 @@ value_in t = label_value (trimmed t)
 abbrev pub listed_values : List ℕ → Option (List (List ℕ))
 listed_values t = if length (trimmed t) == 0 then None else each_read value_in (slice_split is_comma t)
 
-abbrev pub set_requirement : Option (List ℕ) → Option Operator → Option (List (List ℕ)) → Option Requirement
-set_requirement key None values = None
-set_requirement key (Some operator) values = requiring key operator values
-
 -- `k in (v,..)` and `k notin (v,..)`, split at the parenthesis: the key, at least one blank, and the word
 abbrev pub in_requirement : List ℕ → List ℕ → Option Requirement
 in_requirement head list =
-    set_requirement (label_key (before_first is_blank head)) (set_operator (trimmed (after_first is_blank head)))
-    (option_and_then listed_values (before_last 41 list))
+    option_and_then (λ operator. requiring (label_key (before_first is_blank head)) operator (option_and_then listed_values (before_last 41 list)))
+    (set_operator (trimmed (after_first is_blank head)))
 
 -- the requirement that begins with neither a blank nor `!`
 abbrev pub plain_requirement : List ℕ → Option Requirement

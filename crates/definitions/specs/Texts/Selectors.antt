@@ -1,6 +1,7 @@
 -- What a selector of labels asks for (Kubernetes, Labels and Selectors).
-use Rattle.std.specs.Prelude.{ℕ, List, [], ◌∷◌, Bool, true, false, not, is_some, if◌then◌else◌, Option, None, Some}
+use Rattle.std.specs.Prelude.{ℕ, List, [], ◌∷◌, Bool, false, not, is_some, if◌then◌else◌, Option, None, Some}
 use Rattle.std.specs.List.{list_all, list_any}
+use Rattle.std.specs.Option.{option_map_or}
 use Rattle.std.specs.Str.{bytes_eq}
 use Rattle.serde_json.specs.Data.{Members}
 use Rattle.definitions.specs.declared.selectors.Operator.{Operator}
@@ -18,10 +19,8 @@ is_among values v = list_any (λ w. bytes_eq w v) values
 
 -- `In` needs the label, `NotIn` does not (Labels and Selectors, Set-based requirement)
 abbrev pub holds : Operator → List (List ℕ) → Option (List ℕ) → Bool
-holds In values None = false
-holds In values (Some v) = is_among values v
-holds NotIn values None = true
-holds NotIn values (Some v) = not (is_among values v)
+holds In values found = option_map_or (is_among values) found false
+holds NotIn values found = not (option_map_or (is_among values) found false)
 holds Exists values found = is_some found
 holds DoesNotExist values found = not (is_some found)
 
@@ -33,9 +32,8 @@ abbrev pub meets_all : List Requirement → Members → Bool
 meets_all rs labels = list_all (λ r. meets r labels) rs
 
 abbrev pub put_first : {A : Type 0} → Option A → Option (List A) → Option (List A)
-put_first None rest = None
-put_first (Some a) None = None
 put_first (Some a) (Some rest) = Some (a ∷ rest)
+put_first first rest = None
 
 -- what each part reads as, if all of them are read
 abbrev pub each_read : {A : Type 0} → (List ℕ → Option A) → List (List ℕ) → Option (List A)
@@ -52,6 +50,5 @@ abbrev pub label_value : List ℕ → Option (List ℕ)
 label_value t = only_if (is_label_value t) t
 
 abbrev pub requiring : Option (List ℕ) → Operator → Option (List (List ℕ)) → Option Requirement
-requiring None operator values = None
-requiring (Some k) operator None = None
 requiring (Some k) operator (Some vs) = Some (record { key = k; operator = operator; values = vs })
+requiring key operator values = None

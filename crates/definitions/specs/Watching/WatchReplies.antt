@@ -5,7 +5,6 @@ use Rattle.definitions.specs.State.History as history
 use Rattle.definitions.specs.State.History.{History, View, present, list}
 use Rattle.definitions.specs.Requests.Collections.{WatchOptions}
 use Rattle.definitions.specs.Answers.Refusals.{Refusal}
-use Rattle.server_state.specs.Servers.{Server, watch_by}
 use Rattle.definitions.specs.Watching.Streams.{Line, change, added_lines}
 use Rattle.definitions.specs.Answers.Versions.{Watched, watched_from, lines_from}
 
