@@ -2,7 +2,8 @@
 ghost use Rattle.std.specs.Prelude.{◌≡◌, ◌<◌, ◌≤◌, ◌||◌, ◌+◌, ◌^◌, not, true, IfOk, IfErr, OnOk, is_some, string_bytes, option_map};
 ghost use Rattle.definitions.specs.Metadata as metadata;
 ghost use Rattle.definitions.specs.Metadata.{is_other};
-ghost use Rattle.definitions.specs.Verbs.{accept_at, create_object, new_name, is_too_large};
+ghost use Rattle.definitions.specs.Verbs.{accept_at, new_name, is_too_large};
+ghost use Rattle.definitions.specs.ObjectRequests.{create_object};
 ghost use Rattle.definitions.proofs.VerbSteps.{create_as, create_read};
 ghost use Rattle.definitions.specs.NewObjects.{new_metadata, with_first_status, with_generation};
 ghost use Rattle.definitions.specs.Revisions.{greatest_revision};

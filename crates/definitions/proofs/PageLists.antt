@@ -10,7 +10,7 @@ use Rattle.std.proofs.lemmas.Cmp.{nat_list_cmp_total}
 use Rattle.std.proofs.lemmas.List.{take-append-drop, length-take}
 use Rattle.serde_json.specs.Data.{Data}
 use Rattle.definitions.specs.Kinds.{rank}
-use Rattle.definitions.specs.Labels.{labels_of}
+use Rattle.definitions.specs.Metadata.{labels_of}
 use Rattle.definitions.specs.SelectorFields.{fields_meet}
 use Rattle.definitions.specs.Selectors.{meets_all}
 use Rattle.definitions.specs.Names.{Name, name_cmp}

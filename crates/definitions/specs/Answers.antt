@@ -1,8 +1,6 @@
 -- What each request is answered, and what it writes.
-pub mod Refusals
 pub mod Deletion
 pub mod Verbs
 pub mod Reached
 pub mod Versions
 pub mod Lists
-pub mod Replies

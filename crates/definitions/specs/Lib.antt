@@ -5,8 +5,10 @@ pub mod State
 pub mod Requests
 pub mod Answers
 pub mod Watching
+pub mod Replies
 pub use Rattle.definitions.specs.Texts.Kinds
 pub use Rattle.definitions.specs.Texts.Names
+pub use Rattle.definitions.specs.Texts.Values
 pub use Rattle.definitions.specs.Texts.Labels
 pub use Rattle.definitions.specs.Texts.Moments
 pub use Rattle.definitions.specs.Texts.Revisions
@@ -15,7 +17,6 @@ pub use Rattle.definitions.specs.Texts.GeneratedNames
 pub use Rattle.definitions.specs.Texts.Selectors
 pub use Rattle.definitions.specs.Texts.SelectorTexts
 pub use Rattle.definitions.specs.Texts.SelectorFields
-pub use Rattle.definitions.specs.Objects.Values
 pub use Rattle.definitions.specs.Objects.Metadata
 pub use Rattle.definitions.specs.Objects.Schemas
 pub use Rattle.definitions.specs.Objects.Reading
@@ -24,6 +25,7 @@ pub use Rattle.definitions.specs.Objects.Defaults
 pub use Rattle.definitions.specs.Objects.Checks
 pub use Rattle.definitions.specs.Objects.NewObjects
 pub use Rattle.definitions.specs.Objects.Replacements
+pub use Rattle.definitions.specs.Objects.Refusals
 pub use Rattle.definitions.specs.State.History
 pub use Rattle.definitions.specs.State.Changes
 pub use Rattle.definitions.specs.State.Windows
@@ -32,8 +34,8 @@ pub use Rattle.definitions.specs.Requests.Queries
 pub use Rattle.definitions.specs.Requests.PageTokens
 pub use Rattle.definitions.specs.Requests.Collections
 pub use Rattle.definitions.specs.Requests.DeleteOptions
+pub use Rattle.definitions.specs.Requests.ObjectRequests
 pub use Rattle.definitions.specs.Requests.Targets
-pub use Rattle.definitions.specs.Answers.Refusals
 pub use Rattle.definitions.specs.Answers.Deletion
 pub use Rattle.definitions.specs.Answers.Verbs
 pub use Rattle.definitions.specs.Answers.Reached
@@ -42,4 +44,3 @@ pub use Rattle.definitions.specs.Answers.Lists
 pub use Rattle.definitions.specs.Watching.Frames
 pub use Rattle.definitions.specs.Watching.Streams
 pub use Rattle.definitions.specs.Watching.WatchReplies
-pub use Rattle.definitions.specs.Answers.Replies

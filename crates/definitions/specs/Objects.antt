@@ -1,5 +1,4 @@
 -- Objects and their keys, as JSON data.
-pub mod Values
 pub mod Metadata
 pub mod Schemas
 pub mod Reading
@@ -8,6 +7,7 @@ pub mod Defaults
 pub mod Checks
 pub mod NewObjects
 pub mod Replacements
+pub mod Refusals
 use Rattle.serde_json.specs.Data.{Data}
 use Rattle.definitions.specs.declared.kinds.Kind.{Kind}
 

@@ -3,4 +3,5 @@ pub mod Queries
 pub mod PageTokens
 pub mod Collections
 pub mod DeleteOptions
+pub mod ObjectRequests
 pub mod Targets

@@ -2,7 +2,8 @@
 use Rattle.std.proofs.Common.{◌≡◌, ℕ, List, false, Option, Some, Ok, IfSome, option_map, sym, ap, ◌∙◌, subst}
 use Rattle.definitions.specs.History.{Members}
 use Rattle.definitions.specs.Verbs as outcomes
-use Rattle.definitions.specs.Verbs.{Outcome, Request, answered, refused, accept_at, overflows}
+use Rattle.definitions.specs.Verbs.{Outcome, answered, refused, accept_at, overflows}
+use Rattle.definitions.specs.ObjectRequests.{Request}
 use Rattle.laws.proofs.Limits.{room}
 use Rattle.meta.specs.Writes.{write_of}
 use Rattle.meta.specs.declared.writes.Write.{Write}

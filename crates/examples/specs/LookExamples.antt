@@ -5,8 +5,8 @@ use Rattle.definitions.specs.declared.kinds.Kind.TheVariants.{ConfigMap, Pod}
 use Rattle.definitions.specs.History.{View, whole}
 use Rattle.definitions.specs.Refusals.{Refusal, expired, too_new}
 use Rattle.definitions.specs.Streams.{Line, change, bookmark, initial, initial_end}
-use Rattle.definitions.specs.Versions.{Watched, watched_from, lines_from}
-use Rattle.definitions.specs.WatchReplies.{watch_lines}
+use Rattle.definitions.specs.Versions.{Watched, watched_from}
+use Rattle.definitions.specs.WatchReplies.{lines_from, watch_lines}
 use Rattle.examples.specs.WindowExamples.{named, stored, puts, six_writes, config_maps}
 
 abbrev pods : View

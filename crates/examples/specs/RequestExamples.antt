@@ -9,7 +9,8 @@ use Rattle.definitions.specs.Refusals.{bad_request, not_found, no_such_path, met
 use Rattle.definitions.specs.declared.refusals.Part.TheVariants.{Token}
 use Rattle.definitions.specs.declared.refusals.Mismatch.TheVariants as mismatch
 use Rattle.definitions.specs.declared.refusals.Field.TheVariants as field
-use Rattle.definitions.specs.Verbs.{create_object, accept_at, refused, write_of}
+use Rattle.definitions.specs.Verbs.{accept_at, refused, write_of}
+use Rattle.definitions.specs.ObjectRequests.{create_object}
 use Rattle.definitions.specs.declared.kinds.Kind.{Kind}
 use Rattle.definitions.specs.Kinds.{kind_text, api_version, plural, resource, has_status, has_generation}
 use Rattle.definitions.specs.Reading.{is_body}

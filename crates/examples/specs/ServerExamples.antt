@@ -6,7 +6,8 @@ use Rattle.definitions.specs.History.{View, Members, whole}
 use Rattle.definitions.specs.Refusals.{Refusal, expired, too_new}
 use Rattle.definitions.specs.Streams.{bookmark}
 use Rattle.definitions.specs.declared.versions.At.TheVariants.{Present, NotOlder, Exact}
-use Rattle.definitions.specs.Versions.{listed_as, list_for, Watched, watched_from, lines_from, compacts}
+use Rattle.definitions.specs.Versions.{listed_as, list_for, Watched, watched_from, compacts}
+use Rattle.definitions.specs.WatchReplies.{lines_from}
 use Rattle.server_state.specs.Servers.{Server, opened_server, after_entries, after_compaction, list_by, watch_by, compact_by}
 use Rattle.examples.specs.WindowExamples.{named, stored, puts, six_writes, config_maps, at_three, at_five}
 

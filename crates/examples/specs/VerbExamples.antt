@@ -5,7 +5,8 @@ use Rattle.definitions.specs.declared.kinds.Kind.TheVariants.{ConfigMap}
 use Rattle.definitions.specs.History.{History}
 use Rattle.line_protocol.specs.Lines.{replay}
 use Rattle.definitions.specs.Refusals.{not_found}
-use Rattle.definitions.specs.Verbs.{update_status, refused, accept}
+use Rattle.definitions.specs.Verbs.{refused, accept}
+use Rattle.definitions.specs.ObjectRequests.{update_status}
 
 -- a name is made of the revision of the write
 abbrev pub GeneratedNamesAreTried : Type 0

@@ -20,7 +20,8 @@ use Rattle.definitions.specs.Reading.{is_body, reading}
 use Rattle.definitions.specs.Refusals.{Refusal, bad_request, not_found, already_exists, conflict, invalid, too_large, storage_full}
 use Rattle.definitions.specs.Replacements.{in_place, is_let_go, says_the_same, updated, with_said_status}
 use Rattle.definitions.specs.Values.{merged}
-use Rattle.definitions.specs.Verbs.{Request, get_object, list_objects, create_object, update_object, update_status, patch_object, delete_object, Outcome, answered, refused, accept_at, accept, shown, stored, removed, said, new_name, put_in_place, let_go, if_same, replace, replace_status, by_decision, names_path, is_too_large, is_past_greatest, most_objects}
+use Rattle.definitions.specs.Verbs.{Outcome, answered, refused, accept_at, accept, shown, stored, removed, said, new_name, put_in_place, let_go, if_same, replace, replace_status, by_decision, names_path, is_too_large, is_past_greatest, most_objects}
+use Rattle.definitions.specs.ObjectRequests.{Request, get_object, list_objects, create_object, update_object, update_status, patch_object, delete_object}
 use Rattle.definitions.proofs.VerbSteps.{create_as, create_checked, create_read, replace_changed, replace_with, update_read, restate, status_read, patch_read, patch, by_fate, delete, status_put}
 use Rattle.laws.proofs.Guards.{guard, guard_field, there, either}
 

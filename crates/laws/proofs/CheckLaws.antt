@@ -13,8 +13,7 @@ use Rattle.definitions.specs.declared.kinds.Kind.TheVariants.{ConfigMap, Pod, Re
 use Rattle.definitions.specs.declared.refusals.Field.{Field}
 use Rattle.laws.specs.CheckLaws.{HasTemplate, SelectsItsTemplate, CreatedSelectTheirTemplates, UpdatedSelectTheirTemplates, StoredPassAgain}
 use Rattle.definitions.specs.Checks.{is_generating_byte, Check, first_fault, checks, checks_of, in_spec, requirements, is_selected, is_template_valid, are_labels, are_labels_valid, is_selector_valid, adds_no_finalizer, is_selector_kept, is_known_uid, is_not_empty, is_owner, are_owners_valid, controllers, generate_name, is_name_valid, generates, passes_if_there, is_generate_name_valid, are_finalizers_valid, is_finalizer, text_is, is_not_negative, counts, is_strategy}
-use Rattle.definitions.specs.Labels.{labels_of}
-use Rattle.definitions.specs.Metadata.{Owner, metadata, metadata_of, name, owners, owners_in}
+use Rattle.definitions.specs.Metadata.{labels_of, Owner, metadata, metadata_of, name, owners, owners_in}
 use Rattle.definitions.specs.Selectors.{Requirement, meets_all}
 use Rattle.definitions.specs.SelectorValues.{all_items, items_in, passes, said_by_value}
 use Rattle.definitions.specs.Uids.{uid_text, uid_revision, cluster_word}

@@ -21,7 +21,8 @@ use Rattle.definitions.specs.Reading.{reading}
 use Rattle.definitions.specs.Replacements.{generation, next_generation, has_changed, has_new_annotations, has_new_spec, in_place, is_new_generation, said_status, updated, with_next_generation, with_said_status}
 use Rattle.definitions.specs.Uids.{uid_text, cluster_word}
 use Rattle.definitions.specs.Values.{members_of, without}
-use Rattle.definitions.specs.Verbs.{Request, get_object, list_objects, create_object, update_object, update_status, patch_object, delete_object, Outcome, with_write, shown, said, new_name}
+use Rattle.definitions.specs.Verbs.{Outcome, with_write, shown, said, new_name}
+use Rattle.definitions.specs.ObjectRequests.{Request, get_object, list_objects, create_object, update_object, update_status, patch_object, delete_object}
 use Rattle.laws.proofs.Cases.{of_create, of_delete, of_patch, of_status, of_update}
 use Rattle.laws.proofs.Guards.{there}
 use Rattle.laws.proofs.HeldMembers.{generation-in_place}

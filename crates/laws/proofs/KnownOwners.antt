@@ -10,17 +10,18 @@ use Rattle.definitions.specs.declared.kinds.Kind.{Kind}
 use Rattle.definitions.specs.Checks.{finalizers, generate_name, is_owner, is_of_the_future, is_known_uid, is_not_empty, are_owners_valid, controllers, checks, update_fault, adds_no_finalizer, is_selector_kept}
 use Rattle.definitions.specs.Deletion.{left_by, marked, with_deletion}
 use Rattle.definitions.specs.GeneratedNames.{name_from}
-use Rattle.definitions.specs.History.{History, found, members, present, state}
+use Rattle.definitions.specs.History.{History, found, members, present, state, Write, write, writes}
 use Rattle.definitions.specs.Kinds.{has_generation}
 use Rattle.laws.specs.HistoryLaws.{OfStored}
 use Rattle.definitions.specs.Metadata.{Owner, owners, owners_in, metadata, metadata_of, name, at_revision, is_being_deleted}
-use Rattle.definitions.specs.Names.{Name}
+use Rattle.definitions.specs.Names.{Name, is_named}
 use Rattle.definitions.specs.NewObjects.{created, with_first_status}
 use Rattle.definitions.specs.Reading.{reading}
 use Rattle.definitions.specs.Replacements.{in_place, updated, with_said_status, with_next_generation}
 use Rattle.definitions.specs.SelectorValues.{passes}
 use Rattle.definitions.specs.Uids.{uid_text, uid_revision, cluster_word}
-use Rattle.definitions.specs.Verbs.{Request, get_object, list_objects, create_object, update_object, update_status, patch_object, delete_object, Outcome, accept, shown, said, new_name, is_free}
+use Rattle.definitions.specs.Verbs.{Outcome, accept, shown, said, new_name, is_free, with_write, write_of}
+use Rattle.definitions.specs.ObjectRequests.{Request, get_object, list_objects, create_object, update_object, update_status, patch_object, delete_object}
 use Rattle.laws.proofs.Cases.{of_create, of_delete, of_patch, of_status, of_update}
 use Rattle.laws.proofs.CheckLaws.{all_met, stored_pass}
 use Rattle.laws.proofs.Guards.{there as if_there}
@@ -28,12 +29,9 @@ use Rattle.definitions.proofs.FirstStatus.{metadata_of-first}
 use Rattle.definitions.proofs.JsonMembers.{apart, metadata_of-with}
 use Rattle.laws.proofs.Removals.{member-at_revision, member-with_next_generation, member-updated, member-restated}
 use Rattle.laws.proofs.VerbLaws.{found-state}
-use Rattle.definitions.specs.History.{Write, write, writes}
-use Rattle.definitions.specs.Verbs.{with_write, write_of}
 use Rattle.laws.proofs.Compacted.{same_writes}
 use Rattle.laws.proofs.Past.{writes-append}
 use Rattle.std.proofs.lemmas.Bool.{leb-true, leb-false}
-use Rattle.definitions.specs.Names.{is_named}
 use Rattle.laws.specs.IdentityLaws.{Each, IsKnown, OwnersAreKnown}
 use Rattle.laws.proofs.Reaching.{by_reached}
 use Rattle.laws.proofs.Traced.{there, now, there_before, there_after}

@@ -9,7 +9,8 @@ use Rattle.definitions.specs.Changes.{Change, changes, changes_after}
 use Rattle.definitions.specs.History.{History, View, Members, up_to, present, writes, list}
 use Rattle.laws.specs.LookLaws.{Look, AreLooks, last_history, last_stand, look_lines, LooksAskForAnyNumber, LooksAreOneStream, WatchesBeginWithTheList}
 use Rattle.definitions.specs.Streams.{Line, change, bookmark, initial, initial_end, event_of, Goes, IsStream, play_lines, added_lines}
-use Rattle.definitions.specs.Versions.{watched, lines_from}
+use Rattle.definitions.specs.Versions.{watched}
+use Rattle.definitions.specs.WatchReplies.{lines_from}
 use Rattle.laws.specs.WatchLaws.{AreBetween}
 use Rattle.definitions.specs.Windows.{floor, within}
 use Rattle.laws.proofs.Played.{goes_on, lie_between}

@@ -2,7 +2,8 @@
 use Rattle.std.proofs.Common.{◌≡◌, ℕ, List, None, refl, ap}
 use Rattle.definitions.specs.History.{History, View, present, list}
 use Rattle.definitions.specs.Lists.{list_outcome}
-use Rattle.definitions.specs.Verbs.{answered, list_body, list_objects, accept}
+use Rattle.definitions.specs.Verbs.{answered, list_body, accept}
+use Rattle.definitions.specs.ObjectRequests.{list_objects}
 use Rattle.definitions.proofs.PageLists.{all_after}
 use Rattle.laws.specs.ReplyLaws.{newest, ListsAreOnePage}
 

@@ -1,7 +1,8 @@
 -- What holds of everything reached, one step after another.
 use Rattle.std.proofs.Common.{◌≡◌, ◌≤◌, ℕ, List, [], ◌∷◌, ◌++◌, Option, Some, None, refl, ap, subst, ◌∙◌, append-nil, ◌⊎◌, inl, inr}
 use Rattle.definitions.specs.History.{History, Entry, Write, write, compaction, present}
-use Rattle.definitions.specs.Verbs.{Request, accept, with_write, write_of}
+use Rattle.definitions.specs.Verbs.{accept, with_write, write_of}
+use Rattle.definitions.specs.ObjectRequests.{Request}
 use Rattle.definitions.specs.Reached.{IsAsked, IsTime, IsReached, opened, asks, compacts}
 use Rattle.laws.specs.ReachedLaws.{PastsAreReached}
 

@@ -9,9 +9,8 @@ use Rattle.definitions.specs.declared.methods.Method.TheVariants.{Get, Post, Put
 use Rattle.definitions.specs.declared.refusals.Part.{Part}
 use Rattle.definitions.specs.declared.refusals.Part.TheVariants as part
 use Rattle.definitions.specs.History.{History, compaction, present}
-use Rattle.definitions.specs.Replies.{Session, start, reply_for, history_from}
+use Rattle.definitions.specs.Replies.{Session, start, reply_for, history_from, default_window}
 use Rattle.line_protocol.specs.Lines.{history_of, Line, ask, at, compact, compact_at, unreadable, ask_if, cut, target_alone, target_and_body, line_from, line_of, session_after, next, after_lines}
-use Rattle.definitions.specs.Replies.{default_window}
 use Rattle.definitions.specs.Moments as moments
 use Rattle.definitions.specs.Moments.{has_form, is_day, is_digit, is_moment}
 use Rattle.definitions.specs.Names.{Name}
@@ -21,7 +20,8 @@ use Rattle.definitions.specs.Revisions.{revision_of}
 use Rattle.definitions.specs.Values.{data_of}
 use Rattle.definitions.specs.Refusals.{Refusal, bad_request, method_not_allowed, too_large}
 use Rattle.definitions.specs.Targets.{Query, Asked, request, list, watch, Route, collection, object_at, status_of, route, path_of, decoded, query_for, names_namespace, is_allowed, is_too_long, body_of, asks_with, delete_options, read_as, selected, asked, asked_with, asked_at, read_request}
-use Rattle.definitions.specs.Verbs.{Request, create_object, update_object, update_status, patch_object, delete_object, accept, with_write, write_of}
+use Rattle.definitions.specs.Verbs.{accept, with_write, write_of}
+use Rattle.definitions.specs.ObjectRequests.{Request, create_object, update_object, update_status, patch_object, delete_object}
 use Rattle.definitions.specs.DeleteOptions.{Options}
 use Rattle.definitions.specs.History as history
 use Rattle.laws.proofs.Parsed.{parsed_data}

@@ -21,7 +21,8 @@ use Rattle.definitions.specs.Reading.{reading}
 use Rattle.definitions.specs.Replacements.{in_place, is_let_go, is_new_generation, updated, with_next_generation, with_said_status, next_generation, generation}
 use Rattle.definitions.specs.Defaults.{whole}
 use Rattle.definitions.specs.SelectorValues.{all_items, items_in}
-use Rattle.definitions.specs.Verbs.{Request, get_object, list_objects, create_object, update_object, update_status, patch_object, delete_object, Outcome, shown, outcome_body, said, new_name}
+use Rattle.definitions.specs.Verbs.{Outcome, shown, outcome_body, said, new_name}
+use Rattle.definitions.specs.ObjectRequests.{Request, get_object, list_objects, create_object, update_object, update_status, patch_object, delete_object}
 use Rattle.laws.proofs.Cases.{of_accept, of_create, of_delete, of_patch, of_status, of_update}
 use Rattle.laws.proofs.CheckLaws.{all_met}
 use Rattle.laws.proofs.Guards.{there}

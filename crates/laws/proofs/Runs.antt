@@ -11,7 +11,8 @@ use Rattle.definitions.specs.Lists.{list_answer}
 use Rattle.definitions.specs.Refusals.{Refusal, too_new}
 use Rattle.definitions.specs.Streams as streams
 use Rattle.definitions.specs.Targets.{Asked, request, list, watch, read_request}
-use Rattle.definitions.specs.Verbs.{Request, accept, with_write, write_of}
+use Rattle.definitions.specs.Verbs.{accept, with_write, write_of}
+use Rattle.definitions.specs.ObjectRequests.{Request}
 use Rattle.definitions.specs.Versions.{Listed, list_for, compacts}
 use Rattle.definitions.specs.WatchReplies.{watch_lines}
 

@@ -25,7 +25,8 @@ use Rattle.definitions.specs.Reading.{reading, is_body}
 use Rattle.definitions.specs.Refusals.{bad_request, not_found, invalid, storage_full}
 use Rattle.definitions.specs.Replacements.{generation, in_place, is_let_go, is_new_generation, next_generation, said_status, says_the_same, updated, with_next_generation, with_said_status}
 use Rattle.definitions.specs.Values.{inner_of, members_of, merged}
-use Rattle.definitions.specs.Verbs.{Request, get_object, list_objects, create_object, update_object, update_status, patch_object, delete_object, accept, by_decision, removed, stored, shown, said, new_name, replace, let_go, put_in_place, replace_status, names_path, is_past_greatest, most_objects}
+use Rattle.definitions.specs.Verbs.{accept, by_decision, removed, stored, shown, said, new_name, replace, let_go, put_in_place, replace_status, names_path, is_past_greatest, most_objects}
+use Rattle.definitions.specs.ObjectRequests.{Request, get_object, list_objects, create_object, update_object, update_status, patch_object, delete_object}
 use Rattle.definitions.proofs.VerbSteps.{by_fate, delete, create_read, update_read, replace_with, replace_changed, status_read, restate, patch, patch_read, status_put}
 use Rattle.laws.proofs.Cases.{of_create}
 use Rattle.laws.proofs.Guards.{there, either}

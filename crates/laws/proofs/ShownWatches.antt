@@ -8,9 +8,9 @@ use Rattle.definitions.specs.History.{History, View, present}
 use Rattle.definitions.specs.Refusals.{Refusal}
 use Rattle.laws.specs.SentLaws.{WatchesAreStreams}
 use Rattle.definitions.specs.Streams.{Line, change, Goes, IsStream}
-use Rattle.definitions.specs.Versions.{Watched, watched, watched_from, lines_from}
+use Rattle.definitions.specs.Versions.{Watched, watched, watched_from}
+use Rattle.definitions.specs.WatchReplies.{lines_from, told_lines}
 use Rattle.laws.specs.WatchLaws.{AreBetween}
-use Rattle.definitions.specs.WatchReplies.{told_lines}
 use Rattle.laws.proofs.Played.{lie_between}
 use Rattle.laws.proofs.StandingWatches.{given_stands, lines_stream}
 

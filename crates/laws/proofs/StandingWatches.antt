@@ -10,7 +10,8 @@ use Rattle.definitions.specs.Changes.{Change, changes, changes_after, play}
 use Rattle.definitions.specs.Streams.{Line, change, bookmark, Goes, IsStream}
 use Rattle.laws.specs.WatchLaws.{AreBetween}
 use Rattle.definitions.specs.Windows.{floor, within}
-use Rattle.definitions.specs.Versions.{Watched, last_change, watched, watched_from, lines_from}
+use Rattle.definitions.specs.Versions.{Watched, last_change, watched, watched_from}
+use Rattle.definitions.specs.WatchReplies.{lines_from}
 use Rattle.laws.specs.ServerLaws.{WatchesStand, WatchesGoOn}
 use Rattle.laws.proofs.Past.{writes-append}
 use Rattle.laws.proofs.Played.{list_played, goes_on, lie_between}

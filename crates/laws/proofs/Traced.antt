@@ -8,7 +8,8 @@ use Rattle.laws.specs.HistoryLaws.{OfStored, KeepsText}
 use Rattle.definitions.specs.Metadata.{metadata_text, uid}
 use Rattle.definitions.specs.Names.{Name, is_named}
 use Rattle.definitions.specs.Uids.{uid_text, uid_revision, cluster_word}
-use Rattle.definitions.specs.Verbs.{Request, accept, new_name, with_write, write_of}
+use Rattle.definitions.specs.Verbs.{accept, new_name, with_write, write_of}
+use Rattle.definitions.specs.ObjectRequests.{Request}
 use Rattle.laws.proofs.Cases.{of_accept}
 use Rattle.laws.proofs.Compacted.{same_writes}
 use Rattle.laws.proofs.HeldMembers.{uid-created}

@@ -11,7 +11,8 @@ use Rattle.definitions.specs.Metadata.{metadata_of, uid, at_revision}
 use Rattle.definitions.specs.Names.{Name}
 use Rattle.definitions.specs.Replacements.{in_place, updated, with_said_status}
 use Rattle.definitions.specs.Uids.{uid_text, uid_revision, cluster_word}
-use Rattle.definitions.specs.Verbs.{Request, accept, new_name, said, with_write, write_of}
+use Rattle.definitions.specs.Verbs.{accept, new_name, said, with_write, write_of}
+use Rattle.definitions.specs.ObjectRequests.{Request}
 use Rattle.laws.proofs.Cases.{of_accept, of_create}
 use Rattle.laws.proofs.EachWrite.{AllPut, put_write, there_put}
 use Rattle.laws.proofs.HeldMembers.{uid-created}

@@ -5,7 +5,8 @@ use Rattle.definitions.specs.History.{History, writes, found, members, present, 
 use Rattle.laws.specs.HistoryLaws.{OfStored}
 use Rattle.definitions.specs.Names.{Name, is_namespace, is_subdomain}
 use Rattle.definitions.specs.Reading.{reading}
-use Rattle.definitions.specs.Verbs.{Request, get_object, list_objects, create_object, update_object, update_status, patch_object, delete_object, Outcome, accept, shown, said, write_of}
+use Rattle.definitions.specs.Verbs.{Outcome, accept, shown, said, write_of}
+use Rattle.definitions.specs.ObjectRequests.{Request, get_object, list_objects, create_object, update_object, update_status, patch_object, delete_object}
 use Rattle.laws.proofs.Cases.{of_create, of_delete, of_patch, of_status, of_update}
 use Rattle.laws.proofs.Compacted.{same_writes}
 use Rattle.laws.proofs.Guards.{there}

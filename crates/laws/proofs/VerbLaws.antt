@@ -23,7 +23,8 @@ use Rattle.definitions.specs.NewObjects.{new_metadata, created, first_status, wi
 use Rattle.definitions.specs.Reading.{reading}
 use Rattle.definitions.specs.Replacements.{updated, in_place, said_status, with_said_status, with_next_generation, is_new_generation}
 use Rattle.definitions.specs.Uids.{uid_text, cluster_word}
-use Rattle.definitions.specs.Verbs.{get_object, list_objects, create_object, update_object, update_status, patch_object, delete_object, shown, Outcome, outcome_body, history_after, new_name, said}
+use Rattle.definitions.specs.Verbs.{shown, Outcome, outcome_body, history_after, new_name, said}
+use Rattle.definitions.specs.ObjectRequests.{get_object, list_objects, create_object, update_object, update_status, patch_object, delete_object}
 use Rattle.definitions.proofs.VerbSteps.{with_defaults}
 use Rattle.definitions.specs.Values.{members_of, inner_of, with_member}
 use Rattle.laws.proofs.Cases.{of_accept, of_create, of_update, of_patch, of_status}

@@ -5,8 +5,7 @@ use Rattle.definitions.specs.declared.kinds.Kind.{Kind}
 use Rattle.definitions.specs.declared.kinds.Kind.TheVariants.{ReplicaSet, Deployment}
 use Rattle.definitions.specs.Checks.{create_fault, in_spec, update_fault}
 use Rattle.definitions.specs.Defaults.{defaulted}
-use Rattle.definitions.specs.Labels.{labels_of}
-use Rattle.definitions.specs.Metadata.{name}
+use Rattle.definitions.specs.Metadata.{labels_of, name}
 use Rattle.definitions.specs.Reading.{reading}
 use Rattle.definitions.specs.Selectors.{Requirement, meets_all}
 use Rattle.definitions.specs.SelectorValues.{said_by_value}

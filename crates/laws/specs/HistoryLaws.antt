@@ -15,7 +15,8 @@ use Rattle.definitions.specs.Metadata.{metadata_text, uid, version}
 use Rattle.definitions.specs.Reading.{reading}
 use Rattle.definitions.specs.Targets.{Asked, Route, route, path_text, read_request}
 use Rattle.definitions.specs.Uids.{uid_text, uid_revision, cluster_word}
-use Rattle.definitions.specs.Verbs.{Request, get_object, list_objects, create_object, update_object, update_status, patch_object, delete_object, Outcome, refused, accept_at, accept, write_of, outcome_body, history_after, overflows}
+use Rattle.definitions.specs.Verbs.{Outcome, refused, accept_at, accept, write_of, outcome_body, history_after, overflows}
+use Rattle.definitions.specs.ObjectRequests.{Request, get_object, list_objects, create_object, update_object, update_status, patch_object, delete_object}
 
 -- ---- history
 

@@ -17,7 +17,8 @@ use Rattle.definitions.specs.Names.{Name}
 use Rattle.definitions.specs.Reading.{reading}
 use Rattle.definitions.specs.Replacements.{generation, next_generation, is_new_generation}
 use Rattle.definitions.specs.Values.{merged}
-use Rattle.definitions.specs.Verbs.{Request, create_object, update_object, update_status, patch_object, delete_object, Outcome, accept, write_of, outcome_body, history_after, said}
+use Rattle.definitions.specs.Verbs.{Outcome, accept, write_of, outcome_body, history_after, said}
+use Rattle.definitions.specs.ObjectRequests.{Request, create_object, update_object, update_status, patch_object, delete_object}
 
 -- what holds of the object that is there before a request, and of the one that it writes in its place
 abbrev pub OfReplaced : History → Outcome → (Name → Data → Data → Type 0) → Type 0

@@ -4,8 +4,8 @@ use Rattle.definitions.specs.declared.frames.FrameKind.TheVariants.{Added}
 use Rattle.definitions.specs.History.{History, View, present, list}
 use Rattle.definitions.specs.Collections.{watch_from}
 use Rattle.definitions.specs.Streams.{Line, event_of, IsStream, play_lines}
-use Rattle.definitions.specs.Versions.{Watched, watched_from, lines_from}
-use Rattle.definitions.specs.WatchReplies.{watch_lines}
+use Rattle.definitions.specs.Versions.{Watched, watched_from}
+use Rattle.definitions.specs.WatchReplies.{lines_from, watch_lines}
 use Rattle.definitions.specs.Windows.{floor}
 
 -- a look of a watch: all that has happened by then, how many changes it asks for, and what it is given

@@ -7,7 +7,7 @@ use Rattle.line_protocol.specs.Lines.{history_of}
 use Rattle.definitions.specs.Moments.{is_moment}
 use Rattle.definitions.specs.Reached.{IsAsked, IsTime, IsReached}
 use Rattle.definitions.specs.Targets.{request, read_request}
-use Rattle.definitions.specs.Verbs.{Request}
+use Rattle.definitions.specs.ObjectRequests.{Request}
 use Rattle.laws.specs.HistoryLaws.{Carry}
 
 -- ---- what is reached

@@ -16,7 +16,8 @@ use Rattle.definitions.specs.Metadata.{metadata_text}
 use Rattle.definitions.specs.Reached.{IsReached}
 use Rattle.definitions.specs.PageTokens.{token_of}
 use Rattle.controllers.specs.Reflectors.{list_of}
-use Rattle.definitions.specs.Verbs.{as_item, list_body, list_objects, accept, outcome_code, outcome_body}
+use Rattle.definitions.specs.Verbs.{as_item, list_body, accept, outcome_code, outcome_body}
+use Rattle.definitions.specs.ObjectRequests.{list_objects}
 use Rattle.laws.specs.SentLaws.{whole, listed_at}
 
 -- ---- one list

@@ -3,17 +3,18 @@ use Rattle.std.specs.Prelude.{◌≡◌, ◌≤◌, ◌↔◌, ℕ, [], ◌∷�
 use Rattle.definitions.specs.History.{History, Write, write, View, present, list}
 use Rattle.laws.specs.Happening.{CanHappen}
 use Rattle.definitions.specs.Refusals.{Refusal}
-use Rattle.definitions.specs.Verbs.{Request, accept_at, accept, write_of, history_after}
+use Rattle.definitions.specs.Verbs.{accept_at, accept, write_of, history_after}
+use Rattle.definitions.specs.ObjectRequests.{Request}
 use Rattle.definitions.specs.Changes.{changes, play}
 use Rattle.definitions.specs.Streams.{IsStream, play_lines}
 use Rattle.definitions.specs.Windows.{floor, since}
 use Rattle.definitions.specs.declared.versions.At.{At}
 use Rattle.definitions.specs.declared.versions.At.TheVariants.{Present, NotOlder, Exact}
-use Rattle.definitions.specs.Versions.{Watched, list_for, watched_from, lines_from, compacts}
+use Rattle.definitions.specs.Versions.{Watched, list_for, watched_from, compacts}
+use Rattle.definitions.specs.WatchReplies.{lines_from, watch_lines}
 use Rattle.definitions.specs.Collections.{ListOptions, WatchOptions}
 use Rattle.definitions.specs.Lists.{list_outcome}
 use Rattle.server_state.specs.Servers.{list_served, watch_served, Server, opened_server, after_write, after_writing, after_entries, list_by, watch_by, compact_by, Holds}
-use Rattle.definitions.specs.WatchReplies.{watch_lines}
 
 -- a new server holds the empty history
 abbrev pub ServersOpen : Type 0

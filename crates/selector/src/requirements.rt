@@ -1,6 +1,7 @@
 //! One requirement of labels.
 ghost use Rattle.std.specs.Prelude.{◌≡◌, option_map};
-ghost use Rattle.definitions.specs.Labels.{labels_of, label_at};
+ghost use Rattle.definitions.specs.Labels.{label_at};
+ghost use Rattle.definitions.specs.Metadata.{labels_of};
 ghost use Rattle.definitions.specs.Selectors.{is_among, holds, meets};
 ghost use Rattle.selector.specs.Seen.{now, texts_of, requirement_of, labels_in};
 

@@ -1,7 +1,7 @@
 //! Selectors of labels.
 ghost use Rattle.std.specs.Prelude.{◌≡◌, [], Some, Ok, IfOk, IfErr, length, ◌==◌};
 ghost use Rattle.serde_json.specs.View.{view};
-ghost use Rattle.definitions.specs.Labels.{labels_of};
+ghost use Rattle.definitions.specs.Metadata.{labels_of};
 ghost use Rattle.definitions.specs.SelectorTexts.{said_by_text};
 ghost use Rattle.definitions.specs.SelectorValues.{said_by_value};
 ghost use Rattle.definitions.specs.Selectors.{meets_all};

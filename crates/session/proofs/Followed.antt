@@ -13,7 +13,8 @@ use Rattle.laws.specs.ServerLaws.{HoldOrRefuse}
 use Rattle.server_state.specs.Servers.{Server, Holds, after_writing, list_by, compact_by, watch_served}
 use Rattle.definitions.specs.Streams as streams
 use Rattle.definitions.specs.Targets.{Asked, request, list, watch, read_request}
-use Rattle.definitions.specs.Verbs.{Request, refused, write_of, accept_at, accept, history_after}
+use Rattle.definitions.specs.Verbs.{refused, write_of, accept_at, accept, history_after}
+use Rattle.definitions.specs.ObjectRequests.{Request}
 use Rattle.definitions.specs.Versions.{Listed, list_for, compacts}
 use Rattle.definitions.specs.WatchReplies.{watch_lines}
 use Rattle.laws.proofs.HeldAnswers.{pages_held, lines_held}

@@ -6,7 +6,8 @@ use Rattle.definitions.specs.Replies.{outcome}
 use Rattle.line_protocol.specs.Lines.{reply_text}
 use Rattle.server_state.specs.Servers.{Server, after_writing}
 use Rattle.definitions.specs.Verbs as verbs
-use Rattle.definitions.specs.Verbs.{Answer, Outcome, Request, answered, refused, overflows}
+use Rattle.definitions.specs.Verbs.{Answer, Outcome, answered, refused, overflows}
+use Rattle.definitions.specs.ObjectRequests.{Request}
 use Rattle.desk.specs.Replies.{Lists}
 use Rattle.meta.specs.Faults.{refusal_of}
 use Rattle.meta.specs.declared.faults.Fault.{Fault}

@@ -9,7 +9,8 @@ use Rattle.server_state.specs.Servers.{list_served, Server, opened_server, after
 use Rattle.definitions.specs.Refusals.{Refusal, bad_request, success_body}
 use Rattle.server_state.specs.Codes.{coded_server}
 use Rattle.definitions.specs.Targets.{Asked, request, list, watch, read_request}
-use Rattle.definitions.specs.Verbs.{Request, Outcome, refused, write_of, accept_at}
+use Rattle.definitions.specs.Verbs.{Outcome, refused, write_of, accept_at}
+use Rattle.definitions.specs.ObjectRequests.{Request}
 
 -- a server, and the moment that it is
 pub record Held : Type 0 where

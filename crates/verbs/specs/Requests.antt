@@ -1,7 +1,7 @@
 -- Requests as the definitions say them.
 use Rattle.std.specs.Prelude.{string_bytes}
 use Rattle.serde_json.specs.View.{view}
-use Rattle.definitions.specs.Verbs as verbs
+use Rattle.definitions.specs.ObjectRequests as verbs
 use Rattle.lifecycle.specs.Options.{options_seen}
 use Rattle.meta.specs.Keys.{name_of}
 use Rattle.selector.specs.Views.{view_of}

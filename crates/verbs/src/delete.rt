@@ -3,7 +3,8 @@ ghost use Rattle.std.specs.Prelude.{◌≡◌, ◌+◌, ◌≤◌, IfOk, string_
 ghost use Rattle.serde_json.specs.Written.{compact_text};
 ghost use Rattle.definitions.specs.Deletion.{decided, gone, kept_code, removal_of};
 ghost use Rattle.definitions.specs.Revisions.{greatest_revision};
-ghost use Rattle.definitions.specs.Verbs.{accept_at, by_decision, delete_object, let_go};
+ghost use Rattle.definitions.specs.Verbs.{accept_at, by_decision, let_go};
+ghost use Rattle.definitions.specs.ObjectRequests.{delete_object};
 ghost use Rattle.definitions.proofs.VerbSteps.{by_fate, put_mark};
 ghost use Rattle.lifecycle.specs.Fates.{fate_seen};
 ghost use Rattle.lifecycle.specs.Options.{options_seen};

@@ -1,6 +1,7 @@
 //! Gets and lists.
 ghost use Rattle.std.specs.Prelude.{◌≡◌, ℕ, List};
-ghost use Rattle.definitions.specs.Verbs.{accept_at, get_object, list_objects};
+ghost use Rattle.definitions.specs.Verbs.{accept_at};
+ghost use Rattle.definitions.specs.ObjectRequests.{get_object, list_objects};
 ghost use Rattle.meta.specs.Keys.{name_of};
 ghost use Rattle.selector.specs.Views.{view_of};
 ghost use Rattle.answers.specs.Serves.{Serves};

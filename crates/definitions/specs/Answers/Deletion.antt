@@ -14,7 +14,7 @@ use Rattle.definitions.specs.Requests.DeleteOptions.{Options}
 use Rattle.definitions.specs.Texts.Kinds.{has_generation}
 use Rattle.definitions.specs.Objects.Metadata.{metadata_of, with_metadata, at_revision, uid, version, is_being_deleted, differs}
 use Rattle.definitions.specs.Texts.Names.{Name}
-use Rattle.definitions.specs.Answers.Refusals.{success_body}
+use Rattle.definitions.specs.Objects.Refusals.{success_body}
 use Rattle.definitions.specs.Objects.Replacements.{with_next_generation}
 
 -- ---- finalizers

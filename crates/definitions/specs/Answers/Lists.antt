@@ -7,7 +7,7 @@ use Rattle.definitions.specs.State.History.{History, View}
 use Rattle.definitions.specs.Requests.Collections.{ListOptions}
 use Rattle.definitions.specs.State.Pages.{Place, Page, page_of, remaining}
 use Rattle.definitions.specs.Requests.PageTokens.{Token, token_text}
-use Rattle.definitions.specs.Answers.Refusals.{Refusal, with_optional}
+use Rattle.definitions.specs.Objects.Refusals.{Refusal, with_optional}
 use Rattle.definitions.specs.Answers.Verbs.{Outcome, refused, shown, at_version, list_with}
 use Rattle.definitions.specs.Answers.Versions.{Listed, list_for}
 

@@ -19,26 +19,17 @@ use Rattle.definitions.specs.Texts.Names.{Name}
 use Rattle.definitions.specs.State.History as history
 use Rattle.definitions.specs.State.History.{History, Write, write, View, viewed, members, found, present}
 use Rattle.definitions.specs.Requests.DeleteOptions.{Options}
+use Rattle.definitions.specs.Requests.ObjectRequests.{Request, get_object, list_objects, create_object, update_object, update_status, patch_object, delete_object}
 use Rattle.definitions.specs.Answers.Deletion.{Fate, remove, mark, keep, decided, removal_of, kept_code}
 use Rattle.definitions.specs.Objects.Metadata.{metadata_of, at_revision, name, namespace, uid, version, is_other, differs}
 use Rattle.definitions.specs.Objects.Reading.{is_body, reading}
-use Rattle.definitions.specs.Answers.Refusals.{Refusal, bad_request, not_found, already_exists, conflict, invalid, too_large, storage_full, code, status_body}
+use Rattle.definitions.specs.Objects.Refusals.{Refusal, bad_request, not_found, already_exists, conflict, invalid, too_large, storage_full, code, status_body}
 use Rattle.definitions.specs.Objects.NewObjects.{created, with_first_status}
 use Rattle.definitions.specs.Objects.Replacements.{in_place, is_let_go, says_the_same, updated, with_said_status}
 use Rattle.definitions.specs.Texts.Revisions.{greatest_revision}
-use Rattle.definitions.specs.Objects.Values.{members_of, merged, without}
+use Rattle.definitions.specs.Texts.Values.{members_of, merged, without}
 
--- ---- requests and outcomes
-
--- the verbs of the API, each with what it names (Kubernetes API Concepts, API terminology); the body of an object is JSON data, not yet read
-pub data Request : Type 0 where
-  get_object : Name → Request
-  list_objects : View → Request
-  create_object : Kind → List ℕ → Data → Request
-  update_object : Name → Data → Request
-  update_status : Name → Data → Request
-  patch_object : Name → Data → Request
-  delete_object : Name → Options → Request
+-- ---- outcomes
 
 -- an answer: its HTTP status code, its body, and the write that it makes, if any
 pub record Answer : Type 0 where

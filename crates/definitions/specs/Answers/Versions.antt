@@ -4,9 +4,8 @@ use Rattle.std.specs.Result.{result_map_both}
 use Rattle.definitions.specs.declared.versions.At.{At}
 use Rattle.definitions.specs.declared.versions.At.TheVariants.{Present, NotOlder, Exact}
 use Rattle.definitions.specs.State.History.{History, compaction, View, Members, present, list}
-use Rattle.definitions.specs.Answers.Refusals.{Refusal, too_new}
+use Rattle.definitions.specs.Objects.Refusals.{Refusal, too_new}
 use Rattle.definitions.specs.State.Changes.{Change}
-use Rattle.definitions.specs.Watching.Streams.{Line, change, bookmark}
 use Rattle.definitions.specs.State.Windows.{since, list_within}
 
 -- ---- lists
@@ -53,10 +52,6 @@ watched now a n cs = record { changes = take n cs; stands = if nat_le (length cs
 -- (Kubernetes API Concepts, Efficient detection of changes)
 abbrev pub watched_from : ℕ → History → View → ℕ → ℕ → Result Watched Refusal
 watched_from size h v a n = result_map_both (watched (present h) a n) (λ f. f) (since size h v a (n + 1))
-
--- the lines that show this to a watch from a: the changes, and a bookmark where it stands above the last one (Kubernetes API Concepts, Watch bookmarks)
-abbrev pub lines_from : ℕ → Watched → List Line
-lines_from a w = map change w.changes ++ (if nat_lt (last_change a w.changes) w.stands then bookmark w.stands ∷ [] else [])
 
 -- ---- compactions
 

@@ -5,15 +5,15 @@ use Rattle.std.specs.Option.{option_or}
 use Rattle.std.specs.Result.{result_ok}
 use Rattle.std.specs.Str.{bytes_eq}
 use Rattle.std.specs.Str.Parse.{digits_value}
-use Rattle.definitions.specs.Objects.Values.{Data, Items, no_items, item, Members, no_members, member, get, as_str, as_number, as_i64, compact_text}
+use Rattle.definitions.specs.Texts.Values.{Data, Items, no_items, item, Members, no_members, member, get, as_str, as_number, as_i64, compact_text}
 use Rattle.definitions.specs.declared.amounts.Amount.{Amount}
 use Rattle.definitions.specs.declared.amounts.Amount.TheVariants.{Pods, Percent}
 use Rattle.definitions.specs.declared.kinds.Kind.{Kind}
 use Rattle.definitions.specs.declared.kinds.Kind.TheVariants.{ReplicaSet, Deployment}
 use Rattle.definitions.specs.declared.refusals.Field.{Field}
 use Rattle.definitions.specs.declared.refusals.Field.TheVariants as field
-use Rattle.definitions.specs.Texts.Labels.{is_label_key, is_label_value, labels_of}
-use Rattle.definitions.specs.Objects.Metadata.{Owner, metadata, metadata_text, name, is_being_deleted, owners, text_at}
+use Rattle.definitions.specs.Texts.Labels.{is_label_key, is_label_value}
+use Rattle.definitions.specs.Objects.Metadata.{labels_of, Owner, metadata, metadata_text, name, is_being_deleted, owners, text_at}
 use Rattle.definitions.specs.Texts.Moments.{is_digit}
 use Rattle.definitions.specs.Texts.Names.{is_letter_or_digit, is_subdomain}
 use Rattle.definitions.specs.Texts.Selectors.{Requirement, meets_all}

@@ -1,7 +1,7 @@
 -- What an object's metadata says (Kubernetes API Conventions, Metadata).
 use Rattle.std.specs.Prelude.{ℕ, List, [], Bool, true, false, not, Option, Some, None, is_some, option_and_then, unwrap_or, codes, decimal, ◌∷◌}
 use Rattle.std.specs.Str.{bytes_eq}
-use Rattle.definitions.specs.Objects.Values.{Data, string, object, Members, put, Items, no_items, item, get, get_member, as_str, as_bool, as_array, members_of, inner_of}
+use Rattle.definitions.specs.Texts.Values.{Data, string, object, Members, put, Items, no_items, item, get, get_member, as_str, as_bool, as_array, members_of, inner_of}
 
 -- the members of an object's metadata
 abbrev pub metadata_of : Data → Members
@@ -49,6 +49,10 @@ is_other named t = differs named (Some t)
 -- whether deletionTimestamp is set (Kubernetes, Finalizers)
 abbrev pub is_being_deleted : Data → Bool
 is_being_deleted d = is_some (metadata_text (codes "deletionTimestamp") d)
+
+-- an object's labels; one without the member has none
+abbrev pub labels_of : Data → Members
+labels_of d = inner_of (metadata (codes "labels") d)
 
 -- the value of a label
 abbrev pub label : List ℕ → Data → Option (List ℕ)

@@ -1,6 +1,6 @@
 -- What a create stores.
 use Rattle.std.specs.Prelude.{ℕ, List, Option, Some, None, codes, if◌then◌else◌}
-use Rattle.definitions.specs.Objects.Values.{Data, string, object, Members, no_members, member, put, members_of, without}
+use Rattle.definitions.specs.Texts.Values.{Data, string, object, Members, no_members, member, put, members_of, without}
 use Rattle.definitions.specs.declared.kinds.Kind.{Kind}
 use Rattle.definitions.specs.declared.kinds.Kind.TheVariants.{ConfigMap, Pod, ReplicaSet, Deployment}
 use Rattle.definitions.specs.Objects.Defaults.{whole}

@@ -2,7 +2,7 @@
 use Rattle.std.specs.Prelude.{ℕ, ◌+◌, List, [], ◌∷◌, Bool, false, not, ◌&&◌, ◌||◌, Option, Some, None, is_some, codes, nat_lt, option_and_then, unwrap_or, if◌then◌else◌}
 use Rattle.std.specs.Option.{option_or}
 use Rattle.std.specs.Str.{bytes_eq}
-use Rattle.definitions.specs.Objects.Values.{Data, object, Members, put, get, get_member, as_number, as_u64, compact_text, members_of, without}
+use Rattle.definitions.specs.Texts.Values.{Data, object, Members, put, get, get_member, as_number, as_u64, compact_text, members_of, without}
 use Rattle.definitions.specs.declared.kinds.Kind.{Kind}
 use Rattle.definitions.specs.declared.kinds.Kind.TheVariants.{ReplicaSet, Deployment}
 use Rattle.definitions.specs.Objects.Checks.{text_of}

@@ -11,7 +11,7 @@ use Rattle.definitions.specs.declared.schemas.Schema.TheVariants.{Selector}
 use Rattle.definitions.specs.declared.selectors.Operator.{Operator}
 use Rattle.definitions.specs.declared.selectors.Operator.TheVariants.{In, NotIn, Exists, DoesNotExist}
 use Rattle.definitions.specs.Texts.Selectors.{Requirement, each_read, label_key, label_value, put_first, requiring}
-use Rattle.definitions.specs.Objects.Values.{inner_of}
+use Rattle.definitions.specs.Texts.Values.{inner_of}
 use Rattle.definitions.specs.Objects.Reading.{fits, tidied}
 
 -- why a value selects nothing: a member has a wrong type, or a key, an operator or values do not go

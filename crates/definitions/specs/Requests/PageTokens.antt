@@ -7,7 +7,7 @@ use Rattle.base64.specs.GeneralPurpose.{encode_of, decode_of}
 use Rattle.serde_json.specs.Data.{Data, string, object, member, no_members}
 use Rattle.serde_json.specs.Written.{compact_text}
 use Rattle.definitions.specs.Objects.Metadata.{text_at}
-use Rattle.definitions.specs.Objects.Values.{data_of}
+use Rattle.definitions.specs.Texts.Values.{data_of}
 use Rattle.definitions.specs.State.Pages.{Place}
 use Rattle.definitions.specs.Texts.Revisions.{greatest_revision, revision_of}
 

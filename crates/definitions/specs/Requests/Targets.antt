@@ -22,9 +22,9 @@ use Rattle.definitions.specs.Requests.DeleteOptions.{Options, options_of, option
 use Rattle.definitions.specs.Requests.Collections as collections
 use Rattle.definitions.specs.Requests.Collections.{ListOptions, WatchOptions, Collection, Read, everything, collection_of}
 use Rattle.definitions.specs.Requests.Queries.{Pairs, pairs_of, member, has_any}
-use Rattle.definitions.specs.Objects.Values.{data_of}
-use Rattle.definitions.specs.Answers.Refusals.{Refusal, bad_request, no_such_path, method_not_allowed, too_large}
-use Rattle.definitions.specs.Answers.Verbs.{Request, get_object, create_object, update_object, update_status, patch_object, delete_object}
+use Rattle.definitions.specs.Texts.Values.{data_of}
+use Rattle.definitions.specs.Objects.Refusals.{Refusal, bad_request, no_such_path, method_not_allowed, too_large}
+use Rattle.definitions.specs.Requests.ObjectRequests.{Request, get_object, create_object, update_object, update_status, patch_object, delete_object}
 
 -- a collection of a kind, in one namespace or in all; an object; the status of an object (Kubernetes API Concepts, Resource URIs)
 pub data Route : Type 0 where

@@ -6,7 +6,7 @@ use Rattle.std.specs.Str.{bytes_eq}
 use Rattle.serde_json.specs.Data.{Data}
 use Rattle.definitions.specs.declared.kinds.Kind.{Kind}
 use Rattle.definitions.specs.Texts.Kinds.{rank}
-use Rattle.definitions.specs.Texts.Labels.{labels_of}
+use Rattle.definitions.specs.Objects.Metadata.{labels_of}
 use Rattle.definitions.specs.Texts.Names.{Name, name_cmp, is_named}
 use Rattle.definitions.specs.Texts.SelectorFields.{FieldRequirement, fields_meet}
 use Rattle.definitions.specs.Texts.Selectors.{Requirement, meets_all}

@@ -5,7 +5,7 @@ use Rattle.definitions.specs.declared.kinds.Kind.{Kind}
 use Rattle.definitions.specs.Texts.Kinds.{rank}
 use Rattle.definitions.specs.Texts.Names.{Name}
 use Rattle.definitions.specs.State.History.{History, Write, write, compaction, View, Members, writes, present, last_of, list}
-use Rattle.definitions.specs.Answers.Refusals.{Refusal, expired, too_new}
+use Rattle.definitions.specs.Objects.Refusals.{Refusal, expired, too_new}
 use Rattle.definitions.specs.State.Changes.{Change, changes}
 
 -- a write with its revision, and what was under its key before it

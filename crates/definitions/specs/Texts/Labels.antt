@@ -1,8 +1,7 @@
 -- The labels of an object: their keys and values.
 use Rattle.std.specs.Prelude.{ℕ, ◌==◌, ◌-◌, ◌&&◌, ◌||◌, List, Bool, codes, length, slice_index, nat_le, nat_lt, if◌then◌else◌, Option, option_and_then}
 use Rattle.std.specs.List.{list_all, list_any, before_first, after_first}
-use Rattle.definitions.specs.Objects.Values.{Data, Members, get_member, as_str, inner_of}
-use Rattle.definitions.specs.Objects.Metadata.{metadata}
+use Rattle.definitions.specs.Texts.Values.{Members, get_member, as_str}
 use Rattle.definitions.specs.Texts.Names.{is_letter_or_digit, is_subdomain}
 
 -- a letter of either case, or a digit
@@ -29,10 +28,6 @@ is_slash b = b == 47
 -- a label's key is a short name, before which a DNS subdomain and `/` may stand
 abbrev pub is_label_key : List ℕ → Bool
 is_label_key t = if list_any is_slash t then is_subdomain (before_first is_slash t) && is_short_name (after_first is_slash t) else is_short_name t
-
--- an object's labels; one without the member has none
-abbrev pub labels_of : Data → Members
-labels_of d = inner_of (metadata (codes "labels") d)
 
 -- the value of the label with this key, where it is there
 abbrev pub label_at : List ℕ → Members → Option (List ℕ)

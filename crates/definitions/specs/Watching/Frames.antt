@@ -10,7 +10,7 @@ use Rattle.definitions.specs.declared.frames.FrameKind.{FrameKind}
 use Rattle.definitions.specs.declared.frames.FrameKind.TheVariants.{Added, Modified, Deleted, Bookmark, Error}
 use Rattle.definitions.specs.Texts.Kinds as kinds
 use Rattle.definitions.specs.Texts.Kinds.{api_version}
-use Rattle.definitions.specs.Answers.Refusals.{Refusal, status_body}
+use Rattle.definitions.specs.Objects.Refusals.{Refusal, status_body}
 
 -- an event of a watch (Kubernetes API reference, WatchEvent)
 pub record Event : Type 0 where

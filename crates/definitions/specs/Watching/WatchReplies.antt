@@ -1,12 +1,16 @@
 -- What a watch is answered that shows what has happened so far: its lines up to the present revision (Kubernetes API Concepts, Efficient detection of changes).
-use Rattle.std.specs.Prelude.{ℕ, List, map, Bool, Option, Some, None, Result, Ok, if◌then◌else◌}
+use Rattle.std.specs.Prelude.{ℕ, List, [], ◌∷◌, ◌++◌, nat_lt, map, Bool, Option, Some, None, Result, Ok, if◌then◌else◌}
 use Rattle.std.specs.Result.{result_map_both}
 use Rattle.definitions.specs.State.History as history
 use Rattle.definitions.specs.State.History.{History, View, present, list}
 use Rattle.definitions.specs.Requests.Collections.{WatchOptions}
-use Rattle.definitions.specs.Answers.Refusals.{Refusal}
-use Rattle.definitions.specs.Watching.Streams.{Line, change, added_lines}
-use Rattle.definitions.specs.Answers.Versions.{Watched, watched_from, lines_from}
+use Rattle.definitions.specs.Objects.Refusals.{Refusal}
+use Rattle.definitions.specs.Watching.Streams.{Line, change, bookmark, added_lines}
+use Rattle.definitions.specs.Answers.Versions.{Watched, last_change, watched_from}
+
+-- the lines that show this to a watch from a: the changes, and a bookmark where it stands above the last one (Kubernetes API Concepts, Watch bookmarks)
+abbrev pub lines_from : ℕ → Watched → List Line
+lines_from a w = map change w.changes ++ (if nat_lt (last_change a w.changes) w.stands then bookmark w.stands ∷ [] else [])
 
 -- the lines of what a watch from a is given, with bookmarks or without
 abbrev pub told_lines : Bool → ℕ → Watched → List Line

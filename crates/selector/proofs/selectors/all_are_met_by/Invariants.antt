@@ -1,5 +1,5 @@
 use Rattle.std.proofs.Common.{◌≡◌, drop}
-use Rattle.definitions.specs.Labels.{labels_of}
+use Rattle.definitions.specs.Metadata.{labels_of}
 use Rattle.definitions.specs.Selectors.{meets_all}
 use Rattle.selector.specs.Seen.{requirements_of}
 use Rattle.selector.proofs.selectors.all_are_met_by.Given as goal

@@ -3,7 +3,7 @@ use Rattle.std.specs.Prelude.{ℕ, List, [], Result, Ok, Err, codes}
 use Rattle.definitions.specs.declared.kinds.Kind.{Kind}
 use Rattle.definitions.specs.State.History.{History}
 use Rattle.definitions.specs.Answers.Lists.{list_outcome}
-use Rattle.definitions.specs.Answers.Refusals.{Refusal}
+use Rattle.definitions.specs.Objects.Refusals.{Refusal}
 use Rattle.definitions.specs.Watching.Streams as streams
 use Rattle.definitions.specs.Requests.Targets.{Asked, request, list, watch}
 use Rattle.definitions.specs.Watching.WatchReplies.{watch_lines}
