@@ -87,6 +87,8 @@ def row_of(crate, path, used):
 def folder_rows(name, used):
     """The heading of a folder, and a row for each of its files."""
     head = SPECS / f"{name}.antt"
+    if not modules_of(head):
+        return ["", f"## {name}", "", comment_of(head) + words_of("definitions", head, used)]
     rows = ["", f"## {name}", "", comment_of(head) + words_of("definitions", head, used), ""]
     return rows + [row_of("definitions", SPECS / name / f"{module}.antt", used) for module in modules_of(head)]
 
