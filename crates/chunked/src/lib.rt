@@ -13,4 +13,4 @@ pub mod writer;
 pub use fault::ChunkFault;
 pub use reader::Reader;
 pub use watched::Watched;
-pub use writer::Writer;
+pub use writer::{Writer, push_chunk};

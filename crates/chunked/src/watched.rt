@@ -4,6 +4,7 @@ ghost use Rattle.std.specs.IoError.{error_kind};
 ghost use Rattle.std.specs.Io.{ReadsAtMost, WritesAtMost};
 ghost use Rattle.std.specs.Io.KnownBytes.{Appends, Keeps, Consumes, IsAtEnd, ReadConsumes, WriteAppends};
 ghost use Rattle.chunked.specs.Devices.{AppendsBeginning, device_of, has_failed};
+ghost use Rattle.chunked.specs.Writing.{WritesInPlace};
 ghost use Rattle.chunked.specs.declared.fault.ChunkFault.TheVariants as fault;
 
 use crate::fault::ChunkFault;
@@ -176,7 +177,7 @@ impl<W: Write + Drop> Watched<W> {
     }
 
     /// Writes all of a text and flushes the device. Where the device fails, a beginning of the text was written.
-    pub(crate) fn send(&mut self, text: &[u8]) -> Result<(), ChunkFault>
+    pub(crate) fn write_through(&mut self, text: &[u8]) -> Result<(), ChunkFault>
         requires { self.old.failed ≡ false }
         ensures ok { OnOk result (Appends (W.contents self.old.device) (W.contents self.new.device) text.now) }
         ensures sound { OnOk result (self.new.failed ≡ false) }
@@ -189,6 +190,17 @@ impl<W: Write + Drop> Watched<W> {
             Ok(()) => Ok(()),
             Err(fault) => Err(fault),
         }
+    }
+
+    /// Writes all of a text and flushes the device. Once a call of the device has failed nothing more is written, and each
+    /// call answers that fault; a beginning of the text may then have been written. It needs no memory.
+    pub fn send(&mut self, text: &[u8]) -> Result<(), ChunkFault>
+        ensures { WritesInPlace text.now W.contents self.old self.new result }
+    {
+        if self.failed {
+            return Err(ChunkFault::Device);
+        }
+        self.write_through(text)
     }
 }
 

@@ -1,5 +1,5 @@
 //! Bodies in chunks, written.
-ghost use Rattle.std.specs.Prelude.{◌≡◌, ◌<◌, IfOk, length};
+ghost use Rattle.std.specs.Prelude.{◌≡◌, ◌<◌, ◌++◌, IfOk, OnOk, length};
 ghost use Rattle.chunked.specs.Bodies.{chunk_text, last_chunk};
 ghost use Rattle.chunked.specs.Writing.{Writes, WritesInPlace};
 
@@ -21,15 +21,24 @@ pub struct Writer<W: Drop> {
     pub device: Watched<W>,
 }
 
+/// Adds bytes to a text as a chunk: chunks that are added one after another go out in one write. There must be some: a chunk
+/// without bytes would end the body. The error is out of memory; a beginning of the chunk may then have been added.
+pub fn push_chunk(alloc: Global, text: &mut Vec<u8>, bytes: &[u8]) -> Result<(), AllocError>
+    ensures { OnOk result (text.new.items ≡ text.old.items ++ chunk_text bytes.now) }
+{
+    let line = format!(in alloc; "{:x}\r\n", bytes.len())?;
+    text.reserve(bytes.len().saturating_add(MOST_ADDED))?;
+    text.extend_from_slice(line.as_bytes())?;
+    text.extend_from_slice(bytes)?;
+    text.extend_from_slice(b"\r\n")
+}
+
 /// Returns a chunk's text.
 fn chunk_of(alloc: Global, bytes: &[u8]) -> Result<Vec<u8>, AllocError>
     ensures { IfOk result (λ text. text.items ≡ chunk_text bytes.now) }
 {
-    let line = format!(in alloc; "{:x}\r\n", bytes.len())?;
-    let mut text = Vec::with_capacity(alloc, bytes.len().saturating_add(MOST_ADDED))?;
-    text.extend_from_slice(line.as_bytes())?;
-    text.extend_from_slice(bytes)?;
-    text.extend_from_slice(b"\r\n")?;
+    let mut text = Vec::new(alloc);
+    push_chunk(alloc, &mut text, bytes)?;
     Ok(text)
 }
 
@@ -52,7 +61,7 @@ impl<W: Write + Drop> Writer<W> {
             return Err(ChunkFault::Device);
         }
         let text = chunk_of(alloc, bytes)?;
-        self.device.send(text.as_slice())
+        self.device.write_through(text.as_slice())
     }
 
     /// Ends the body, and flushes the device. It needs no memory, and fails as `chunk` does where the device fails.
@@ -62,6 +71,6 @@ impl<W: Write + Drop> Writer<W> {
         if self.device.has_failed() {
             return Err(ChunkFault::Device);
         }
-        self.device.send(LAST_CHUNK)
+        self.device.write_through(LAST_CHUNK)
     }
 }

@@ -1,3 +1,4 @@
 pub mod SeenMaps
 pub mod Histories
 pub mod Walks
+pub mod LastEvents

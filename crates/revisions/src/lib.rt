@@ -6,6 +6,8 @@ pub mod events;
 pub mod journal;
 pub mod making;
 pub mod past;
+pub mod watched;
 
 pub use events::Event;
 pub use journal::Journal;
+pub use watched::Watched;

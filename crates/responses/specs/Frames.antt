@@ -1,0 +1,16 @@
+-- Frames of watches, each as a chunk.
+use Rattle.std.specs.Prelude.{ℕ, List, map}
+use Rattle.serde_json.specs.Data.{Data}
+use Rattle.definitions.specs.declared.frames.FrameKind.TheVariants.{Added}
+use Rattle.definitions.specs.Changes.{Change}
+use Rattle.definitions.specs.Frames.{frame_text}
+use Rattle.definitions.specs.Streams.{change_event}
+use Rattle.chunked.specs.Bodies.{chunks_text}
+
+-- those of changes
+abbrev pub change_frames : List Change → List ℕ
+change_frames cs = chunks_text (map (λ c. frame_text (change_event c)) cs)
+
+-- those of objects that are there as a watch begins
+abbrev pub object_frames : List Data → List ℕ
+object_frames ds = chunks_text (map (λ d. frame_text (record { kind = Added; object = d })) ds)

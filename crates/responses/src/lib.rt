@@ -1,0 +1,12 @@
+//! The bytes of what is answered over HTTP/1.1: replies, each in one buffer, what is always the same, and the frames of watches
+//! as chunks.
+#![tactic(auto)]
+
+pub mod constants;
+pub mod frames;
+pub mod heads;
+pub mod replies;
+
+pub use constants::{last_chunk, out_of_memory, watch_head};
+pub use frames::{push_bookmark, push_changes, push_error, push_objects};
+pub use replies::{refusal, response};

@@ -1,0 +1,2 @@
+pub mod LineFrames
+pub mod Going

@@ -1,0 +1,22 @@
+-- What is given, as the definitions say it.
+use Rattle.std.specs.Prelude.{◌≡◌, map, Result, Ok, Err}
+use Rattle.definitions.specs.History.{Members}
+use Rattle.definitions.specs.Refusals.{Refusal}
+use Rattle.definitions.specs.Versions.{Listed, listed_as}
+use Rattle.meta.specs.Faults.{refusal_of}
+use Rattle.meta.specs.declared.faults.Fault.{Fault}
+use Rattle.watch_service.specs.declared.begun.Begun.{Begun}
+
+-- what is given, or why it is refused, is so
+abbrev pub Gives : {X Y : Type 0} → (Y → X) → (Result X Refusal → Type 0) → Result Y Fault → Type 0
+Gives seen is_so (Ok y) = is_so (Ok (seen y))
+Gives seen is_so (Err e) = is_so (Err (refusal_of e))
+
+-- these are the objects that are there
+abbrev pub Shows : Members → Begun → Type 0
+Shows ms b = map (λ m. m.1) ms ≡ map (λ o. o.value) b.objects.items
+
+-- what is there, or why it is refused, is so
+abbrev pub GivesBegun : (Result Listed Refusal → Type 0) → Result Begun Fault → Type 0
+GivesBegun is_so (Ok b) = (ms : Members) × Shows ms b × is_so (Ok (listed_as b.revision ms))
+GivesBegun is_so (Err e) = is_so (Err (refusal_of e))

@@ -1,0 +1,42 @@
+-- What a part of a watch writes.
+use Rattle.std.specs.Prelude.{◌≡◌, ℕ, List, [], ◌∷◌, Bool, true, false, Option, Some, None, Result, Ok, Err}
+use Rattle.std.specs.Io.KnownBytes.{Appends}
+use Rattle.definitions.specs.declared.kinds.Kind.{Kind}
+use Rattle.definitions.specs.History.{View}
+use Rattle.definitions.specs.Versions.{Watched}
+use Rattle.definitions.specs.WatchReplies.{told_lines}
+use Rattle.chunked.specs.Devices.{AppendsBeginning, device_of, has_failed}
+use Rattle.chunked.specs.declared.watched.Watched as device
+use Rattle.connections.specs.Replies.{frames_text}
+use Rattle.watch_service.specs.Watches.{Look, most_changes, idle_after, look_frames}
+use Rattle.watch_service.specs.declared.fault.Cut.{Cut}
+use Rattle.watch_service.specs.declared.fault.Cut.TheVariants as cut
+use Rattle.watch_service.specs.declared.standing.Standing.{Standing}
+
+-- the text was written; or the writer has failed, and a beginning was; or out of memory, and nothing was
+abbrev pub Writes : {D X : Type 0} → List ℕ → (D → Option (List ℕ)) → device.Watched D → device.Watched D → Result X Cut → Type 0
+Writes text contents old new (Ok x) = (has_failed new ≡ false) × Appends (contents (device_of old)) (contents (device_of new)) text
+Writes text contents old new (Err cut.Device) = (has_failed new ≡ true) × AppendsBeginning (contents (device_of old)) (contents (device_of new)) text
+Writes text contents old new (Err cut.NoMemory) = new ≡ old
+
+-- where the watch stands after it was given this
+abbrev pub StandsAfter : Bool → Standing → Watched → Result Standing Cut → Type 0
+StandsAfter bookmarks at w (Ok next) = (next.revision ≡ w.stands) × (next.idle ≡ idle_after at.idle (told_lines bookmarks at.revision w))
+StandsAfter bookmarks at w (Err c) = Unit {0}
+
+-- the frames of what was given were written
+abbrev pub Shows : {D : Type 0} → Kind → Bool → Standing → Watched → (D → Option (List ℕ)) → device.Watched D → device.Watched D → Result Standing Cut → Type 0
+Shows k bookmarks at w contents old new result = Writes (frames_text k (told_lines bookmarks at.revision w)) contents old new result × StandsAfter bookmarks at w result
+
+-- where the watch stands after a look, nowhere after one that was refused
+abbrev pub StandsAt : Bool → Standing → Look → Result (Option Standing) Cut → Type 0
+StandsAt bookmarks at (Ok w) (Ok (Some next)) = StandsAfter bookmarks at w (Ok next)
+StandsAt bookmarks at (Err f) (Ok (Some next)) = ⊥
+StandsAt bookmarks at (Ok w) (Ok None) = ⊥
+StandsAt bookmarks at (Err f) (Ok None) = Unit {0}
+StandsAt bookmarks at w (Err c) = Unit {0}
+
+-- a look was made, and its frames were written
+abbrev pub LooksOnce : {S D : Type 0} → (S → View → ℕ → ℕ → Look → S → Type 0) → View → Bool → Standing → S → S → (D → Option (List ℕ)) → device.Watched D → device.Watched D → Result (Option Standing) Cut → Type 0
+LooksOnce watches v bookmarks at s t contents old new result =
+    (w : Look) × watches s v at.revision most_changes w t × Writes (look_frames v.kind bookmarks at.revision (w ∷ [])) contents old new result × StandsAt bookmarks at w result

@@ -1,0 +1,83 @@
+-- A watch as its looks give it, and what is written for them.
+use Rattle.std.specs.Prelude.{◌≡◌, ◌≤◌, ◌<◌, ◌+◌, ℕ, List, [], ◌∷◌, ◌++◌, Bool, Option, Some, None, Result, Ok, Err}
+use Rattle.std.specs.Result.{result_map_both}
+use Rattle.definitions.specs.declared.kinds.Kind.{Kind}
+use Rattle.definitions.specs.Frames.{frame_text, error_event}
+use Rattle.definitions.specs.History.{View}
+use Rattle.definitions.specs.Refusals.{Refusal}
+use Rattle.definitions.specs.Streams.{Line}
+use Rattle.definitions.specs.Versions.{Listed, Watched}
+use Rattle.definitions.specs.WatchReplies.{told_lines, added_lines}
+use Rattle.chunked.specs.Bodies.{chunk_text, last_chunk}
+use Rattle.connections.specs.Replies.{watch_head, frames_text}
+
+-- a look gives changes, or is refused
+abbrev pub Look : Type 0
+Look = Result Watched Refusal
+
+-- how many changes a look is asked for at most, and how many looks in a row without a line end a watch
+abbrev pub most_changes : ℕ
+most_changes = 64
+
+abbrev pub most_idle : ℕ
+most_idle = 1024
+
+-- how many looks in a row have given no line, after one that gave these
+abbrev pub idle_after : ℕ → List Line → ℕ
+idle_after idle [] = idle + 1
+idle_after idle (l ∷ ls) = 0
+
+-- where a watch stands after a look
+abbrev pub stands_after : ℕ → Look → ℕ
+stands_after at (Ok w) = w.stands
+stands_after at (Err f) = at
+
+-- ---- how a watch opens
+
+-- the lines with which it opens, where it then stands, and how many looks have given no line
+pub record Opening : Type 0 where
+  pub lines : List Line
+  pub stands : ℕ
+  pub idle : ℕ
+
+-- a watch that names no revision opens with what is there; that is no look
+abbrev pub opening_with : Listed → Opening
+opening_with l = record { lines = added_lines l.members; stands = l.revision; idle = 0 }
+
+-- one that names a revision opens with the first look from there
+abbrev pub opening_at : Bool → ℕ → Watched → Opening
+opening_at bookmarks at w = record { lines = told_lines bookmarks at w; stands = w.stands; idle = idle_after 0 (told_lines bookmarks at w) }
+
+-- ---- how it goes on
+
+-- the frames of looks of a watch of a kind that stands at a revision, with bookmarks or without; why a look is refused is a frame too
+abbrev pub look_frames : Kind → Bool → ℕ → List Look → List ℕ
+look_frames k bookmarks at [] = []
+look_frames k bookmarks at (Ok w ∷ looks) = frames_text k (told_lines bookmarks at w) ++ look_frames k bookmarks w.stands looks
+look_frames k bookmarks at (Err f ∷ looks) = chunk_text (frame_text (error_event f)) ++ look_frames k bookmarks at looks
+
+-- these looks end a watch: after the last of them 1,024 in a row have given no line, or it was refused, and before it neither was so
+abbrev pub Ends : Bool → ℕ → ℕ → List Look → Type 0
+Ends bookmarks at idle [] = most_idle ≤ idle
+Ends bookmarks at idle (Ok w ∷ looks) = (idle < most_idle) × Ends bookmarks w.stands (idle_after idle (told_lines bookmarks at w)) looks
+Ends bookmarks at idle (Err f ∷ looks) = (idle < most_idle) × (looks ≡ [])
+
+-- the frames of looks and the end of the watch
+abbrev pub ended_frames : Kind → Bool → ℕ → List Look → List ℕ
+ended_frames k bookmarks at looks = look_frames k bookmarks at looks ++ last_chunk
+
+-- the head, and the lines with which a watch opens
+abbrev pub opening_text : Kind → Opening → List ℕ
+opening_text k o = watch_head ++ frames_text k o.lines
+
+module _ {S : Type 0} (watches : S → View → ℕ → ℕ → Look → S → Type 0) (v : View) where
+  -- these looks are made, each from where the watch stands after the one before it
+  abbrev pub Looks : S → ℕ → List Look → S → Type 0
+  Looks s at [] t = t ≡ s
+  Looks s at (w ∷ looks) t = (mid : S) × watches s v at most_changes w mid × Looks mid (stands_after at w) looks t
+
+module _ {S : Type 0} (begins : S → View → Result Listed Refusal → S → Type 0) (watches : S → View → ℕ → ℕ → Look → S → Type 0) (v : View) (bookmarks : Bool) where
+  -- a watch from a revision, or from what is there, opens so, or is refused
+  abbrev pub Opens : S → Option ℕ → Result Opening Refusal → S → Type 0
+  Opens s None o t = (l : Result Listed Refusal) × begins s v l t × (o ≡ result_map_both opening_with (λ f. f) l)
+  Opens s (Some at) o t = (w : Look) × watches s v at most_changes w t × (o ≡ result_map_both (opening_at bookmarks at) (λ f. f) w)

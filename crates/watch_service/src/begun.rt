@@ -1,0 +1,11 @@
+//! What a watch begins with.
+use meta::StoredObject;
+
+/// What is there of a view, with which a watch begins that names no revision.
+#[derive(Drop)]
+pub struct Begun {
+    /// The objects, in the order of keys.
+    pub objects: Vec<StoredObject>,
+    /// The present revision, after which the watch goes on.
+    pub revision: u64,
+}

@@ -1,0 +1,43 @@
+//! Why a watch is not served to its end.
+use meta::Fault;
+use std::alloc::{AllocError, AllocFailed};
+
+/// Why a watch that has begun is left before its end.
+#[derive(Debug, Clone, Copy, PartialEq, Eq)]
+pub enum Cut {
+    /// The writer failed.
+    Device,
+    /// Out of memory.
+    NoMemory,
+}
+
+/// Why a watch is not served to its end.
+#[derive(Debug, Drop)]
+pub enum WatchFault {
+    /// It is refused, or out of memory as it opens: nothing was written.
+    Refused(Fault),
+    /// It is left unfinished.
+    Cut(Cut),
+}
+
+impl From<AllocError> for Cut {
+    ghost use Rattle.std.specs.Prelude.{◌≡◌};
+    ghost use Rattle.watch_service.specs.declared.fault.Cut.TheVariants as cut;
+
+    ghost from_gives = { λ e f. f ≡ cut.NoMemory };
+
+    fn from(_error: AllocError) -> Cut {
+        Cut::NoMemory
+    }
+}
+
+impl<T: Drop> From<AllocFailed<T>> for Cut {
+    ghost use Rattle.std.specs.Prelude.{◌≡◌};
+    ghost use Rattle.watch_service.specs.declared.fault.Cut.TheVariants as cut;
+
+    ghost from_gives = { λ e f. f ≡ cut.NoMemory };
+
+    fn from(_error: AllocFailed<T>) -> Cut {
+        Cut::NoMemory
+    }
+}

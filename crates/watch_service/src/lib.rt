@@ -1,0 +1,16 @@
+//! Watches, served over anything that can be watched and any writer.
+#![tactic(auto)]
+
+pub mod begun;
+pub mod fault;
+pub mod frames;
+pub mod looking;
+pub mod opening;
+pub mod serving;
+pub mod source;
+pub mod standing;
+
+pub use begun::Begun;
+pub use fault::{Cut, WatchFault};
+pub use serving::serve_watch;
+pub use source::{Pace, WatchSource};

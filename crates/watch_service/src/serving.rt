@@ -1,0 +1,99 @@
+//! The loop that serves a watch.
+ghost use Rattle.std.specs.Prelude.{◌≡◌, [], false};
+ghost use Rattle.chunked.specs.Devices.{has_failed};
+ghost use Rattle.selector.specs.Views.{view_of};
+ghost use Rattle.chunked.specs.Bodies.{last_chunk};
+ghost use Rattle.watch_service.specs.Looked.{Writes};
+ghost use Rattle.watch_service.specs.Served.{Follows, Serves};
+
+use crate::fault::{Cut, WatchFault};
+use crate::frames::write_text;
+use crate::looking::look;
+use crate::opening::open;
+use crate::source::{Pace, WatchSource};
+use crate::standing::Standing;
+use chunked::Watched as Device;
+use responses::last_chunk;
+use selector::View;
+use std::alloc::Global;
+use std::io::Write;
+
+/// How many looks in a row that give no line end a watch.
+const MOST_IDLE: u64 = 1024;
+
+/// Writes the end of a watch.
+fn finish<W: Write + Drop>(writer: &mut Device<W>) -> Result<(), Cut>
+    ensures { Writes last_chunk W.contents writer.old writer.new result }
+{
+    write_text(writer, last_chunk())
+}
+
+/// Goes on with a watch that has opened, from where it stands: looks what is new, and writes it, again and again. A look after
+/// one that gave nothing waits for the pace.
+fn follow<S: WatchSource, P: Pace, W: Write + Drop>(
+    alloc: Global,
+    source: &mut S,
+    view: &View,
+    bookmarks: bool,
+    from: Standing,
+    pace: &mut P,
+    writer: &mut Device<W>,
+) -> Result<(), Cut>
+    requires sound { has_failed writer.old ≡ false }
+    ensures { Follows S.Watches (view_of view.now) bookmarks W.contents source.old source.new writer.old writer.new
+        [] from.revision from.idle result }
+{
+    let mut at = from;
+    for _ in 0..u64::MAX {
+        if at.idle >= MOST_IDLE {
+            match finish(writer) {
+                Ok(()) => return Ok(()),
+                Err(cut) => return Err(cut),
+            }
+        }
+        if at.idle > 0 {
+            pace.pause();
+        }
+        match look(alloc, source, view, bookmarks, at, writer) {
+            Ok(Some(next)) => at = next,
+            Ok(None) => match finish(writer) {
+                Ok(()) => return Ok(()),
+                Err(cut) => return Err(cut),
+            },
+            Err(cut) => return Err(cut),
+        }
+    }
+    // Nobody lives to see so many looks.
+    Err(Cut::NoMemory)
+}
+
+/// Serves a watch of a view, from a revision or, without one, from what is there. The first look decides whether it is refused;
+/// then nothing is written. Else the head is written at once, with the first frames, and then the frames of each look as they
+/// come, those of one look in one write. The watch is over after 1,024 looks in a row that gave no line, or by a refusal, which
+/// is its last frame. Only a watch that is over has an end: one that is left, because the writer fails or out of memory, is seen
+/// to be cut.
+pub fn serve_watch<S: WatchSource, P: Pace, W: Write + Drop>(
+    alloc: Global,
+    source: &mut S,
+    view: &View,
+    bookmarks: bool,
+    from: Option<u64>,
+    pace: &mut P,
+    writer: &mut Device<W>,
+) -> Result<(), WatchFault>
+    ensures { Serves S.Begins S.Watches (view_of view.now) bookmarks W.contents source.old source.new writer.old writer.new
+        from result }
+{
+    let opened = match open(alloc, source, view, bookmarks, from) {
+        Ok(opened) => opened,
+        Err(fault) => return Err(WatchFault::Refused(fault)),
+    };
+    match write_text(writer, &opened.text) {
+        Ok(()) => {}
+        Err(_) => return Err(WatchFault::Cut(Cut::Device)),
+    }
+    match follow(alloc, source, view, bookmarks, opened.at, pace, writer) {
+        Ok(()) => Ok(()),
+        Err(cut) => Err(WatchFault::Cut(cut)),
+    }
+}

@@ -1,0 +1,45 @@
+//! What watches are served over.
+ghost use Rattle.std.specs.Prelude.{ℕ, Result};
+ghost use Rattle.definitions.specs.History as history;
+ghost use Rattle.definitions.specs.Refusals.{Refusal};
+ghost use Rattle.definitions.specs.Versions as versions;
+ghost use Rattle.definitions.specs.Versions.{Listed};
+ghost use Rattle.revisions.specs.Watches.{watched_of};
+ghost use Rattle.selector.specs.Views.{view_of};
+ghost use Rattle.watch_service.specs.Given.{Gives, GivesBegun};
+
+use crate::begun::Begun;
+use meta::Fault;
+use revisions::Watched;
+use selector::View;
+use std::alloc::Global;
+
+/// What can be watched. Others may write between two calls, so that what a call gives is a relation between what was seen before
+/// it and after it. Out of memory is an answer as each refusal is.
+pub trait WatchSource {
+    /// A watch of a view from a revision is given this, of which so many changes at most.
+    ghost Watches: { Self → history.View → ℕ → ℕ → Result versions.Watched Refusal → Self → Type 0 };
+
+    /// A watch of a view that names no revision begins with this.
+    ghost Begins: { Self → history.View → Result Listed Refusal → Self → Type 0 };
+
+    /// Gives the first changes of a view after a revision, at most so many.
+    fn watch_from(
+        &mut self,
+        alloc: Global,
+        view: &View,
+        after: u64,
+        most: usize,
+    ) -> Result<Watched, Fault>
+        ensures watches { Gives watched_of (λ w. Watches self.old (view_of view.now) after most w self.new) result };
+
+    /// Gives what is there of a view.
+    fn begin(&mut self, alloc: Global, view: &View) -> Result<Begun, Fault>
+        ensures begins { GivesBegun (λ l. Begins self.old (view_of view.now) l self.new) result };
+}
+
+/// What is done between a look that gave nothing and the next one.
+pub trait Pace {
+    /// Waits for as long as it sees fit.
+    fn pause(&mut self);
+}

@@ -1,0 +1,10 @@
+//! Where a watch stands.
+
+/// Where a watch stands.
+#[derive(Debug, Clone, Copy, PartialEq, Eq)]
+pub struct Standing {
+    /// The revision up to which all changes were given.
+    pub revision: u64,
+    /// How many looks in a row have given no line.
+    pub idle: u64,
+}
