@@ -1,6 +1,7 @@
 -- What is found stays found, whatever follows.
-use Rattle.std.proofs.Common.{◌≤◌, ℕ, List, ◌++◌, drop, length, None, inl, inr, refl, sym, ap, ◌∙◌, subst, arith, append_assoc, append-nil, length-append}
+use Rattle.std.proofs.Common.{◌≤◌, ℕ, List, ◌++◌, drop, length, Option, None, inl, inr, refl, sym, ap, ◌∙◌, subst, arith, append_assoc, append-nil, length-append}
 use Rattle.std.proofs.lemmas.List.{take-append-le, take_all}
+use Rattle.std.proofs.KnownBytes.{Consumes-trans}
 use Rattle.httparse.specs.declared.spans.HeaderSpan.{HeaderSpan}
 use Rattle.httparse.specs.declared.spans.RequestSpans.{RequestSpans}
 use Rattle.httparse.specs.Grammar.{RequestHead, ReadsRequest, NeverHasRequest, HasNoRequest}
@@ -8,6 +9,7 @@ use Rattle.httparse.specs.Spans.{IsRequestAt}
 use Rattle.httparse.proofs.GrammarLemmas.{request_unique, ReadsRequest-append}
 use Rattle.connections.specs.Connections.{longest_head, IsWithinLimits, IsHeadTooLarge, Asks}
 use Rattle.request_heads.specs.Laws.{FoundHeadsAsk}
+use Rattle.request_heads.specs.Reading.{Reads}
 use Rattle.request_heads.specs.declared.found.Found.TheVariants as found
 
 never_after : (bytes more : List ℕ) → NeverHasRequest bytes → NeverHasRequest (bytes ++ more)
@@ -33,3 +35,8 @@ found_asks bytes fields found.Cut more is = λ nothing. subst (λ m. Asks (bytes
 -- as many bytes as a head may have, and no head
 pub too_long : (bytes : List ℕ) → longest_head ≤ length bytes → length bytes ≤ longest_head → HasNoRequest bytes → IsHeadTooLarge bytes
 too_long bytes least most none = inl (least, subst HasNoRequest (sym (take_all longest_head bytes most)) none)
+
+-- what is read after what was read before
+pub reads_on : (a b c : Option (List ℕ)) (old mid new : List ℕ) → Reads a b old mid → Reads b c mid new → Reads a c old new
+reads_on a b c old mid new (front, is, first) (back, next, second) =
+    (front ++ back, next ∙ ap (λ x. x ++ back) is ∙ append_assoc old front back, Consumes-trans a b c front back first second)

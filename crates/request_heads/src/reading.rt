@@ -37,6 +37,7 @@ fn read_piece<R: Read + Drop>(
     ensures limit { length bytes.new.items ≤ longest_head }
     ensures some { IfOk result (λ some. some ≡ true → length bytes.old.items < length bytes.new.items) }
     ensures end { IfOk result (λ some. some ≡ false → (bytes.new.items ≡ bytes.old.items) × IsAtEnd (R.remaining (device_of reader.new))) }
+    ensures kept { OnErr result (bytes.new.items ≡ bytes.old.items) }
     ensures watched { IsWatched (has_failed reader.new) result }
     ensures want { IfErr result (λ f. f ≡ fault.Want → vec_capacity bytes.new < longest_head) }
 {
@@ -101,6 +102,7 @@ pub fn read_head<R: Read + Drop>(
     ensures end { IfOk result (λ f. f ≡ found.Cut → IsAtEnd (R.remaining (device_of reader.new))) }
     ensures read { Reads (R.remaining (device_of reader.old)) (R.remaining (device_of reader.new)) bytes.old.items bytes.new.items }
     ensures limit { length bytes.new.items ≤ longest_head }
+    ensures unread { OnErr result (has_failed reader.old ≡ false → HasNoRequest bytes.new.items) }
     ensures watched { IsWatched (has_failed reader.new) result }
     ensures again { has_failed reader.old ≡ true
         → (result ≡ Err fault.Device) × (reader.new ≡ reader.old) × (bytes.new ≡ bytes.old) }

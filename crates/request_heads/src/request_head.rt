@@ -1,6 +1,6 @@
 //! Heads as their parts.
 ghost use Rattle.std.specs.Prelude.{◌≡◌, IfOk, map, length, All};
-ghost use Rattle.httparse.specs.Spans.{IsRequestWithin, IsRequestAt, header_bytes, IsHeaderWithin};
+ghost use Rattle.httparse.specs.Spans.{IsRequestWithin, IsRequestAt, IsRequestOf, span_bytes, header_bytes, IsHeaderWithin};
 ghost use Rattle.httparse.specs.Grammar as grammar;
 ghost use Rattle.connections.specs.Heads.{head_of};
 ghost use Rattle.request_heads.specs.Fields.{field_seen};
@@ -14,7 +14,7 @@ use std::alloc::{AllocError, Global};
 #[derive(Drop)]
 pub struct RequestHead<'a> {
     pub method: &'a [u8],
-    pub target: &'a [u8],
+    pub target: &'a str,
     /// The minor version of HTTP/1.
     pub minor: u8,
     pub fields: Vec<Field<'a>>,
@@ -38,6 +38,18 @@ fn fields_of<'a>(
     Ok(fields)
 }
 
+/// Returns the target of the head that was found at the front of these bytes, which is a text.
+fn target_of<'a>(bytes: &'a [u8], found: RequestSpans, spans: &[HeaderSpan]) -> &'a str
+    requires within { IsRequestWithin bytes.now spans.now found }
+    requires head { IsRequestOf bytes.now spans.now found }
+    ensures { result.now ≡ span_bytes bytes.now found.path }
+{
+    match str::from_utf8(found.path.of(bytes)) {
+        Ok(target) => target,
+        Err(_) => unreachable!(),
+    }
+}
+
 impl<'a> RequestHead<'a> {
     /// Returns the parts of the head that was found at the front of these bytes.
     pub fn new(
@@ -46,14 +58,15 @@ impl<'a> RequestHead<'a> {
         found: RequestSpans,
         spans: &[HeaderSpan],
     ) -> Result<RequestHead<'a>, AllocError>
-        requires { IsRequestWithin bytes.now spans.now found }
+        requires within { IsRequestWithin bytes.now spans.now found }
+        requires head { IsRequestOf bytes.now spans.now found }
         ensures { IfOk result (λ view. (h : grammar.RequestHead) → IsRequestAt bytes.now spans.now found h
             → head_seen view ≡ head_of h) }
     {
         let fields = fields_of(alloc, bytes, &spans[..found.headers])?;
         Ok(RequestHead {
             method: found.method.of(bytes),
-            target: found.path.of(bytes),
+            target: target_of(bytes, found, spans),
             minor: found.version,
             fields,
         })

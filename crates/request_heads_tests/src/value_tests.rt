@@ -44,7 +44,7 @@ fn parts_are_found(rt: HostRuntime) -> Result<(), Fail> {
     match parse_request(text, &mut spans) {
         Ok(Status::Complete(found)) => {
             let head = RequestHead::new(rt.alloc(), text, found, &spans)?;
-            assert_eq!(rt; head.target, b"/a?b".as_slice());
+            assert_eq!(rt; head.target, "/a?b");
             assert_eq!(rt; head.minor, 0);
             assert_eq!(rt; head.fields.len(), 3);
             assert!(rt; method_named(head.method) == Some(Method::Patch));

@@ -1,4 +1,7 @@
 -- Why a query is not read.
+use Rattle.definitions.specs.declared.refusals.Part.TheVariants as part
+use Rattle.meta.specs.declared.faults.Fault.{Fault}
+use Rattle.meta.specs.declared.faults.Fault.TheVariants as fault
 use Rattle.requests.specs.declared.faults.MemberFault.{MemberFault}
 use Rattle.requests.specs.declared.faults.MemberFault.TheVariants as member
 use Rattle.requests.specs.declared.faults.QueryFault.{QueryFault}
@@ -8,3 +11,9 @@ use Rattle.requests.specs.declared.faults.QueryFault.TheVariants as query
 abbrev pub fault_of : MemberFault → QueryFault
 fault_of member.BadQuery = query.BadQuery
 fault_of member.NoMemory = query.NoMemory
+
+-- and as one of its request
+abbrev pub query_fault : QueryFault → Fault
+query_fault query.BadQuery = fault.BadRequest part.Query
+query_fault query.BadToken = fault.BadRequest part.Token
+query_fault query.NoMemory = fault.NoMemory

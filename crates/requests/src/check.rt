@@ -8,6 +8,8 @@ ghost use Rattle.requests.specs.Checked.{checked_at};
 ghost use Rattle.requests.specs.Seen.{checked_seen};
 
 use definitions::methods::Method;
+use definitions::refusals::Part;
+use meta::Fault;
 use routes::table::Routes;
 use routes::targets::Target;
 use std::alloc::{AllocError, Global};
@@ -22,6 +24,21 @@ pub enum CheckFault {
     BadNamespace,
     /// What the path names does not serve the method.
     MethodNotAllowed,
+}
+
+impl From<CheckFault> for Fault {
+    ghost use Rattle.meta.specs.Faults.{refusal_of};
+    ghost use Rattle.requests.specs.Seen.{check_refusal};
+
+    ghost from_gives = { λ check f. refusal_of f ≡ check_refusal check };
+
+    fn from(fault: CheckFault) -> Fault {
+        match fault {
+            CheckFault::NoSuchPath => Fault::NoSuchPath,
+            CheckFault::BadNamespace => Fault::BadRequest(Part::Path),
+            CheckFault::MethodNotAllowed => Fault::MethodNotAllowed,
+        }
+    }
 }
 
 /// The path of a target: what stands before the first `?`.

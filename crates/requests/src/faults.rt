@@ -1,9 +1,11 @@
 //! Why a query is not read.
 ghost use Rattle.std.specs.Prelude.{◌≡◌};
-ghost use Rattle.requests.specs.Faults.{fault_of};
+ghost use Rattle.requests.specs.Faults.{fault_of, query_fault};
 ghost use Rattle.requests.specs.declared.faults.MemberFault.TheVariants as member;
 ghost use Rattle.requests.specs.declared.faults.QueryFault.TheVariants as query;
 
+use definitions::refusals::Part;
+use meta::Fault;
 use std::alloc::AllocError;
 
 /// Why a query is not read.
@@ -49,6 +51,18 @@ impl From<MemberFault> for QueryFault {
         match fault {
             MemberFault::BadQuery => QueryFault::BadQuery,
             MemberFault::NoMemory => QueryFault::NoMemory,
+        }
+    }
+}
+
+impl From<QueryFault> for Fault {
+    ghost from_gives = { λ q f. f ≡ query_fault q };
+
+    fn from(fault: QueryFault) -> Fault {
+        match fault {
+            QueryFault::BadQuery => Fault::BadRequest(Part::Query),
+            QueryFault::BadToken => Fault::BadRequest(Part::Token),
+            QueryFault::NoMemory => Fault::NoMemory,
         }
     }
 }

@@ -2,7 +2,7 @@ use Rattle.std.proofs.Common.{rules, ◌≡◌, ◌≤◌, length, false, sym, �
 use Rattle.httparse.specs.Grammar.{MayBecomeRequest, HasNoRequest}
 use Rattle.connections.specs.Connections.{longest_head}
 use Rattle.request_heads.specs.Reading.{IsFound}
-use Rattle.request_heads.proofs.Wholes.{too_long}
+use Rattle.request_heads.proofs.Wholes.{too_long, reads_on}
 use Rattle.request_heads.proofs.reading.read_head.Goals as goal
 
 pub look_at_end-requires-clause-unfinished : goal.look_at_end-requires-clause-unfinished
@@ -19,3 +19,8 @@ pub returns-in-None-look-clause-found : goal.returns-in-None-look-clause-found
 returns-in-None-look-clause-found g c =
     let long : longest_head ≤ length c.loop-bytes.bytes.items = search rules in
     too_long c.loop-bytes.bytes.items long c.loop-bytes.invariant.1 (subst HasNoRequest c.as_slice-2.ensures.value (c.look-2.ensures.none c.in-None-look.is))
+
+pub returns-in-Err-clause-read : goal.returns-in-Err-clause-read
+returns-in-Err-clause-read g c =
+    reads_on (g.R.Read.remaining c.args.reader.now.device) (g.R.Read.remaining c.loop-bytes.reader.device) (g.R.Read.remaining c.read_piece.new.reader.device)
+    c.args.bytes.now.items c.loop-bytes.bytes.items c.read_piece.new.bytes.items c.loop-bytes.invariant.0 c.in-Err.ensures.read
