@@ -4,6 +4,7 @@ pub mod EscapedTexts
 pub mod Expected
 pub mod FirstStatus
 pub mod JsonMembers
+pub mod KindOrder
 pub mod NoFloatsRead
 pub mod OnLiterals
 pub mod PageLists
