@@ -4,7 +4,7 @@ use Rattle.std.specs.Str.{bytes_eq}
 use Rattle.serde_json.specs.Data.{Data, string, array, Items, no_items, item, Members, put}
 use Rattle.serde_json.specs.Events.{items_len}
 use Rattle.definitions.specs.declared.kinds.Kind.{Kind}
-use Rattle.definitions.specs.declared.kinds.Kind.TheVariants.{ConfigMap, Pod, ReplicaSet, Deployment}
+use Rattle.definitions.specs.declared.kinds.Kind.TheVariants.{Pod}
 use Rattle.definitions.specs.declared.policies.Policy.{Policy}
 use Rattle.definitions.specs.declared.policies.Policy.TheVariants.{Orphan, Foreground, Background}
 use Rattle.definitions.specs.declared.refusals.Mismatch.{Mismatch}
@@ -97,10 +97,8 @@ abbrev pub gone : Name → Data → Data
 gone k held = success_body (Some (k, unwrap_or (uid held) []))
 
 abbrev pub removal_of : Kind → Name → ℕ → Data → Data
-removal_of ConfigMap k r held = gone k held
 removal_of Pod k r held = at_revision r (metadata_of held) held
-removal_of ReplicaSet k r held = gone k held
-removal_of Deployment k r held = gone k held
+removal_of kind k r held = gone k held
 
 -- the HTTP status code for an object that is not removed: it is accepted that its dependents go first (RFC 9110, 202 Accepted)
 abbrev pub kept_code : Option Policy → ℕ
