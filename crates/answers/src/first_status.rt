@@ -23,7 +23,6 @@ pub fn first_status(alloc: Global, kind: Kind) -> Result<Option<Value>, AllocErr
     ensures no_float { IfOk result (λ s. IfSome s (λ v. has_float (view v) ≡ false)) }
 {
     match kind {
-        Kind::ConfigMap => Ok(None),
         Kind::Pod => {
             let status = with_text(alloc, empty(alloc), "phase", "Pending")?;
             Ok(Some(status))
@@ -33,6 +32,7 @@ pub fn first_status(alloc: Global, kind: Kind) -> Result<Option<Value>, AllocErr
             let status = with_member(alloc, empty(alloc), "replicas", none)?;
             Ok(Some(status))
         }
-        Kind::Deployment => Ok(Some(empty(alloc))),
+        _ if kind.has_status() => Ok(Some(empty(alloc))),
+        _ => Ok(None),
     }
 }

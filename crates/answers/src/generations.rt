@@ -57,15 +57,14 @@ fn is_new_generation(
     ensures { IfOk result (λ b. b ≡ is_new_generation kind held.now.value object.now.value) }
 {
     match kind {
-        Kind::ConfigMap => Ok(false),
-        Kind::Pod => Ok(false),
-        Kind::ReplicaSet => has_new_spec(alloc, held, object),
         Kind::Deployment => {
             if has_new_spec(alloc, held, object)? {
                 return Ok(true);
             }
             has_new_annotations(alloc, held, object)
         }
+        _ if kind.has_generation() => has_new_spec(alloc, held, object),
+        _ => Ok(false),
     }
 }
 

@@ -2,6 +2,7 @@ pub mod EscapedTexts
 pub mod FirstStatus
 pub mod FoundMembers
 pub mod JsonMembers
+pub mod KindOrder
 pub mod NoFloatsRead
 pub mod OnLiterals
 pub mod PageLists

@@ -8,7 +8,7 @@ use Rattle.serde_json.specs.Data.{Data, null, boolean, number, string, array, ob
 use Rattle.serde_json.specs.Find.{get}
 use Rattle.serde_json.specs.Written.{has_float, items_have_float, members_have_float}
 use Rattle.definitions.specs.declared.kinds.Kind.{Kind}
-use Rattle.definitions.specs.declared.kinds.Kind.TheVariants.{ConfigMap, Pod, ReplicaSet, Deployment}
+use Rattle.definitions.specs.declared.kinds.Kind.TheVariants.{Pod}
 use Rattle.definitions.specs.declared.schemas.Shape.{Shape}
 use Rattle.definitions.specs.declared.schemas.Schema.{Schema}
 use Rattle.definitions.specs.Kinds.{api_version, kind_text}
@@ -76,10 +76,8 @@ has_float-with_default : (k : List ℕ) (e v : Data) → has_float e ≡ false �
 has_float-with_default k e v g h = default_at (is_some (get k v)) k e v g h
 
 has_float-with_spec : (k : Kind) (v : Data) → has_float v ≡ false → has_float (with_spec k v) ≡ false
-has_float-with_spec ConfigMap v h = h
 has_float-with_spec Pod v h = has_float-with_default (codes "spec") empty v refl h
-has_float-with_spec ReplicaSet v h = h
-has_float-with_spec Deployment v h = h
+has_float-with_spec k v h = h
 
 pub has_float-filled : (k : Kind) (v : Data) → has_float v ≡ false → has_float (filled k v) ≡ false
 has_float-filled k v h =

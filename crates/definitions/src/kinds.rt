@@ -22,124 +22,194 @@ pub enum Kind {
     Deployment,
 }
 
+/// What is said of a kind.
+#[derive(Clone, Copy)]
+struct Facts {
+    /// Its place in the order of kinds.
+    rank: usize,
+    /// What an object of the kind, and a list of them, says in its members `kind` and `apiVersion`.
+    name: &'static str,
+    list_name: &'static str,
+    api_version: &'static str,
+    group: Group,
+    /// The name of its resource in paths, and in messages, where the group follows.
+    plural: &'static str,
+    resource: &'static str,
+    has_status: bool,
+    has_generation: bool,
+}
+
 impl Group {
     ghost use Rattle.std.specs.Prelude.{◌≡◌};
-    ghost use Rattle.definitions.specs.Kinds.{kind_named};
+    ghost use Rattle.definitions.specs.Kinds.{text_of_group, kind_named};
 
-    /// The kind of this group whose plural name this is.
+    /// Returns the name of the group; the core group has none.
+    pub fn name(self) -> &'static str
+        ensures { result.now ≡ text_of_group self }
+    {
+        match self {
+            Group::Core => "",
+            Group::Apps => "apps",
+        }
+    }
+
+    /// Returns the kind of this group whose plural name this is.
     pub fn kind_named(self, plural: &str) -> Option<Kind>
         ensures { result ≡ kind_named self plural.now }
     {
-        match self {
-            Group::Core => {
-                if plural == "configmaps" {
-                    Some(Kind::ConfigMap)
-                } else if plural == "pods" {
-                    Some(Kind::Pod)
-                } else {
-                    None
-                }
-            }
-            Group::Apps => {
-                if plural == "replicasets" {
-                    Some(Kind::ReplicaSet)
-                } else if plural == "deployments" {
-                    Some(Kind::Deployment)
-                } else {
-                    None
-                }
-            }
-        }
+        Kind::ALL
+            .iter()
+            .find(|kind| self.name() == kind.group_name() && plural == kind.plural())
+            .copied()
     }
 }
 
 impl Kind {
     ghost use Rattle.std.specs.Prelude.{◌≡◌};
-    ghost use Rattle.definitions.specs.Kinds.{group, group_name, kind_text, api_version, plural, resource, has_status, has_generation};
+    ghost use Rattle.definitions.specs.Kinds.{rank, kind_text, list_kind, api_version, group, plural, has_status, has_generation, kind_after, group_name, resource};
 
-    /// The group that the kind belongs to.
+    /// All kinds, in their order.
+    pub const ALL: [Kind; 4] = [
+        Kind::ConfigMap,
+        Kind::Pod,
+        Kind::ReplicaSet,
+        Kind::Deployment,
+    ];
+
+    /// Returns what is said of the kind: the one table of kinds.
+    fn facts(self) -> Facts
+        ensures rank { result.rank ≡ rank self }
+        ensures name { result.name.now ≡ kind_text self }
+        ensures list_name { result.list_name.now ≡ list_kind self }
+        ensures api_version { result.api_version.now ≡ api_version self }
+        ensures group { result.group ≡ group self }
+        ensures plural { result.plural.now ≡ plural self }
+        ensures resource { result.resource.now ≡ resource self }
+        ensures has_status { result.has_status ≡ has_status self }
+        ensures has_generation { result.has_generation ≡ has_generation self }
+    {
+        match self {
+            Kind::ConfigMap => Facts {
+                rank: 0,
+                name: "ConfigMap",
+                list_name: "ConfigMapList",
+                api_version: "v1",
+                group: Group::Core,
+                plural: "configmaps",
+                resource: "configmaps",
+                has_status: false,
+                has_generation: false,
+            },
+            Kind::Pod => Facts {
+                rank: 1,
+                name: "Pod",
+                list_name: "PodList",
+                api_version: "v1",
+                group: Group::Core,
+                plural: "pods",
+                resource: "pods",
+                has_status: true,
+                has_generation: false,
+            },
+            Kind::ReplicaSet => Facts {
+                rank: 2,
+                name: "ReplicaSet",
+                list_name: "ReplicaSetList",
+                api_version: "apps/v1",
+                group: Group::Apps,
+                plural: "replicasets",
+                resource: "replicasets.apps",
+                has_status: true,
+                has_generation: true,
+            },
+            Kind::Deployment => Facts {
+                rank: 3,
+                name: "Deployment",
+                list_name: "DeploymentList",
+                api_version: "apps/v1",
+                group: Group::Apps,
+                plural: "deployments",
+                resource: "deployments.apps",
+                has_status: true,
+                has_generation: true,
+            },
+        }
+    }
+
+    /// Returns the kind's place in the order of kinds.
+    pub fn rank(self) -> usize
+        ensures { result ≡ rank self }
+    {
+        self.facts().rank
+    }
+
+    /// Returns the kind after this one, if there is one.
+    pub fn next(self) -> Option<Kind>
+        ensures { result ≡ kind_after self }
+    {
+        Kind::ALL.get(self.rank() + 1).copied()
+    }
+
+    /// Returns the group that the kind belongs to.
     pub fn group(self) -> Group
         ensures { result ≡ group self }
     {
-        match self {
-            Kind::ConfigMap | Kind::Pod => Group::Core,
-            Kind::ReplicaSet | Kind::Deployment => Group::Apps,
-        }
+        self.facts().group
     }
 
-    /// The name of that group; the core group has none.
+    /// Returns the name of that group; the core group has none.
     pub fn group_name(self) -> &'static str
         ensures { result.now ≡ group_name self }
     {
-        match self {
-            Kind::ConfigMap | Kind::Pod => "",
-            Kind::ReplicaSet | Kind::Deployment => "apps",
-        }
+        self.group().name()
     }
 
-    /// What an object of the kind says in its member `kind`.
+    /// Returns what an object of the kind says in its member `kind`.
     pub fn name(self) -> &'static str
         ensures { result.now ≡ kind_text self }
     {
-        match self {
-            Kind::ConfigMap => "ConfigMap",
-            Kind::Pod => "Pod",
-            Kind::ReplicaSet => "ReplicaSet",
-            Kind::Deployment => "Deployment",
-        }
+        self.facts().name
     }
 
-    /// What it says in its member `apiVersion`.
+    /// Returns what a list of its objects says in its member `kind`.
+    pub fn list_name(self) -> &'static str
+        ensures { result.now ≡ list_kind self }
+    {
+        self.facts().list_name
+    }
+
+    /// Returns what they say in their member `apiVersion`.
     pub fn api_version(self) -> &'static str
         ensures { result.now ≡ api_version self }
     {
-        match self {
-            Kind::ConfigMap | Kind::Pod => "v1",
-            Kind::ReplicaSet | Kind::Deployment => "apps/v1",
-        }
+        self.facts().api_version
     }
 
-    /// The name of its resource in paths.
+    /// Returns the name of its resource in paths.
     pub fn plural(self) -> &'static str
         ensures { result.now ≡ plural self }
     {
-        match self {
-            Kind::ConfigMap => "configmaps",
-            Kind::Pod => "pods",
-            Kind::ReplicaSet => "replicasets",
-            Kind::Deployment => "deployments",
-        }
+        self.facts().plural
     }
 
-    /// The name of its resource in messages, with the group.
+    /// Returns the name of its resource in messages, with the group.
     pub fn resource(self) -> &'static str
         ensures { result.now ≡ resource self }
     {
-        match self {
-            Kind::ConfigMap => "configmaps",
-            Kind::Pod => "pods",
-            Kind::ReplicaSet => "replicasets.apps",
-            Kind::Deployment => "deployments.apps",
-        }
+        self.facts().resource
     }
 
     /// Whether its objects have a status, at a path of its own.
     pub fn has_status(self) -> bool
         ensures { result ≡ has_status self }
     {
-        match self {
-            Kind::ConfigMap => false,
-            Kind::Pod | Kind::ReplicaSet | Kind::Deployment => true,
-        }
+        self.facts().has_status
     }
 
     /// Whether the server counts changes of its objects' specs in `metadata.generation`.
     pub fn has_generation(self) -> bool
         ensures { result ≡ has_generation self }
     {
-        match self {
-            Kind::ConfigMap | Kind::Pod => false,
-            Kind::ReplicaSet | Kind::Deployment => true,
-        }
+        self.facts().has_generation
     }
 }

@@ -1,13 +1,11 @@
 -- A path that is read as a route is the path of that route.
 use Rattle.std.proofs.Common.{◌≡◌, ℕ, List, [], ◌∷◌, ◌++◌, ◌==◌, ◌&&◌, Bool, true, false, cond, Option, Some, None, option_and_then, option_map, codes, bytes_eq, eqb-true, append_assoc, refl, sym, ap, ◌∙◌}
 use Rattle.std.proofs.lemmas.Slice.Eq.{bytes_eq-Decides}
-use Rattle.std.specs.List.{onto_first, list_all}
-use Rattle.std.specs.Option.{option_map_or}
+use Rattle.std.specs.List.{onto_first, list_all, find}
 use Rattle.definitions.specs.declared.kinds.Kind.{Kind}
-use Rattle.definitions.specs.declared.kinds.Kind.TheVariants.{ConfigMap, Pod, ReplicaSet, Deployment}
 use Rattle.definitions.specs.declared.kinds.Group.{Group}
 use Rattle.definitions.specs.declared.kinds.Group.TheVariants.{Core, Apps}
-use Rattle.definitions.specs.Kinds.{group, plural, has_status, kind_named}
+use Rattle.definitions.specs.Kinds.{kinds, group, text_of_group, group_name, plural, has_status, kind_named}
 use Rattle.laws.specs.HistoryLaws.{PathsAreRoutes}
 use Rattle.definitions.specs.Targets.{Route, collection, object_at, status_of, prefix, collection_text, path_text, segments, after_words, is_filled, with_status}
 use Rattle.definitions.proofs.PathForms.{Form, all_form, namespace_form, object_form, status_form, below, by_prefix, form_of, route_of, by_form}
@@ -135,20 +133,25 @@ some_is : (b : Bool) (k j : Kind) → cond b (Some k) None ≡ Some j → k ≡ 
 some_is true k j is = cc
 some_is false k j is = cc
 
--- the plural that was read is that of the kind, and its group the one that was asked
-named_at : (b c : Bool) (g : Group) (p w v : List ℕ) (a d k : Kind) → bytes_eq p w ≡ b → bytes_eq p v ≡ c → (group a ≡ g) × (plural a ≡ w) → (group d ≡ g) × (plural d ≡ v)
-    → cond b (Some a) (cond c (Some d) None) ≡ Some k → (group k ≡ g) × (p ≡ plural k)
-named_at true c g p w v a d k here there first second is =
-    let one : a ≡ k = cc in
-    (sym (ap group one) ∙ first.0, (bytes_eq-Decides p w).0 here ∙ sym first.1 ∙ ap plural one)
-named_at false true g p w v a d k here there first second is =
-    let one : d ≡ k = cc in
-    (sym (ap group one) ∙ second.0, (bytes_eq-Decides p v).0 there ∙ sym second.1 ∙ ap plural one)
-named_at false false g p w v a d k here there first second is = cc
+passes_found : (p : Kind → Bool) (ks : List Kind) (k : Kind) → find p ks ≡ Some k → p k ≡ true
+passes_found p [] k is = cc
+passes_found p (j ∷ ks) k is = by (p j) refl is (λ later. passes_found p ks k later)
+  where
+    by : (b : Bool) → p j ≡ b → cond b (Some j) (find p ks) ≡ Some k → (find p ks ≡ Some k → p k ≡ true) → p k ≡ true
+    by true here one later = let same : j ≡ k = cc in ap p (sym same) ∙ here
+    by false here one later = later one
 
+group_tells : (g h : Group) → text_of_group g ≡ text_of_group h → h ≡ g
+group_tells Core Core is = refl
+group_tells Core Apps is = cc
+group_tells Apps Core is = cc
+group_tells Apps Apps is = refl
+
+-- the plural that was read is that of the kind, and its group the one that was asked
 named : (g : Group) (p : List ℕ) (k : Kind) → kind_named g p ≡ Some k → (group k ≡ g) × (p ≡ plural k)
-named Core p k is = named_at (bytes_eq p (codes "configmaps")) (bytes_eq p (codes "pods")) Core p (codes "configmaps") (codes "pods") ConfigMap Pod k refl refl (refl, refl) (refl, refl) is
-named Apps p k is = named_at (bytes_eq p (codes "replicasets")) (bytes_eq p (codes "deployments")) Apps p (codes "replicasets") (codes "deployments") ReplicaSet Deployment k refl refl (refl, refl) (refl, refl) is
+named g p k is =
+    let passed = both (bytes_eq (text_of_group g) (group_name k)) (bytes_eq p (plural k)) (passes_found (λ k. bytes_eq (text_of_group g) (group_name k) && bytes_eq p (plural k)) kinds k is) in
+    (group_tells g (group k) ((bytes_eq-Decides (text_of_group g) (group_name k)).0 passed.0), (bytes_eq-Decides p (plural k)).0 passed.1)
 
 one_route : {A : Type 0} (f : A → Route) (o : Option A) (r : Route) → option_map f o ≡ Some r → (k : A) × (o ≡ Some k) × (f k ≡ r)
 one_route f None r is = cc

@@ -7,9 +7,7 @@ use Rattle.serde_json.specs.Data.{Data, null, boolean, number, string, array, ob
 use Rattle.serde_json.specs.Find.{as_object}
 use Rattle.serde_json.specs.Written.{compact_text, has_float}
 use Rattle.definitions.specs.declared.kinds.Kind.{Kind}
-use Rattle.definitions.specs.declared.kinds.Kind.TheVariants.{ConfigMap, Pod, ReplicaSet, Deployment}
-use Rattle.definitions.specs.declared.schemas.Shape.TheVariants.{Object}
-use Rattle.definitions.specs.declared.schemas.Schema.TheVariants.{Root}
+
 use Rattle.definitions.specs.Kinds.{rank}
 use Rattle.definitions.specs.Changes.{Change, change_of, changes_after, gone_at}
 use Rattle.definitions.specs.History.{Write, writes, present, up_to, last_of, in_view, seen}
@@ -21,6 +19,7 @@ use Rattle.definitions.specs.Revisions.{revision_of}
 use Rattle.laws.specs.SentLaws.{IsKept, IsTold, IsShort, ChangesAreTold, whole}
 use Rattle.definitions.specs.Values.{members_of}
 use Rattle.laws.proofs.HeldMembers.{version-at_revision}
+use Rattle.definitions.proofs.KindOrder.{rank_tells}
 use Rattle.definitions.proofs.JsonMembers.{text_in-put_other, metadata_text-with}
 use Rattle.laws.proofs.Limited.{limited}
 use Rattle.definitions.proofs.NoFloatsRead.{both_true}
@@ -101,11 +100,10 @@ tells k c same kept low fits =
 -- ---- the change of a write
 
 pub same_kind : (a b : Kind) → ((rank a == rank b) && true && true && true) ≡ true → a ≡ b
-same_kind ConfigMap ConfigMap h = refl
-same_kind Pod Pod h = refl
-same_kind ReplicaSet ReplicaSet h = refl
-same_kind Deployment Deployment h = refl
-same_kind a b h = cc
+same_kind a b h = rank_tells a b (same_rank (rank a) (rank b) h)
+  where
+    same_rank : (m n : ℕ) → ((m == n) && true && true && true) ≡ true → m ≡ n
+    same_rank m n h = grind arith
 
 seen_cond : (k : Kind) (n : Name) (P : Data → Type 0) (d : Data) (b : Bool) → in_view (whole k) n d ≡ b → P d → IfSome (cond b (Some d) None) (λ x. (k ≡ n.kind) × P x)
 seen_cond k n P d true is p = (same_kind k n.kind is, p)

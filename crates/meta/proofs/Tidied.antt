@@ -4,7 +4,7 @@ use Rattle.std.proofs.Common.{is_some}
 use Rattle.serde_json.specs.Data.{Data, null, boolean, number, string, array, object}
 use Rattle.serde_json.specs.Find.{get, as_object}
 use Rattle.definitions.specs.declared.kinds.Kind.{Kind}
-use Rattle.definitions.specs.declared.kinds.Kind.TheVariants.{ConfigMap, Pod, ReplicaSet, Deployment}
+use Rattle.definitions.specs.declared.kinds.Kind.TheVariants.{Pod}
 use Rattle.definitions.specs.declared.schemas.Shape.{Shape}
 use Rattle.definitions.specs.Kinds.{api_version, kind_text}
 use Rattle.definitions.specs.Values.{with_member, with_default}
@@ -38,10 +38,8 @@ is_object-with_default : (k : List ℕ) (e v : Data) → is_object v ≡ true �
 is_object-with_default k e v h = object_default_at (is_some (get k v)) k e v h
 
 is_object-with_spec : (k : Kind) (v : Data) → is_object v ≡ true → is_object (with_spec k v) ≡ true
-is_object-with_spec ConfigMap v h = h
 is_object-with_spec Pod v h = is_object-with_default (codes "spec") empty v h
-is_object-with_spec ReplicaSet v h = h
-is_object-with_spec Deployment v h = h
+is_object-with_spec k v h = h
 
 is_object-filled : (k : Kind) (v : Data) → is_object v ≡ true → is_object (filled k v) ≡ true
 is_object-filled k v h =

@@ -1,10 +1,11 @@
 -- What a view asks for after a place lies between the first key that it may ask for there and the first past them.
-use Rattle.std.proofs.Common.{◌≡◌, ℕ, zero, suc, ◌==◌, ◌&&◌, not, Bool, true, false, cond, List, [], ◌∷◌, ◌++◌, Option, Some, None, IfSome, option_map, unwrap_or, nat_cmp, is_lt, is_eq, is_le, is_gt, Ordering, Less, Equal, Greater, refl, sym, ap, ◌∙◌, subst, arith}
+use Rattle.std.proofs.Common.{◌≡◌, ◌<◌, ◌≤◌, nat_lt, ℕ, zero, suc, ◌==◌, ◌&&◌, not, Bool, true, false, cond, List, [], ◌∷◌, ◌++◌, Option, Some, None, IfSome, option_map, unwrap_or, nat_cmp, is_lt, is_eq, is_le, is_gt, Ordering, Less, Equal, Greater, refl, sym, ap, ◌∙◌, subst, arith}
 use Rattle.std.proofs.lemmas.Cmp.{nat_cmp_total, nat_list_cmp_total, tied_itself, upto, on_total, then_total}
 use Rattle.std.proofs.lemmas.Map.Text.{is_eq-slice_cmp}
 use Rattle.std.proofs.lemmas.Slice.Eq.{bytes_eq-Decides}
 use Rattle.std.specs.List.{filter}
-use Rattle.std.specs.Cmp.{IsTotalOrder}
+use Rattle.std.proofs.lemmas.Bool.{ltb-true, ltb-false}
+use Rattle.std.specs.Cmp.{IsTotalOrder, nat_cmp_is}
 use Rattle.std.specs.Ordering.{ordering_then, ordering_reverse}
 use Rattle.std.specs.Cmp.Lexicographic.{slice_cmp}
 use Rattle.std.specs.BTreeMap.Range.{entries_between, range_contains}
@@ -12,20 +13,20 @@ use Rattle.std.specs.Str.{bytes_eq}
 use Rattle.std.specs.declared.ops.Bound.TheVariants.{Included, Excluded, Unbounded}
 use Rattle.serde_json.specs.Data.{Data}
 use Rattle.definitions.specs.History.{View, Members, in_view, in_namespace, viewed}
-use Rattle.definitions.specs.Kinds.{rank}
-use Rattle.definitions.specs.Metadata.{labels_of}
+use Rattle.definitions.specs.Kinds.{rank, kind_after}
+use Rattle.definitions.proofs.KindOrder.{rank_after, last_rank}
+use Rattle.definitions.specs.Labels.{labels_of}
 use Rattle.definitions.specs.Lists.{is_selective}
 use Rattle.definitions.specs.Names.{Name, name_cmp}
 use Rattle.definitions.specs.Pages.{Place, is_after, after_place}
 use Rattle.definitions.specs.SelectorFields.{FieldRequirement, fields_meet}
 use Rattle.definitions.specs.Selectors.{Requirement, meets_all}
 use Rattle.definitions.specs.declared.kinds.Kind.{Kind}
-use Rattle.definitions.specs.declared.kinds.Kind.TheVariants.{ConfigMap, Pod, ReplicaSet, Deployment}
 use Rattle.meta.specs.Keys.{name_of}
 use Rattle.meta.specs.declared.keys.Key.{Key}
 use Rattle.meta.specs.declared.stored.StoredObject.{StoredObject}
 use Rattle.meta.proofs.KeyOrder.{key_cmp-name_cmp}
-use Rattle.store.specs.AskedKeys.{kind_after, first_name, first_asked, first_past, first_after, start_name, earlier, later}
+use Rattle.store.specs.AskedKeys.{first_name, first_asked, first_past, first_after, start_name, earlier, later}
 use Rattle.store.specs.Seen.{members_seen}
 use Rattle.store.proofs.SeenMaps.{key_cmp}
 
@@ -75,21 +76,32 @@ past_at m n s t x same text =
     (ap (λ r. is_le (ordering_then r (ordering_then (slice_cmp nat_cmp (s ++ 0 ∷ []) t) (slice_cmp nat_cmp [] x)))) (tied_itself nat_cmp_total m)
     ∙ subst (λ t. is_le (ordering_then (slice_cmp nat_cmp (s ++ 0 ∷ []) t) (slice_cmp nat_cmp [] x)) ≡ false) text (ap (λ r. is_le (ordering_then r (slice_cmp nat_cmp [] x))) (zero_after s)))
 
+-- of two names, the one whose kind stands first comes first
+rank_over : (m n : ℕ) (o : Ordering) → n < m → is_le (ordering_then (nat_cmp m n) o) ≡ false
+rank_over m n o over = ap (λ r. is_le (ordering_then r o)) (sym (nat_cmp_is m n Greater over))
+
+rank_under : (m n : ℕ) (o : Ordering) → m < n → ordering_then (nat_cmp m n) o ≡ Less
+rank_under m n o under = ap (λ r. ordering_then r o) (sym (nat_cmp_is m n Less under))
+
 next_after : (j : Kind) (k : Name) → rank j ≡ rank k.kind → IfSome (option_map (λ next. first_name next []) (kind_after j)) (λ p. is_le (name_cmp p k) ≡ false)
-next_after ConfigMap k same = subst (λ m. is_le (ordering_then (nat_cmp 1 m) (ordering_then (slice_cmp nat_cmp [] k.namespace) (slice_cmp nat_cmp [] k.name))) ≡ false) same refl
-next_after Pod k same = subst (λ m. is_le (ordering_then (nat_cmp 2 m) (ordering_then (slice_cmp nat_cmp [] k.namespace) (slice_cmp nat_cmp [] k.name))) ≡ false) same refl
-next_after ReplicaSet k same = subst (λ m. is_le (ordering_then (nat_cmp 3 m) (ordering_then (slice_cmp nat_cmp [] k.namespace) (slice_cmp nat_cmp [] k.name))) ≡ false) same refl
-next_after Deployment k same = tt
+next_after j k same = by (kind_after j) refl
+  where
+    by : (o : Option Kind) → kind_after j ≡ o → IfSome (option_map (λ next. first_name next []) o) (λ p. is_le (name_cmp p k) ≡ false)
+    by None is = tt
+    by (Some n) is =
+        rank_over (rank n) (rank k.kind) (ordering_then (slice_cmp nat_cmp [] k.namespace) (slice_cmp nat_cmp [] k.name)) (omega (arith, rank_after j n is, same))
 
 past_after : (j : Kind) (o : Option (List ℕ)) (k : Name) → rank j ≡ rank k.kind → in_namespace o k.namespace ≡ true → IfSome (first_past j o) (λ p. is_le (name_cmp p k) ≡ false)
 past_after j None k same is = next_after j k same
 past_after j (Some s) k same is = past_at (rank j) (rank k.kind) s k.namespace k.name same (same_text s k.namespace is)
 
 next_forward : (j : Kind) → IfSome (option_map (λ next. first_name next []) (kind_after j)) (λ p. is_gt (name_cmp (first_name j []) p) ≡ false)
-next_forward ConfigMap = refl
-next_forward Pod = refl
-next_forward ReplicaSet = refl
-next_forward Deployment = tt
+next_forward j = by (kind_after j) refl
+  where
+    by : (o : Option Kind) → kind_after j ≡ o → IfSome (option_map (λ next. first_name next []) o) (λ p. is_gt (name_cmp (first_name j []) p) ≡ false)
+    by None is = tt
+    by (Some n) is =
+        ap is_gt (rank_under (rank j) (rank n) (ordering_then (slice_cmp nat_cmp [] []) (slice_cmp nat_cmp [] [])) (omega (arith, rank_after j n is)))
 
 goes_forward : (j : Kind) (o : Option (List ℕ)) → IfSome (first_past j o) (λ p. is_gt (name_cmp (first_name j (unwrap_or o [])) p) ≡ false)
 goes_forward j None = next_forward j
@@ -252,28 +264,34 @@ of_both m n s t x from below = by (nat_cmp m n) refl from below
         (grind arith, le_same s t (low (slice_cmp nat_cmp s t) from) (sym (zero_next s t) ∙ high (slice_cmp nat_cmp (s ++ 0 ∷ []) t) below))
     by Greater is from below = let not_so : false ≡ true = from in cc
 
+rank_from : (m n : ℕ) (o : Ordering) → is_le (ordering_then (nat_cmp m n) o) ≡ true → m ≤ n
+rank_from m n o from = by (nat_lt n m) refl
+  where
+    by : (b : Bool) → nat_lt n m ≡ b → m ≤ n
+    by true over = let never : false ≡ true = sym (rank_over m n o (ltb-true n m over)) ∙ from in cc
+    by false not_over = ltb-false n m not_over
+
+rank_before : (m n : ℕ) (t x : List ℕ) → is_le (ordering_then (nat_cmp m n) (ordering_then (slice_cmp nat_cmp [] t) (slice_cmp nat_cmp [] x))) ≡ false → n < m
+rank_before m n t x below = by (nat_lt n m) (m == n) refl refl
+  where
+    by : (b c : Bool) → nat_lt n m ≡ b → (m == n) ≡ c → n < m
+    by true c over same = ltb-true n m over
+    by false true over same = let never : true ≡ false = sym (from_at m n (slice_cmp nat_cmp [] t) x (same_rank m n same) (nil_first t)) ∙ below in cc
+    by false false over other =
+        let under : m < n = grind arith in
+        let never : true ≡ false = sym (ap is_le (rank_under m n (ordering_then (slice_cmp nat_cmp [] t) (slice_cmp nat_cmp [] x)) under)) ∙ below in cc
+
 -- a kind between a kind and the next is that kind
 same_kind : (j : Kind) (k : Name) → is_le (name_cmp (first_name j []) k) ≡ true → IfSome (option_map (λ next. first_name next []) (kind_after j)) (λ p. is_le (name_cmp p k) ≡ false) → (rank j == rank k.kind) ≡ true
-same_kind j k from below = by j k.kind k.namespace k.name from below
+same_kind j k from below =
+    one (rank j) (rank k.kind) (rank_from (rank j) (rank k.kind) (ordering_then (slice_cmp nat_cmp [] k.namespace) (slice_cmp nat_cmp [] k.name)) from) (by (kind_after j) refl below)
   where
-    by : (j l : Kind) (t x : List ℕ) → is_le (name_cmp (first_name j []) (record { kind = l; namespace = t; name = x })) ≡ true
-        → IfSome (option_map (λ next. first_name next []) (kind_after j)) (λ p. is_le (name_cmp p (record { kind = l; namespace = t; name = x })) ≡ false) → (rank j == rank l) ≡ true
-    by ConfigMap ConfigMap t x from below = refl
-    by ConfigMap Pod t x from below = sym below ∙ from_at 1 1 (slice_cmp nat_cmp [] t) x refl (nil_first t)
-    by ConfigMap ReplicaSet t x from below = sym below
-    by ConfigMap Deployment t x from below = sym below
-    by Pod ConfigMap t x from below = from
-    by Pod Pod t x from below = refl
-    by Pod ReplicaSet t x from below = sym below ∙ from_at 2 2 (slice_cmp nat_cmp [] t) x refl (nil_first t)
-    by Pod Deployment t x from below = sym below
-    by ReplicaSet ConfigMap t x from below = from
-    by ReplicaSet Pod t x from below = from
-    by ReplicaSet ReplicaSet t x from below = refl
-    by ReplicaSet Deployment t x from below = sym below ∙ from_at 3 3 (slice_cmp nat_cmp [] t) x refl (nil_first t)
-    by Deployment ConfigMap t x from below = from
-    by Deployment Pod t x from below = from
-    by Deployment ReplicaSet t x from below = from
-    by Deployment Deployment t x from below = refl
+    one : (m n : ℕ) → m ≤ n → n ≤ m → (m == n) ≡ true
+    one m n up down = grind arith
+
+    by : (o : Option Kind) → kind_after j ≡ o → IfSome (option_map (λ next. first_name next []) o) (λ p. is_le (name_cmp p k) ≡ false) → rank k.kind ≤ rank j
+    by None none below = last_rank j k.kind none
+    by (Some n) is below = let before = rank_before (rank n) (rank k.kind) k.namespace k.name below in omega (arith, before, rank_after j n is)
 
 -- between the first name that a view may ask for and the first past them, each is of its kind and in its namespace
 all_between : (j : Kind) (o : Option (List ℕ)) (k : Name) → is_le (name_cmp (first_name j (unwrap_or o [])) k) ≡ true → IfSome (first_past j o) (λ p. is_le (name_cmp p k) ≡ false)

@@ -2,17 +2,10 @@
 use Rattle.std.specs.Prelude.{ℕ, List, [], ◌∷◌, ◌++◌, Option, Some, None, option_map, unwrap_or, if◌then◌else◌}
 use Rattle.std.specs.Ordering.{is_lt}
 use Rattle.definitions.specs.History.{View}
+use Rattle.definitions.specs.Kinds.{kind_after}
 use Rattle.definitions.specs.Names.{Name, name_cmp}
 use Rattle.definitions.specs.Pages.{Place}
 use Rattle.definitions.specs.declared.kinds.Kind.{Kind}
-use Rattle.definitions.specs.declared.kinds.Kind.TheVariants.{ConfigMap, Pod, ReplicaSet, Deployment}
-
--- the kind after a kind, in their order
-abbrev pub kind_after : Kind → Option Kind
-kind_after ConfigMap = Some Pod
-kind_after Pod = Some ReplicaSet
-kind_after ReplicaSet = Some Deployment
-kind_after Deployment = None
 
 -- the first name of a kind in a namespace
 abbrev pub first_name : Kind → List ℕ → Name

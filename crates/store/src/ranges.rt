@@ -1,11 +1,12 @@
 //! Where the objects of a view lie in a map.
 ghost use Rattle.std.specs.Prelude.{◌≡◌, [], false, IfOk, option_map, string_bytes};
 ghost use Rattle.definitions.specs.History.{viewed};
+ghost use Rattle.definitions.specs.Kinds.{kind_after};
 ghost use Rattle.definitions.specs.Lists.{is_selective};
 ghost use Rattle.definitions.specs.Pages.{place_of, after_place};
 ghost use Rattle.meta.specs.Keys.{name_of};
 ghost use Rattle.selector.specs.Views.{view_of};
-ghost use Rattle.store.specs.AskedKeys.{kind_after, first_name, first_asked, first_past, first_after, start_name, earlier, later};
+ghost use Rattle.store.specs.AskedKeys.{first_name, first_asked, first_past, first_after, start_name, earlier, later};
 ghost use Rattle.store.specs.Chunks.{after_key};
 ghost use Rattle.store.specs.Seen.{members_seen};
 
@@ -113,12 +114,7 @@ fn first_past(alloc: Global, view: &View) -> Result<Option<Key>, AllocError>
 fn first_of_next(alloc: Global, kind: Kind) -> Option<Key>
     ensures { option_map name_of result ≡ option_map (λ next. first_name next []) (kind_after kind) }
 {
-    let next = match kind {
-        Kind::ConfigMap => Kind::Pod,
-        Kind::Pod => Kind::ReplicaSet,
-        Kind::ReplicaSet => Kind::Deployment,
-        Kind::Deployment => return None,
-    };
+    let next = kind.next()?;
     Some(first_key(alloc, next, String::new(alloc)))
 }
 

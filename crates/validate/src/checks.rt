@@ -6,10 +6,7 @@ ghost use Rattle.meta.specs.Keys.{name_of};
 ghost use Rattle.meta.specs.declared.faults.Fault.TheVariants.{NoMemory};
 ghost use Rattle.validate.specs.Faults.{RefusesField};
 
-use crate::counts::{
-    are_replicas_valid, is_deployment_status_valid, is_history_limit_valid,
-    is_replica_set_status_valid,
-};
+use crate::counts::{are_replicas_valid, is_history_limit_valid, is_status_valid};
 use crate::finalizers::{adds_no_finalizer, are_finalizers_valid};
 use crate::labels::are_labels;
 use crate::object_names::{is_generate_name_valid, is_name_valid};
@@ -36,7 +33,7 @@ fn replica_set_fault(alloc: Global, object: &Object, is_kept: bool) -> Result<Op
     if !is_template(object, &selector) {
         return Ok(Some(Field::Template));
     }
-    if !is_replica_set_status_valid(object) {
+    if !is_status_valid(Kind::ReplicaSet, object) {
         return Ok(Some(Field::Status));
     }
     Ok(None)
@@ -62,7 +59,7 @@ fn deployment_fault(alloc: Global, object: &Object, is_kept: bool) -> Result<Opt
     if !is_history_limit_valid(object) {
         return Ok(Some(Field::RevisionHistoryLimit));
     }
-    if !is_deployment_status_valid(object) {
+    if !is_status_valid(Kind::Deployment, object) {
         return Ok(Some(Field::Status));
     }
     Ok(None)

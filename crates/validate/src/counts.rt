@@ -1,13 +1,24 @@
 //! Numbers that are not negative.
 ghost use Rattle.std.specs.Prelude.{◌≡◌, Some, option_map};
+ghost use Rattle.std.specs.List.{list_all};
 ghost use Rattle.serde_json.specs.View.{view};
-ghost use Rattle.definitions.specs.declared.kinds.Kind.TheVariants.{ReplicaSet, Deployment};
 ghost use Rattle.definitions.specs.Checks.{in_status, is_not_negative, are_replicas_valid, is_history_limit_valid, is_status_valid};
 
 use crate::parts::{in_spec, in_status};
 use definitions::kinds::Kind;
 use meta::Object;
 use serde_json::Value;
+
+const REPLICA_SET_COUNTS: [&str; 3] = ["replicas", "readyReplicas", "availableReplicas"];
+
+const DEPLOYMENT_COUNTS: [&str; 6] = [
+    "replicas",
+    "readyReplicas",
+    "availableReplicas",
+    "updatedReplicas",
+    "unavailableReplicas",
+    "collisionCount",
+];
 
 fn is_not_negative(found: &Value) -> bool
     ensures { result ≡ is_not_negative (Some (view found.now)) }
@@ -45,45 +56,11 @@ fn is_count(object: &Object, name: &str) -> bool
     }
 }
 
-/// Whether no count in the status of a ReplicaSet is negative.
-pub(crate) fn is_replica_set_status_valid(object: &Object) -> bool
-    ensures { result ≡ is_status_valid ReplicaSet object.now.value }
+/// Whether none of these counts in the status of an object is negative.
+fn are_counts(object: &Object, names: &[&str]) -> bool
+    ensures { result ≡ list_all (λ name. is_not_negative (in_status name.now object.now.value)) names.now }
 {
-    if !is_count(object, "replicas") {
-        return false;
-    }
-    if !is_count(object, "readyReplicas") {
-        return false;
-    }
-    if !is_count(object, "availableReplicas") {
-        return false;
-    }
-    true
-}
-
-/// Whether no count in the status of a Deployment is negative.
-pub(crate) fn is_deployment_status_valid(object: &Object) -> bool
-    ensures { result ≡ is_status_valid Deployment object.now.value }
-{
-    if !is_count(object, "replicas") {
-        return false;
-    }
-    if !is_count(object, "readyReplicas") {
-        return false;
-    }
-    if !is_count(object, "availableReplicas") {
-        return false;
-    }
-    if !is_count(object, "updatedReplicas") {
-        return false;
-    }
-    if !is_count(object, "unavailableReplicas") {
-        return false;
-    }
-    if !is_count(object, "collisionCount") {
-        return false;
-    }
-    true
+    names.iter().all(|name| is_count(object, name))
 }
 
 /// Whether no count in the status of an object, as one of a kind, is negative.
@@ -93,7 +70,7 @@ pub fn is_status_valid(kind: Kind, object: &Object) -> bool
     match kind {
         Kind::ConfigMap => true,
         Kind::Pod => true,
-        Kind::ReplicaSet => is_replica_set_status_valid(object),
-        Kind::Deployment => is_deployment_status_valid(object),
+        Kind::ReplicaSet => are_counts(object, &REPLICA_SET_COUNTS),
+        Kind::Deployment => are_counts(object, &DEPLOYMENT_COUNTS),
     }
 }

@@ -143,13 +143,11 @@ fn removal_text(alloc: Global, key: &Key, held: Object, before: u64) -> Result<S
         ≡ compact_text (removal_of key.now.kind (name_of key.now) (before + 1) held.value)) }
 {
     match key.kind {
-        Kind::ConfigMap => gone_text(alloc, key, &held),
         Kind::Pod => {
             let last = at_revision(alloc, held, before)?;
             last.text(alloc)
         }
-        Kind::ReplicaSet => gone_text(alloc, key, &held),
-        Kind::Deployment => gone_text(alloc, key, &held),
+        _ => gone_text(alloc, key, &held),
     }
 }
 

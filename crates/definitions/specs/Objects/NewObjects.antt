@@ -2,19 +2,18 @@
 use Rattle.std.specs.Prelude.{ℕ, List, Option, Some, None, codes, if◌then◌else◌}
 use Rattle.definitions.specs.Texts.Values.{Data, string, object, Members, no_members, member, put, members_of, without}
 use Rattle.definitions.specs.declared.kinds.Kind.{Kind}
-use Rattle.definitions.specs.declared.kinds.Kind.TheVariants.{ConfigMap, Pod, ReplicaSet, Deployment}
+use Rattle.definitions.specs.declared.kinds.Kind.TheVariants.{Pod, ReplicaSet}
 use Rattle.definitions.specs.Objects.Defaults.{whole}
-use Rattle.definitions.specs.Texts.Kinds.{has_generation}
+use Rattle.definitions.specs.Texts.Kinds.{has_generation, has_status}
 use Rattle.definitions.specs.Objects.Metadata.{metadata_of, at_revision}
 use Rattle.definitions.specs.Objects.Reading.{empty}
 use Rattle.definitions.specs.Texts.Uids.{uid_text, cluster_word}
 
--- the status of a new object, of a kind that has one (Kubernetes API Conventions, Spec and Status)
+-- the status of a new object, of a kind that has one: without members, but for these (Kubernetes API Conventions, Spec and Status)
 abbrev pub first_status : Kind → Option Data
-first_status ConfigMap = None
 first_status Pod = Some (object (member (codes "phase") (string (codes "Pending")) no_members))
 first_status ReplicaSet = Some (object (member (codes "replicas") (whole 0) no_members))
-first_status Deployment = Some empty
+first_status k = if has_status k then Some empty else None
 
 -- the members with this status, if there is one
 abbrev pub with_status : Option Data → Members → Members

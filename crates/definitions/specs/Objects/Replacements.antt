@@ -1,13 +1,13 @@
 -- What an update, or an update of the status, stores in the place of the stored object.
-use Rattle.std.specs.Prelude.{ℕ, ◌+◌, List, [], ◌∷◌, Bool, false, not, ◌&&◌, ◌||◌, Option, Some, None, is_some, codes, nat_lt, option_and_then, unwrap_or, if◌then◌else◌}
+use Rattle.std.specs.Prelude.{ℕ, ◌+◌, List, [], ◌∷◌, Bool, not, ◌&&◌, ◌||◌, Option, Some, None, is_some, codes, nat_lt, option_and_then, unwrap_or, if◌then◌else◌}
 use Rattle.std.specs.Option.{option_or}
 use Rattle.std.specs.Str.{bytes_eq}
 use Rattle.definitions.specs.Texts.Values.{Data, object, Members, put, get, get_member, as_number, as_u64, compact_text, members_of, without}
 use Rattle.definitions.specs.declared.kinds.Kind.{Kind}
-use Rattle.definitions.specs.declared.kinds.Kind.TheVariants.{ReplicaSet, Deployment}
+use Rattle.definitions.specs.declared.kinds.Kind.TheVariants.{Deployment}
 use Rattle.definitions.specs.Objects.Checks.{text_of}
 use Rattle.definitions.specs.Objects.Defaults.{whole}
-use Rattle.definitions.specs.Texts.Kinds.{has_status}
+use Rattle.definitions.specs.Texts.Kinds.{has_generation, has_status}
 use Rattle.definitions.specs.Objects.Metadata.{metadata, metadata_of, with_metadata, is_being_deleted, at_revision}
 use Rattle.definitions.specs.Objects.NewObjects.{first_status, with_status}
 use Rattle.definitions.specs.Texts.Revisions.{greatest_revision}
@@ -56,9 +56,8 @@ has_new_annotations held d = has_changed (metadata (codes "annotations") held) (
 
 -- whether an object in the place of a stored one is a new generation (Kubernetes API Conventions, Metadata)
 abbrev pub is_new_generation : Kind → Data → Data → Bool
-is_new_generation ReplicaSet held d = has_new_spec held d
 is_new_generation Deployment held d = has_new_spec held d || has_new_annotations held d
-is_new_generation k held d = false
+is_new_generation k held d = has_generation k && has_new_spec held d
 
 -- which generation an object is
 abbrev pub generation : Data → ℕ
