@@ -16,7 +16,7 @@ use Rattle.definitions.specs.declared.reflectors.Phase.{Phase}
 use Rattle.definitions.specs.declared.reflectors.Phase.TheVariants.{Listing, Watching}
 use Rattle.definitions.specs.declared.reflectors.End.{End}
 use Rattle.definitions.specs.declared.reflectors.End.TheVariants.{Expired, Unreadable}
-use Rattle.definitions.specs.Texts.Kinds.{api_version, kind_text}
+use Rattle.definitions.specs.Texts.Kinds.{api_version, kind_text, list_kind}
 use Rattle.definitions.specs.Texts.Names.{Name, is_named}
 use Rattle.definitions.specs.State.History.{Members, put_or_remove}
 use Rattle.definitions.specs.Objects.Metadata.{name, namespace, uid, version}
@@ -60,10 +60,6 @@ abbrev pub name_in : Object → Name
 name_in o = record { kind = o.kind; namespace = unwrap_or (namespace o.value) []; name = unwrap_or (name o.value) [] }
 
 -- ---- what a list says
-
--- the member `kind` of a list (Kubernetes API Conventions, Types)
-abbrev pub list_kind : Kind → List ℕ
-list_kind k = kind_text k ++ codes "List"
 
 -- a list that was read: its revision, and its objects in their order
 pub record Listed : Type 0 where
