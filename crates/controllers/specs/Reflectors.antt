@@ -16,10 +16,10 @@ use Rattle.controllers.specs.declared.reflectors.Phase.{Phase}
 use Rattle.controllers.specs.declared.reflectors.Phase.TheVariants.{Listing, Watching}
 use Rattle.controllers.specs.declared.reflectors.End.{End}
 use Rattle.controllers.specs.declared.reflectors.End.TheVariants.{Expired, Unreadable}
-use Rattle.definitions.specs.Kinds.{api_version, kind_text}
-use Rattle.definitions.specs.Names.{Name, is_named}
-use Rattle.definitions.specs.History.{Members, put_or_remove}
-use Rattle.definitions.specs.Metadata.{name, namespace, uid, version}
+use Rattle.definitions.specs.Texts.Kinds.{api_version, kind_text, list_kind}
+use Rattle.definitions.specs.Texts.Names.{Name, is_named}
+use Rattle.definitions.specs.State.History.{Members, put_or_remove}
+use Rattle.definitions.specs.Objects.Metadata.{name, namespace, uid, version}
 use Rattle.definitions.specs.Objects.{Object}
 use Rattle.definitions.specs.Reading.{reading}
 use Rattle.definitions.specs.Revisions.{revision_of}
@@ -61,10 +61,6 @@ abbrev pub name_in : Object → Name
 name_in o = record { kind = o.kind; namespace = unwrap_or (namespace o.value) []; name = unwrap_or (name o.value) [] }
 
 -- ---- what a list says
-
--- the member `kind` of a list (Kubernetes API Conventions, Types)
-abbrev pub list_kind : Kind → List ℕ
-list_kind k = kind_text k ++ codes "List"
 
 -- a list that was read: its revision, and its objects in their order
 pub record Listed : Type 0 where

@@ -1,16 +1,17 @@
 -- Servers whose windows take in changes, and what always holds of them.
-use Rattle.std.proofs.Common.{◌≡◌, ◌≤◌, ℕ, zero, suc, List, [], ◌∷◌, ◌++◌, length, drop, Less, ◌+◌, ◌-◌, refl, sym, ap, ◌∙◌, subst, arith}
+use Rattle.std.proofs.Common.{◌≡◌, ◌≤◌, ℕ, zero, suc, List, [], ◌∷◌, ◌++◌, length, drop, Less, ◌+◌, ◌-◌, ◌==◌, Bool, true, false, cond, refl, sym, ap, ◌∙◌, subst, arith}
 use Rattle.std.specs.List.{AllByRecursion}
 use Rattle.std.specs.List.Sorted.{IsStrictlySortedBy}
 use Rattle.std.specs.Map.{keys_of}
 use Rattle.definitions.specs.declared.kinds.Kind.{Kind}
-use Rattle.definitions.specs.declared.kinds.Kind.TheVariants.{ConfigMap, Pod, ReplicaSet, Deployment}
+use Rattle.definitions.specs.Kinds.{rank}
 use Rattle.definitions.specs.Names.{Name, name_cmp}
 use Rattle.definitions.specs.History.{Members, Write, after}
 use Rattle.server_state.specs.Servers.{Server, opened_server, window_of, with_window, kept_at, after_write}
 use Rattle.server_state.specs.Snapshots.{Snapshot, empty, written}
 use Rattle.definitions.specs.Windows.{Kept, last_revision}
-use Rattle.server_state.specs.Recorded.{Window, opened, recorded}
+use Rattle.server_state.specs.Recorded.{Window, opened, recorded, compacted_to}
+use Rattle.definitions.proofs.KindOrder.{rank_tells}
 use Rattle.definitions.proofs.PutLaws.{IsAbove, IsAscending, IsAscending-after, sorted_from}
 use Rattle.desk.specs.Standing.{IsUpTo, IsStanding}
 
@@ -54,88 +55,43 @@ up_to_next r k w is = (is.0, omega (arith, is.1))
 -- ---- servers
 
 pub last_of_window : (k : Kind) (s : Server) → IsStanding s → last_revision 0 (window_of k s).kept ≤ s.snapshot.revision
-last_of_window ConfigMap s is = is.of_config_maps.1
-last_of_window Pod s is = is.of_pods.1
-last_of_window ReplicaSet s is = is.of_replica_sets.1
-last_of_window Deployment s is = is.of_deployments.1
+last_of_window k s is = (is.up_to k).1
 
--- all is empty at first
-pub stands_new : (size : ℕ) (n : Snapshot) (a b c d : Window) → n ≡ empty → a ≡ opened ConfigMap size → b ≡ opened Pod size → c ≡ opened ReplicaSet size → d ≡ opened Deployment size
-    → IsStanding (record { snapshot = n; config_maps = a; pods = b; replica_sets = c; deployments = d })
+pub stands_new : (size : ℕ) (n : Snapshot) (f : Kind → Window) → n ≡ empty → f ≡ (λ k. opened k size) → IsStanding (record { snapshot = n; windows = f })
 unfolding IsStrictlySortedBy
-stands_new size n a b c d e p q r t =
-    let first : IsStanding (opened_server size) =
-    record { in_order = tt; of_config_maps = (refl, omega arith); of_pods = (refl, omega arith); of_replica_sets = (refl, omega arith); of_deployments = (refl, omega arith) }
-    in
-    let same : record { snapshot = n; config_maps = a; pods = b; replica_sets = c; deployments = d } ≡ opened_server size =
-    λ i. record { snapshot = e i; config_maps = p i; pods = q i; replica_sets = r i; deployments = t i }
-    in
+stands_new size n f e p =
+    let first : IsStanding (opened_server size) = record { in_order = tt; up_to = λ k. (refl, omega arith) } in
+    let same : record { snapshot = n; windows = f } ≡ opened_server size = λ i. record { snapshot = e i; windows = p i } in
     subst (λ z. IsStanding z) (sym same) first
 
-module _ (n : Snapshot) (a b c d : Window) (is : IsStanding (record { snapshot = n; config_maps = a; pods = b; replica_sets = c; deployments = d })) where
+module _ (n : Snapshot) (f : Kind → Window) (is : IsStanding (record { snapshot = n; windows = f })) where
   -- a store that takes the next write keeps the windows up to it
-  pub stands_written : (m : Snapshot) (w : Write) → m ≡ written n w → IsStanding (record { snapshot = m; config_maps = a; pods = b; replica_sets = c; deployments = d })
+  pub stands_written : (m : Snapshot) (w : Write) → m ≡ written n w → IsStanding (record { snapshot = m; windows = f })
   stands_written m w at =
-      subst (λ z. IsStanding (record { snapshot = z; config_maps = a; pods = b; replica_sets = c; deployments = d })) (sym at)
-      (record {
-        in_order = in_order_after n.members w is.in_order;
-        of_config_maps = up_to_next n.revision ConfigMap a is.of_config_maps;
-        of_pods = up_to_next n.revision Pod b is.of_pods;
-        of_replica_sets = up_to_next n.revision ReplicaSet c is.of_replica_sets;
-        of_deployments = up_to_next n.revision Deployment d is.of_deployments;
-      })
+      subst (λ z. IsStanding (record { snapshot = z; windows = f })) (sym at)
+      (record { in_order = in_order_after n.members w is.in_order; up_to = λ k. up_to_next n.revision k (f k) (is.up_to k) })
+
+  same_rank : (a b : ℕ) → (a == b) ≡ true → a ≡ b
+  same_rank a b h = grind arith
 
   -- a window that takes in a change up to the present revision is up to it
-  pub stands_config_maps : (w : Window) (e : Kept) → w ≡ recorded a e → e.revision ≤ n.revision → IsStanding (record { snapshot = n; config_maps = w; pods = b; replica_sets = c; deployments = d })
-  stands_config_maps w e at le =
-      record {
-        in_order = is.in_order;
-        of_config_maps = up_to_recorded ConfigMap a w e n.revision at le is.of_config_maps;
-        of_pods = is.of_pods;
-        of_replica_sets = is.of_replica_sets;
-        of_deployments = is.of_deployments;
-      }
+  pub stands_recorded : (g : Kind → Window) (k : Kind) (e : Kept) → g ≡ (λ j. cond (rank j == rank k) (recorded (f k) e) (f j)) → e.revision ≤ n.revision → IsStanding (record { snapshot = n; windows = g })
+  stands_recorded g k e at le =
+      subst (λ g. IsStanding (record { snapshot = n; windows = g })) (sym at)
+      (record { in_order = is.in_order; up_to = λ j. by j (rank j == rank k) refl })
+    where
+      by : (j : Kind) (b : Bool) → (rank j == rank k) ≡ b → IsUpTo n.revision j (cond b (recorded (f k) e) (f j))
+      by j true same =
+          let one : k ≡ j = sym (rank_tells j k (same_rank (rank j) (rank k) same)) in
+          up_to_recorded j (f k) (recorded (f k) e) e n.revision refl le (subst (λ i. IsUpTo n.revision i (f k)) one (is.up_to k))
+      by j false other = is.up_to j
 
-  pub stands_pods : (w : Window) (e : Kept) → w ≡ recorded b e → e.revision ≤ n.revision → IsStanding (record { snapshot = n; config_maps = a; pods = w; replica_sets = c; deployments = d })
-  stands_pods w e at le =
-      record {
-        in_order = is.in_order;
-        of_config_maps = is.of_config_maps;
-        of_pods = up_to_recorded Pod b w e n.revision at le is.of_pods;
-        of_replica_sets = is.of_replica_sets;
-        of_deployments = is.of_deployments;
-      }
-
-  pub stands_replica_sets : (w : Window) (e : Kept) → w ≡ recorded c e → e.revision ≤ n.revision → IsStanding (record { snapshot = n; config_maps = a; pods = b; replica_sets = w; deployments = d })
-  stands_replica_sets w e at le =
-      record {
-        in_order = is.in_order;
-        of_config_maps = is.of_config_maps;
-        of_pods = is.of_pods;
-        of_replica_sets = up_to_recorded ReplicaSet c w e n.revision at le is.of_replica_sets;
-        of_deployments = is.of_deployments;
-      }
-
-  pub stands_deployments : (w : Window) (e : Kept) → w ≡ recorded d e → e.revision ≤ n.revision → IsStanding (record { snapshot = n; config_maps = a; pods = b; replica_sets = c; deployments = w })
-  stands_deployments w e at le =
-      record {
-        in_order = is.in_order;
-        of_config_maps = is.of_config_maps;
-        of_pods = is.of_pods;
-        of_replica_sets = is.of_replica_sets;
-        of_deployments = up_to_recorded Deployment d w e n.revision at le is.of_deployments;
-      }
-
-pub same_window : (k : Kind) (s : Server) (n : Snapshot) → window_of k (record s { snapshot = n }) ≡ window_of k s
-same_window ConfigMap s n = refl
-same_window Pod s n = refl
-same_window ReplicaSet s n = refl
-same_window Deployment s n = refl
+  -- a compaction leaves the changes that are kept
+  pub stands_compacted : (g : Kind → Window) (r : ℕ) → g ≡ (λ k. compacted_to (f k) r) → IsStanding (record { snapshot = n; windows = g })
+  stands_compacted g r at =
+      subst (λ g. IsStanding (record { snapshot = n; windows = g })) (sym at) (record { in_order = is.in_order; up_to = λ k. is.up_to k })
 
 -- a write to the store, and then its change to the window of its kind
 pub taken : (s t new : Server) (w : Write) (e : Kept) → t ≡ record s { snapshot = written s.snapshot w } → e ≡ kept_at s.snapshot w → new ≡ with_window e.key.kind (recorded (window_of e.key.kind t) e) t
     → new ≡ after_write s w
-taken s t new w e is kept at =
-    at
-    ∙ (λ i. with_window (kept i).key.kind (recorded (window_of (kept i).key.kind (is i)) (kept i)) (is i))
-    ∙ ap (λ v. with_window w.key.kind (recorded v (kept_at s.snapshot w)) (record s { snapshot = written s.snapshot w })) (same_window w.key.kind s (written s.snapshot w))
+taken s t new w e is kept at = at ∙ (λ i. with_window (kept i).key.kind (recorded (window_of (kept i).key.kind (is i)) (kept i)) (is i))

@@ -21,9 +21,7 @@ impl Server {
                 present,
             });
         }
-        self.config_maps.compact(present, revision)?;
-        self.pods.compact(present, revision)?;
-        self.replica_sets.compact(present, revision)?;
-        self.deployments.compact(present, revision)
+        self.caches.compact(revision);
+        Ok(())
     }
 }

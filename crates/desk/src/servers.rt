@@ -5,17 +5,14 @@ use selector::View;
 use std::alloc::{AllocError, Global};
 use std::marker::Model;
 use store::Store;
-use watch_cache::{Cache, Change};
+use watch_cache::{Cache, Caches, Change};
 
 /// What is there, with one revision over all kinds, and the last changes of each kind, from which watches and lists of
 /// earlier revisions are served. A change that is kept no longer is answered as expired.
 #[derive(Drop)]
 pub struct Server {
     pub(crate) store: Store,
-    pub(crate) config_maps: Cache,
-    pub(crate) pods: Cache,
-    pub(crate) replica_sets: Cache,
-    pub(crate) deployments: Cache,
+    pub(crate) caches: Caches,
 }
 
 impl Model for Server {
@@ -27,9 +24,9 @@ impl Model for Server {
 
     ghost coded = { coded_server };
 
-    ghost view = { λ s. record { snapshot = s.store; config_maps = s.config_maps; pods = s.pods; replica_sets = s.replica_sets; deployments = s.deployments } };
+    ghost view = { λ s. record { snapshot = s.store; windows = s.caches } };
 
-    ghost invariant = { λ s. IsStanding (record { snapshot = s.store; config_maps = s.config_maps; pods = s.pods; replica_sets = s.replica_sets; deployments = s.deployments }) };
+    ghost invariant = { λ s. IsStanding (record { snapshot = s.store; windows = s.caches }) };
 }
 
 impl Server {
@@ -53,10 +50,7 @@ impl Server {
     {
         Ok(Server {
             store: Store::new(alloc),
-            config_maps: Cache::new(alloc, Kind::ConfigMap, window)?,
-            pods: Cache::new(alloc, Kind::Pod, window)?,
-            replica_sets: Cache::new(alloc, Kind::ReplicaSet, window)?,
-            deployments: Cache::new(alloc, Kind::Deployment, window)?,
+            caches: Caches::new(alloc, window)?,
         })
     }
 
@@ -82,12 +76,7 @@ impl Server {
     pub(crate) fn cache(&self, kind: Kind) -> &Cache
         ensures { result.now ≡ window_of kind self.now }
     {
-        match kind {
-            Kind::ConfigMap => &self.config_maps,
-            Kind::Pod => &self.pods,
-            Kind::ReplicaSet => &self.replica_sets,
-            Kind::Deployment => &self.deployments,
-        }
+        self.caches.get(kind)
     }
 
     /// Takes the change of the present revision into the cache of its kind. It takes no memory.
@@ -96,11 +85,6 @@ impl Server {
         requires present { change.revision ≤ self.old.snapshot.revision }
         ensures { self.new ≡ with_window change.key.kind (recorded (window_of change.key.kind self.old) (kept_seen change)) self.old }
     {
-        match change.key.kind {
-            Kind::ConfigMap => self.config_maps.record(change),
-            Kind::Pod => self.pods.record(change),
-            Kind::ReplicaSet => self.replica_sets.record(change),
-            Kind::Deployment => self.deployments.record(change),
-        }
+        self.caches.record(change);
     }
 }

@@ -1,17 +1,22 @@
 -- A Status has no fractions.
-use Rattle.std.proofs.Common.{◌≡◌, ℕ, List, Option, Some, None, option_map, codes, false, refl}
+use Rattle.std.proofs.Common.{◌≡◌, ℕ, List, Option, Some, None, codes, Bool, true, false, cond, length, ◌==◌, refl}
 use Rattle.serde_json.specs.Data.{number, unsigned, string, object, no_members, member}
 use Rattle.serde_json.specs.Written.{has_float}
 use Rattle.definitions.specs.declared.kinds.Kind.{Kind}
-use Rattle.definitions.specs.declared.kinds.Kind.TheVariants.{ConfigMap, Pod, ReplicaSet, Deployment}
+use Rattle.definitions.specs.Kinds.{group_name, plural}
 use Rattle.definitions.specs.Names.{Name}
 use Rattle.definitions.specs.Refusals.{Refusal, code, message, told, details, with_optional, status_body}
 
 details_clean : (kind : Kind) (ns name : List ℕ) → has_float (details (record { kind = kind; namespace = ns; name = name }) no_members) ≡ false
-details_clean ConfigMap ns name = refl
-details_clean Pod ns name = refl
-details_clean ReplicaSet ns name = refl
-details_clean Deployment ns name = refl
+details_clean kind ns name = by (length (group_name kind) == 0)
+  where
+    by : (b : Bool)
+        → has_float
+        (object
+        (cond b (member (codes "kind") (string (plural kind)) (member (codes "name") (string name) no_members))
+        (member (codes "group") (string (group_name kind)) (member (codes "kind") (string (plural kind)) (member (codes "name") (string name) no_members))))) ≡ false
+    by true = refl
+    by false = refl
 
 clean : (n : ℕ) (said why : List ℕ) (o : Option Name)
     → has_float

@@ -4,7 +4,6 @@ use Rattle.std.specs.Prelude.{nat_lt, ◌==◌, Ok, Err}
 use Rattle.std.proofs.lemmas.Bool.{ltb-false}
 use Rattle.serde_json.specs.Data.{Data}
 use Rattle.definitions.specs.declared.kinds.Kind.{Kind}
-use Rattle.definitions.specs.declared.kinds.Kind.TheVariants.{ConfigMap, Pod, ReplicaSet, Deployment}
 use Rattle.definitions.specs.Kinds.{rank}
 use Rattle.definitions.specs.History.{History, Write, write, compaction, Members, writes, present, members, found, after, after_all}
 use Rattle.laws.specs.Happening.{CanHappen}
@@ -50,58 +49,19 @@ kept_now h w =
 
 -- ---- the window of a kind
 
+itself : (n : ℕ) → (n == n) ≡ true
+itself n = grind arith
+
 window_set : (k : Kind) (x : Window) (s : Server) → window_of k (with_window k x s) ≡ x
-window_set ConfigMap x s = refl
-window_set Pod x s = refl
-window_set ReplicaSet x s = refl
-window_set Deployment x s = refl
+window_set k x s = ap (λ b. cond b x (window_of k s)) (itself (rank k))
 
 window_left : (k j : Kind) (x : Window) (s : Server) → (rank k == rank j) ≡ false → window_of k (with_window j x s) ≡ window_of k s
-window_left ConfigMap ConfigMap x s apart = cc
-window_left ConfigMap Pod x s apart = refl
-window_left ConfigMap ReplicaSet x s apart = refl
-window_left ConfigMap Deployment x s apart = refl
-window_left Pod ConfigMap x s apart = refl
-window_left Pod Pod x s apart = cc
-window_left Pod ReplicaSet x s apart = refl
-window_left Pod Deployment x s apart = refl
-window_left ReplicaSet ConfigMap x s apart = refl
-window_left ReplicaSet Pod x s apart = refl
-window_left ReplicaSet ReplicaSet x s apart = cc
-window_left ReplicaSet Deployment x s apart = refl
-window_left Deployment ConfigMap x s apart = refl
-window_left Deployment Pod x s apart = refl
-window_left Deployment ReplicaSet x s apart = refl
-window_left Deployment Deployment x s apart = cc
-
-snapshot_kept : (k : Kind) (x : Window) (s : Server) → (with_window k x s).snapshot ≡ s.snapshot
-snapshot_kept ConfigMap x s = refl
-snapshot_kept Pod x s = refl
-snapshot_kept ReplicaSet x s = refl
-snapshot_kept Deployment x s = refl
-
-window_as_before : (k : Kind) (now : Snapshot) (s : Server) → window_of k (record s { snapshot = now }) ≡ window_of k s
-window_as_before ConfigMap now s = refl
-window_as_before Pod now s = refl
-window_as_before ReplicaSet now s = refl
-window_as_before Deployment now s = refl
-
-window_compacted : (k : Kind) (s : Server) (r : ℕ) → window_of k (after_compaction s r) ≡ compacted_to (window_of k s) r
-window_compacted ConfigMap s r = refl
-window_compacted Pod s r = refl
-window_compacted ReplicaSet s r = refl
-window_compacted Deployment s r = refl
-
-window_opened : (size : ℕ) (k : Kind) → IsWindow size k [] (window_of k (opened_server size))
-window_opened size ConfigMap = (refl, refl, follows_new ConfigMap size)
-window_opened size Pod = (refl, refl, follows_new Pod size)
-window_opened size ReplicaSet = (refl, refl, follows_new ReplicaSet size)
-window_opened size Deployment = (refl, refl, follows_new Deployment size)
+window_left k j x s apart = ap (λ b. cond b x (window_of k s)) apart
 
 -- ---- servers
 
 pub opened_holds : ServersOpen
-opened_holds size = (refl, window_opened size)
+opened_holds size = (refl, λ k. (refl, refl, follows_new k size))
 
 recorded_is : (b : Bool) (size : ℕ) (s : Server) (h : History) (w : Write) (k : Kind) → Holds size s h → is_of k w.key ≡ b → IsWindow size k (h ++ write w ∷ []) (window_of k (after_write s w))
 recorded_is true size s h w k is of =
@@ -116,20 +76,18 @@ recorded_is true size s h w k is of =
 recorded_is false size s h w k is of =
     let held = is.1 k in
     let after : window_of k (after_write s w) ≡ window_of k s =
-    window_left k w.key.kind (recorded (window_of w.key.kind s) (kept_at s.snapshot w)) (record s { snapshot = written s.snapshot w }) of
-    ∙ window_as_before k (written s.snapshot w) s in
+    window_left k w.key.kind (recorded (window_of w.key.kind s) (kept_at s.snapshot w)) (record s { snapshot = written s.snapshot w }) of in
     subst (IsWindow size k (h ++ write w ∷ [])) (sym after) (held.0, held.1, follows_still (window_of k s) h w held.2 (ap (λ j. is_of j w.key) held.0 ∙ of))
 
 pub written_holds : ServersWrite
 written_holds size s h w is = (
-  snapshot_kept w.key.kind (recorded (window_of w.key.kind s) (kept_at s.snapshot w)) (record s { snapshot = written s.snapshot w })
-      ∙ ap (λ z. written z w) is.0 ∙ snapshot_written h w,
+  ap (λ z. written z w) is.0 ∙ snapshot_written h w,
   λ k. recorded_is (is_of k w.key) size s h w k is refl,
 )
 
 compacted_holds : (size : ℕ) (s : Server) (h : History) (r : ℕ) → Holds size s h → Holds size (after_compaction s r) (h ++ compaction r ∷ [])
 compacted_holds size s h r is =
-    (is.0 ∙ sym (snapshot-compaction h r), λ k. subst (IsWindow size k (h ++ compaction r ∷ [])) (sym (window_compacted k s r)) ((is.1 k).0, (is.1 k).1, follows_compacted (window_of k s) h r (is.1 k).2))
+    (is.0 ∙ sym (snapshot-compaction h r), λ k. ((is.1 k).0, (is.1 k).1, follows_compacted (window_of k s) h r (is.1 k).2))
 
 pub entries_hold : ServersFollow
 entries_hold size s h [] is = subst (Holds size s) (sym (append-nil h)) is

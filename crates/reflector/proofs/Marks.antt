@@ -1,17 +1,15 @@
 -- The step of a bookmark that was written.
 use Rattle.std.proofs.Common.{◌≡◌, ◌≤◌, ◌<◌, ◌^◌, ℕ, nat_le, true, false, Some, option_and_then, option_map, Ok, decimal, refl, ap, ◌∙◌, arith}
+use Rattle.std.proofs.lemmas.Slice.Eq.{bytes_eq-Decides}
 use Rattle.definitions.specs.declared.kinds.Kind.{Kind}
-use Rattle.definitions.specs.declared.kinds.Kind.TheVariants.{ConfigMap, Pod, ReplicaSet, Deployment}
+use Rattle.definitions.specs.Kinds.{kind_text, api_version}
 use Rattle.definitions.specs.Revisions.{revision_of}
 use Rattle.definitions.specs.Frames.{bookmark_data, bookmark_event}
 use Rattle.definitions.proofs.RevisionTexts.{revision_is}
 use Rattle.controllers.specs.Reflectors.{step, marked, is_of, revision, if_reached, or_unreadable, mark_step}
 
 calls_itself : (k : Kind) (r : ℕ) → is_of k (bookmark_data k false r) ≡ true
-calls_itself ConfigMap r = refl
-calls_itself Pod r = refl
-calls_itself ReplicaSet r = refl
-calls_itself Deployment r = refl
+calls_itself k r = rw ((bytes_eq-Decides (kind_text k) (kind_text k)).1 refl, (bytes_eq-Decides (api_version k) (api_version k)).1 refl) refl
 
 says_revision : (k : Kind) (r : ℕ) → revision (bookmark_data k false r) ≡ revision_of (decimal r)
 says_revision k r = refl

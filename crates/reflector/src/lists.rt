@@ -2,7 +2,7 @@
 ghost use Rattle.std.specs.Prelude.{◌≡◌, IfOk, codes, map, option_map, option_and_then};
 ghost use Rattle.serde_json.specs.Find.{get, as_array};
 ghost use Rattle.serde_json.specs.View.{view, items_view};
-ghost use Rattle.controllers.specs.Reflectors.{list_kind, is_list, all_shown, name_in, repeats, apart, items_shown, list_in, list_of};
+ghost use Rattle.controllers.specs.Reflectors.{is_list, all_shown, name_in, repeats, apart, items_shown, list_in, list_of};
 ghost use Rattle.reflector.specs.Deltas.{listed_of};
 
 use crate::shown::{key_of, revision, says, show};
@@ -20,23 +20,11 @@ pub struct Listed {
     pub objects: Vec<Object>,
 }
 
-/// The member `kind` of a list.
-fn list_kind(kind: Kind) -> &'static str
-    ensures { result.now ≡ list_kind kind }
-{
-    match kind {
-        Kind::ConfigMap => "ConfigMapList",
-        Kind::Pod => "PodList",
-        Kind::ReplicaSet => "ReplicaSetList",
-        Kind::Deployment => "DeploymentList",
-    }
-}
-
 /// Whether a value calls itself a list of the kind.
 fn is_list(kind: Kind, value: &Value) -> bool
     ensures { result ≡ is_list kind (view value.now) }
 {
-    says(value, "kind", list_kind(kind)) && says(value, "apiVersion", kind.api_version())
+    says(value, "kind", kind.list_name()) && says(value, "apiVersion", kind.api_version())
 }
 
 /// The objects that items show, if each of them shows one.

@@ -1,14 +1,17 @@
 -- Codes by which models may store windows, snapshots and servers.
-use Rattle.std.specs.Prelude.{ℕ, List, Option, refl}
+use Rattle.std.proofs.Common.{ap, ◌∙◌}
+use Rattle.std.proofs.lemmas.Option.{slice_get-map}
+use Rattle.std.specs.Prelude.{◌≡◌, ℕ, List, Option, map, option_map, unwrap_or, slice_get, refl}
 use Rattle.std.specs.Coded.{Coded, code_by, coded×, coded_ℕ, coded_list, coded_option}
 use Rattle.serde_json.specs.Data.{Data}
 use Rattle.definitions.specs.declared.kinds.Kind.{Kind}
 use Rattle.definitions.specs.contracts.kinds.Kind as kind
+use Rattle.definitions.specs.Kinds.{kinds, rank, kinds_at}
 use Rattle.codes.specs.Codes.{coded_data}
 use Rattle.codes.specs.HistoryCodes.{coded_name}
 use Rattle.definitions.specs.Names.{Name}
 use Rattle.definitions.specs.Windows.{Kept}
-use Rattle.server_state.specs.Recorded.{Window}
+use Rattle.server_state.specs.Recorded.{Window, opened}
 use Rattle.definitions.specs.History.{Members}
 use Rattle.server_state.specs.Snapshots.{Snapshot}
 use Rattle.server_state.specs.Servers.{Server}
@@ -29,8 +32,16 @@ coded_members = coded_list (coded× coded_name coded_data)
 abbrev pub coded_snapshot : Coded Snapshot
 coded_snapshot = code_by (Members × ℕ) (coded× coded_members coded_ℕ) (λ s. (s.members, s.revision)) (λ p. record { members = p.0; revision = p.1 }) (λ _. refl)
 
+-- the windows of all kinds in a list, and back
+abbrev pub window_at : List Window → Kind → Window
+window_at ws k = unwrap_or (slice_get ws (rank k)) (opened k 0)
+
+pub window_at-listed : (f : Kind → Window) (k : Kind) → window_at (map f kinds) k ≡ f k
+window_at-listed f k = ap (λ o. unwrap_or o (opened k 0)) (slice_get-map f kinds (rank k) ∙ ap (option_map f) (kinds_at k))
+
+abbrev pub coded_windows : Coded (Kind → Window)
+coded_windows = code_by (List Window) (coded_list coded_window) (λ f. map f kinds) window_at (λ f. λ i. λ k. window_at-listed f k i)
+
 abbrev pub coded_server : Coded Server
 coded_server =
-    code_by (Snapshot × ((Window × Window) × (Window × Window))) (coded× coded_snapshot (coded× (coded× coded_window coded_window) (coded× coded_window coded_window)))
-    (λ s. (s.snapshot, ((s.config_maps, s.pods), (s.replica_sets, s.deployments))))
-    (λ p. record { snapshot = p.0; config_maps = p.1.0.0; pods = p.1.0.1; replica_sets = p.1.1.0; deployments = p.1.1.1 }) (λ _. refl)
+    code_by (Snapshot × (Kind → Window)) (coded× coded_snapshot coded_windows) (λ s. (s.snapshot, s.windows)) (λ p. record { snapshot = p.0; windows = p.1 }) (λ _. refl)

@@ -1,47 +1,37 @@
 -- A server: what is there, and a window of each kind, and what it answers by these in the place of a history.
-use Rattle.std.specs.Prelude.{◌≡◌, List, ℕ, ◌+◌, [], ◌∷◌, Option, Some, None, Result}
+use Rattle.std.specs.Prelude.{◌≡◌, ℕ, ◌+◌, ◌==◌, List, [], ◌∷◌, Option, Some, None, Result, if◌then◌else◌}
 use Rattle.std.specs.Result.{result_map_both}
 use Rattle.definitions.specs.declared.kinds.Kind.{Kind}
-use Rattle.definitions.specs.declared.kinds.Kind.TheVariants.{ConfigMap, Pod, ReplicaSet, Deployment}
+use Rattle.definitions.specs.declared.versions.At.{At}
+use Rattle.definitions.specs.Kinds.{rank}
 use Rattle.definitions.specs.History.{History, Write, write, compaction, View, viewed, found}
+use Rattle.definitions.specs.Collections.{ListOptions, WatchOptions}
 use Rattle.definitions.specs.Refusals.{Refusal}
 use Rattle.definitions.specs.Verbs.{Outcome}
+use Rattle.definitions.specs.Versions.{Listed, Watched, once_present, listed_at, watched}
 use Rattle.definitions.specs.Lists.{list_answer}
-use Rattle.definitions.specs.Collections.{ListOptions, WatchOptions}
 use Rattle.definitions.specs.Streams.{Line}
 use Rattle.definitions.specs.WatchReplies.{lines_by}
-use Rattle.server_state.specs.Snapshots.{Snapshot, empty, snapshot, written}
-use Rattle.definitions.specs.declared.versions.At.{At}
-use Rattle.definitions.specs.Versions.{Listed, Watched, once_present, listed_at, watched}
 use Rattle.definitions.specs.Windows.{Kept}
+use Rattle.server_state.specs.Snapshots.{Snapshot, empty, snapshot, written}
 use Rattle.server_state.specs.Recorded.{Window, opened, recorded, compacted_to, since_kept, list_kept, Tracks}
 
 -- what is there, and the last writes of each kind
 pub record Server : Type 0 where
   pub snapshot : Snapshot
-  pub config_maps : Window
-  pub pods : Window
-  pub replica_sets : Window
-  pub deployments : Window
+  pub windows : Kind → Window
 
 -- nothing is there at first, and each window has this size
 abbrev pub opened_server : ℕ → Server
-opened_server size =
-    record { snapshot = empty; config_maps = opened ConfigMap size; pods = opened Pod size; replica_sets = opened ReplicaSet size; deployments = opened Deployment size }
+opened_server size = record { snapshot = empty; windows = λ k. opened k size }
 
 -- the window of a kind
 abbrev pub window_of : Kind → Server → Window
-window_of ConfigMap s = s.config_maps
-window_of Pod s = s.pods
-window_of ReplicaSet s = s.replica_sets
-window_of Deployment s = s.deployments
+window_of k s = s.windows k
 
 -- with another window of the kind
 abbrev pub with_window : Kind → Window → Server → Server
-with_window ConfigMap w s = record s { config_maps = w }
-with_window Pod w s = record s { pods = w }
-with_window ReplicaSet w s = record s { replica_sets = w }
-with_window Deployment w s = record s { deployments = w }
+with_window k w s = record s { windows = λ j. if rank j == rank k then w else s.windows j }
 
 -- ---- what happens
 
@@ -60,14 +50,7 @@ after_writing s (Some w) = after_write s w
 
 -- a compaction to r moves the floor of each window
 abbrev pub after_compaction : Server → ℕ → Server
-after_compaction s r =
-    record {
-      snapshot = s.snapshot;
-      config_maps = compacted_to s.config_maps r;
-      pods = compacted_to s.pods r;
-      replica_sets = compacted_to s.replica_sets r;
-      deployments = compacted_to s.deployments r;
-    }
+after_compaction s r = record s { windows = λ k. compacted_to (s.windows k) r }
 
 -- after entries, one after another
 abbrev pub after_entries : Server → History → Server

@@ -42,7 +42,7 @@ fn a_watch_is_served_from_the_floor(rt: HostRuntime) -> Result<(), Fail> {
 fn a_compaction_moves_the_floor(rt: HostRuntime) -> Result<(), Fail> {
     let object = stored(rt.alloc(), Kind::ConfigMap, "{}")?;
     let mut cache = two_changes(rt.alloc(), &object)?;
-    cache.compact(3, 3)?;
+    cache.compact(3);
     assert_eq!(rt; cache.floor(), 3);
     Ok(())
 }

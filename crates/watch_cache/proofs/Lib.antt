@@ -1,4 +1,5 @@
 pub mod Rising
 pub mod Recorded
 pub mod Inserted
+pub mod KindWindows
 pub mod NewestUndone

@@ -40,14 +40,13 @@ impl Model for Cache {
 }
 
 impl Cache {
-    ghost use Rattle.std.specs.Prelude.{◌≡◌, ◌==◌, ◌≤◌, ◌<◌, IfOk, IsOk, Err, length, map};
+    ghost use Rattle.std.specs.Prelude.{◌≡◌, ◌==◌, ◌≤◌, ◌<◌, IfOk, length, map};
     ghost use Rattle.std.specs.List.Sorted.{IsStrictlySortedBy};
     ghost use Rattle.std.specs.Map.{keys_of};
     ghost use Rattle.definitions.specs.Names.{name_cmp};
     ghost use Rattle.server_state.specs.Recorded.{above, opened, recorded, compacted_to, since_kept, list_kept};
     ghost use Rattle.definitions.specs.Windows.{last_revision, within};
     ghost use Rattle.meta.specs.Members.{member_of};
-    ghost use Rattle.meta.specs.declared.faults.Fault.TheVariants as fault;
     ghost use Rattle.selector.specs.Views.{view_of};
     ghost use Rattle.revisions.specs.Events.{change_seen};
     ghost use Rattle.watch_cache.specs.Changes.{kept_seen};
@@ -98,22 +97,13 @@ impl Cache {
         self.floor = raised(self.floor, dropped);
     }
 
-    /// Serves nothing below a revision any more. The error is a revision above the present one, and changes nothing. It
-    /// takes no memory.
-    pub fn compact(&mut self, present: u64, revision: u64) -> Result<(), Fault>
-        ensures refused { present < revision → (result ≡ Err (fault.TooNew revision present)) × (self.new ≡ self.old) }
-        ensures ok { revision ≤ present → IsOk result × (self.new ≡ compacted_to self.old revision) }
+    /// Serves nothing below a revision any more. It takes no memory.
+    pub fn compact(&mut self, revision: u64)
+        ensures { self.new ≡ compacted_to self.old revision }
     {
-        if present < revision {
-            return Err(Fault::TooNew {
-                asked: revision,
-                present,
-            });
-        }
         if self.floor < revision {
             self.floor = revision;
         }
-        Ok(())
     }
 
     /// Whether a revision is served: it is at least the floor, and at most the present one. The errors say which it is

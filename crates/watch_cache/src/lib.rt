@@ -2,9 +2,11 @@
 #![tactic(auto)]
 
 mod cache;
+mod caches;
 pub mod changes;
 mod searching;
 mod undoing;
 
 pub use cache::Cache;
+pub use caches::Caches;
 pub use changes::Change;

@@ -2,5 +2,4 @@ use Rattle.desk.proofs.Windows.{stands_new}
 use Rattle.desk.proofs.servers.Server.new.Goals as goal
 
 pub invariant_of-result : goal.invariant_of-result
-invariant_of-result c =
-    stands_new c.args.window c.new.result c.in_ok-new.field-0 c.in_ok-new-2.field-0 c.in_ok-new-3.field-0 c.in_ok-new-4.field-0 c.new.ensures c.in_ok-new.ensures c.in_ok-new-2.ensures c.in_ok-new-3.ensures c.in_ok-new-4.ensures
+invariant_of-result c = stands_new c.args.window c.new.result c.in_ok-new.field-0 c.new.ensures c.in_ok-new.ensures

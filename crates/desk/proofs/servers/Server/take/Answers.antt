@@ -5,4 +5,4 @@ use Rattle.desk.proofs.servers.Server.take.Goals as goal
 pub invariant_of-self-2 : goal.invariant_of-self-2
 invariant_of-self-2 c =
     let s = c.self.inside in
-    stands_written s.store s.config_maps s.pods s.replica_sets s.deployments c.self.invariant c.apply.new.self (write_of c.args.write) c.in_ok-old.ensures.ok
+    stands_written s.store s.caches c.self.invariant c.apply.new.self (write_of c.args.write) c.in_ok-old.ensures.ok
