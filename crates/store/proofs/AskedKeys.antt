@@ -15,7 +15,7 @@ use Rattle.serde_json.specs.Data.{Data}
 use Rattle.definitions.specs.History.{View, Members, in_view, in_namespace, viewed}
 use Rattle.definitions.specs.Kinds.{rank, kind_after}
 use Rattle.definitions.proofs.KindOrder.{rank_after, last_rank}
-use Rattle.definitions.specs.Labels.{labels_of}
+use Rattle.definitions.specs.Metadata.{labels_of}
 use Rattle.definitions.specs.Lists.{is_selective}
 use Rattle.definitions.specs.Names.{Name, name_cmp}
 use Rattle.definitions.specs.Pages.{Place, is_after, after_place}

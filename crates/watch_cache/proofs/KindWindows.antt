@@ -4,8 +4,8 @@ use Rattle.std.proofs.lemmas.Option.{slice_get-map, slice_get-get_or, slice_get_
 use Rattle.std.proofs.lemmas.List.{get_or-set_same, get_or-set_other}
 use Rattle.definitions.specs.declared.kinds.Kind.{Kind}
 use Rattle.definitions.specs.Kinds.{kinds, rank, kinds_at}
-use Rattle.definitions.specs.ServerCodes.{window_at}
-use Rattle.definitions.specs.Windows.{Window, opened}
+use Rattle.server_state.specs.Codes.{window_at}
+use Rattle.server_state.specs.Recorded.{Window, opened}
 
 pub rank_within : (k : Kind) → rank k < length kinds
 rank_within k = slice_get_within kinds (rank k) k (kinds_at k)

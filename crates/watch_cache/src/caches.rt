@@ -16,8 +16,8 @@ impl Model for Caches {
     ghost use Rattle.std.specs.Prelude.{◌≡◌, length};
     ghost use Rattle.definitions.specs.declared.kinds.Kind as kind;
     ghost use Rattle.definitions.specs.Kinds.{kinds};
-    ghost use Rattle.definitions.specs.ServerCodes.{coded_windows, window_at};
-    ghost use Rattle.definitions.specs.Windows.{Window};
+    ghost use Rattle.server_state.specs.Codes.{coded_windows, window_at};
+    ghost use Rattle.server_state.specs.Recorded.{Window};
 
     ghost Value = { kind.Kind → Window };
 
@@ -31,7 +31,8 @@ impl Model for Caches {
 impl Caches {
     ghost use Rattle.std.specs.Prelude.{◌≡◌, ◌≤◌, ◌<◌, ◌==◌, IfOk, if◌then◌else◌};
     ghost use Rattle.definitions.specs.Kinds.{rank};
-    ghost use Rattle.definitions.specs.Windows.{last_revision, opened, recorded, compacted_to};
+    ghost use Rattle.definitions.specs.Windows.{last_revision};
+    ghost use Rattle.server_state.specs.Recorded.{opened, recorded, compacted_to};
     ghost use Rattle.watch_cache.specs.Changes.{kept_seen};
 
     /// Makes a cache of each kind that keeps the last `window` changes and has none so far. The error is out of memory.

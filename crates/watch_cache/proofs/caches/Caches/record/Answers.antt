@@ -1,7 +1,7 @@
 use Rattle.std.proofs.Common.{rules, ◌≡◌, ◌==◌, set, get_or, cond, sym, ap, ◌∙◌}
 use Rattle.definitions.specs.Kinds.{rank}
-use Rattle.definitions.specs.ServerCodes.{window_at}
-use Rattle.definitions.specs.Windows.{recorded}
+use Rattle.server_state.specs.Codes.{window_at}
+use Rattle.server_state.specs.Recorded.{recorded}
 use Rattle.watch_cache.specs.Changes.{kept_seen}
 use Rattle.watch_cache.proofs.KindWindows.{at_place, at_set}
 use Rattle.watch_cache.proofs.caches.Caches.record.Goals as goal
