@@ -199,14 +199,14 @@ impl Kind {
         self.facts().resource
     }
 
-    /// Whether its objects have a status, at a path of its own.
+    /// Returns whether its objects have a status, at a path of its own.
     pub fn has_status(self) -> bool
         ensures { result ≡ has_status self }
     {
         self.facts().has_status
     }
 
-    /// Whether the server counts changes of its objects' specs in `metadata.generation`.
+    /// Returns whether the server counts changes of its objects' specs in `metadata.generation`.
     pub fn has_generation(self) -> bool
         ensures { result ≡ has_generation self }
     {

@@ -1,7 +1,7 @@
 //! What watches are given.
 ghost use Rattle.std.specs.Prelude.{◌≡◌, map};
 ghost use Rattle.definitions.specs.Versions.{last_change};
-ghost use Rattle.revisions.specs.Events.{change_seen};
+ghost use Rattle.revisions.specs.Events.{event_seen};
 
 use crate::servers::Server;
 use meta::Fault;
@@ -21,14 +21,14 @@ pub struct Watched {
 impl Server {
     ghost use Rattle.std.specs.Prelude.{◌+◌, map};
     ghost use Rattle.server_state.specs.Servers.{watch_by, window_of};
-    ghost use Rattle.server_state.specs.Recorded.{since_kept};
-    ghost use Rattle.revisions.specs.Events.{change_seen};
+    ghost use Rattle.server_state.specs.Recorded.{recorded_since};
+    ghost use Rattle.revisions.specs.Events.{event_seen};
     ghost use Rattle.selector.specs.Views.{view_of};
     ghost use Rattle.watch_cache.specs.Served.{Serves};
     ghost use Rattle.desk.specs.Seen.{watched_of};
 
-    /// The first changes of a view after a revision, at most `max`, which may be any number. The errors are a revision below
-    /// what is kept, one above the present, and want of memory. A revision that is refused takes no memory.
+    /// Returns the first changes of a view after a revision, at most `max`, which may be any number. The errors are a revision
+    /// below what is kept, one above the present, and running out of memory. A revision that is refused takes no memory.
     pub fn watch_from(
         &self,
         alloc: Global,
@@ -51,8 +51,8 @@ impl Server {
         Ok(Watched { events, stands })
     }
 
-    /// The first changes of a view after a revision, at most `max` and one more, which tells whether there is more. Where
-    /// no number is greater than `max`, no cache has more changes.
+    /// Returns the first changes of a view after a revision, at most `max` and one more, which tells whether there is more.
+    /// Where no number is greater than `max`, no cache has more changes.
     fn one_more(
         &self,
         alloc: Global,
@@ -60,8 +60,8 @@ impl Server {
         after: u64,
         max: usize,
     ) -> Result<Vec<Event>, Fault>
-        ensures { Serves (λ es. map change_seen es.items)
-            (since_kept (window_of view.now.kind self.now) self.now.snapshot.revision (view_of view.now) after (max + 1)) result }
+        ensures { Serves (λ es. map event_seen es.items)
+            (recorded_since (window_of view.now.kind self.now) self.now.snapshot.revision (view_of view.now) after (max + 1)) result }
     {
         let cache = self.cache(view.kind);
         // says that no more changes are kept than there is room for
@@ -70,10 +70,10 @@ impl Server {
     }
 }
 
-/// The revision of the last event; without any, that after which they come. A watch that stands above it has seen more
+/// Returns the revision of the last event; without any, that after which they come. A watch that stands above it has seen more
 /// than it was given.
 pub fn last_revision(events: &[Event], after: u64) -> u64
-    ensures { result ≡ last_change after (map change_seen events.now) }
+    ensures { result ≡ last_change after (map event_seen events.now) }
 {
     match events.last() {
         None => after,

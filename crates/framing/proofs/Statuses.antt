@@ -4,7 +4,7 @@ use Rattle.serde_json.specs.Data.{number, unsigned, string, object, no_members, 
 use Rattle.serde_json.specs.Written.{has_float}
 use Rattle.definitions.specs.declared.kinds.Kind.{Kind}
 use Rattle.definitions.specs.Kinds.{group_name, plural}
-use Rattle.definitions.specs.Names.{Name}
+use Rattle.definitions.specs.Keys.{Key}
 use Rattle.definitions.specs.Refusals.{Refusal, code, message, told, details, with_optional, status_body}
 
 details_clean : (kind : Kind) (ns name : List ℕ) → has_float (details (record { kind = kind; namespace = ns; name = name }) no_members) ≡ false
@@ -18,7 +18,7 @@ details_clean kind ns name = by (length (group_name kind) == 0)
     by true = refl
     by false = refl
 
-clean : (n : ℕ) (said why : List ℕ) (o : Option Name)
+clean : (n : ℕ) (said why : List ℕ) (o : Option Key)
     → has_float
     (object
     (member (codes "apiVersion") (string (codes "v1"))

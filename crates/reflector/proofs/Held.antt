@@ -3,7 +3,7 @@ use Rattle.std.proofs.Common.{◌≡◌, ◌<◌, ◌≤◌, ◌-◌, ℕ, List,
 use Rattle.controllers.specs.declared.frame_fault.FrameFault.{FrameFault}
 use Rattle.controllers.specs.declared.frame_fault.FrameFault.TheVariants.{TooLong}
 use Rattle.controllers.specs.declared.reflectors.End.{End}
-use Rattle.definitions.specs.Frames.{Event}
+use Rattle.definitions.specs.Frames.{Frame}
 use Rattle.controllers.specs.ReadFrames.{Read, read_lines, line_read, next, holding, failed, lines, rest, reading, longest_frame}
 use Rattle.framing.specs.Decoders.{given}
 use Rattle.reflector.specs.Pieces.{kept_after}
@@ -12,7 +12,7 @@ left_short : (q : List ℕ) (b : Bool) → nat_lt (length q) longest_frame ≡ b
 left_short q true e = grind arith
 left_short q false e = omega arith
 
-next_short : (o : Result Event FrameFault) (r : Read) → length r.held < longest_frame → length (next o r).held < longest_frame
+next_short : (o : Result Frame FrameFault) (r : Read) → length r.held < longest_frame → length (next o r).held < longest_frame
 next_short (Ok e) r h = h
 next_short (Err f) r h = omega arith
 
@@ -27,7 +27,7 @@ kept_less : (e : Option End) (n : ℕ) → n < longest_frame → kept_after e n 
 kept_less (Some e) n h = omega arith
 kept_less None n h = h
 
-pub kept_short : (es : List Event) (bytes : List ℕ) (fault : Option FrameFault) (n : ℕ) (e : Option End) (r : ℕ) → n ≤ length bytes → given es (drop (length bytes - n) bytes) fault ≡ reading bytes → r ≡ kept_after e n
+pub kept_short : (es : List Frame) (bytes : List ℕ) (fault : Option FrameFault) (n : ℕ) (e : Option End) (r : ℕ) → n ≤ length bytes → given es (drop (length bytes - n) bytes) fault ≡ reading bytes → r ≡ kept_after e n
     → r < longest_frame
 kept_short es bytes fault n e r le h is =
     let held : length (drop (length bytes - n) bytes) ≡ length (reading bytes).held = ap (λ (z : Read). length z.held) h in

@@ -56,14 +56,14 @@ fn is_count(object: &Object, name: &str) -> bool
     }
 }
 
-/// Whether none of these counts in the status of an object is negative.
+/// Returns whether none of these counts in the status of an object is negative.
 fn are_counts(object: &Object, names: &[&str]) -> bool
     ensures { result ≡ list_all (λ name. is_not_negative (in_status name.now object.now.value)) names.now }
 {
     names.iter().all(|name| is_count(object, name))
 }
 
-/// Whether no count in the status of an object, as one of a kind, is negative.
+/// Returns whether no count in the status of an object, as one of a kind, is negative.
 pub fn is_status_valid(kind: Kind, object: &Object) -> bool
     ensures { result ≡ is_status_valid kind object.now.value }
 {

@@ -33,7 +33,7 @@ impl Caches {
     ghost use Rattle.definitions.specs.Kinds.{rank};
     ghost use Rattle.definitions.specs.Windows.{last_revision};
     ghost use Rattle.server_state.specs.Recorded.{opened, recorded, compacted_to};
-    ghost use Rattle.watch_cache.specs.Changes.{kept_seen};
+    ghost use Rattle.watch_cache.specs.Changes.{change_seen};
 
     /// Makes a cache of each kind that keeps the last `window` changes and has none so far. The error is out of memory.
     pub fn new(alloc: Global, window: usize) -> Result<Caches, AllocError>
@@ -57,7 +57,7 @@ impl Caches {
     pub fn record(&mut self, change: Change)
         requires { last_revision 0 (self.old change.key.kind).kept < change.revision }
         ensures { self.new ≡ (λ k. if rank k == rank change.key.kind
-            then recorded (self.old change.key.kind) (kept_seen change) else self.old k) }
+            then recorded (self.old change.key.kind) (change_seen change) else self.old k) }
     {
         let place = change.key.kind.rank();
         self.caches[place].record(change);

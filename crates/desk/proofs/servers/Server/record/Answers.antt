@@ -1,6 +1,6 @@
 use Rattle.std.proofs.Common.{◌≡◌, ap, arith}
 use Rattle.server_state.specs.Servers.{Server}
-use Rattle.watch_cache.specs.Changes.{kept_seen}
+use Rattle.watch_cache.specs.Changes.{change_seen}
 use Rattle.desk.proofs.Windows.{stands_recorded}
 use Rattle.desk.proofs.servers.Server.record.Goals as goal
 
@@ -8,4 +8,4 @@ pub invariant_of-self : goal.invariant_of-self
 invariant_of-self c =
     let s = c.self.inside in
     let same : s.store.revision ≡ c.args.self.now.snapshot.revision = ap (λ (z : Server). z.snapshot.revision) c.self.view_is in
-    stands_recorded s.store s.caches c.self.invariant c.record.new.self c.args.change.key.kind (kept_seen c.args.change) c.record.ensures (omega (arith, same, c.requires.present))
+    stands_recorded s.store s.caches c.self.invariant c.record.new.self c.args.change.key.kind (change_seen c.args.change) c.record.ensures (omega (arith, same, c.requires.present))

@@ -2,7 +2,7 @@ use Rattle.std.proofs.Common.{rules, ◌≡◌, ◌==◌, set, get_or, cond, sym
 use Rattle.definitions.specs.Kinds.{rank}
 use Rattle.server_state.specs.Codes.{window_at}
 use Rattle.server_state.specs.Recorded.{recorded}
-use Rattle.watch_cache.specs.Changes.{kept_seen}
+use Rattle.watch_cache.specs.Changes.{change_seen}
 use Rattle.watch_cache.proofs.KindWindows.{at_place, at_set}
 use Rattle.watch_cache.proofs.caches.Caches.record.Goals as goal
 
@@ -10,7 +10,7 @@ pub returns : goal.returns
 returns c =
     let ws = c.self.inside.caches.items in
     let k = c.args.change.key.kind in
-    let e = kept_seen c.args.change in
+    let e = change_seen c.args.change in
     let w = c.index_mut.result.now in
     let found : w ≡ get_or ws (rank k) w = search rules in
     let old : window_at ws k ≡ w = at_place ws k w c.self.invariant found in
