@@ -12,7 +12,7 @@ use validate::defaults;
 
 /// Returns what a body says as an object of a kind, with what is filled in where its spec leaves it out. The errors are the
 /// part of the request at fault, and running out of memory.
-pub fn said(alloc: Global, kind: Kind, body: Value) -> Result<Object, Fault>
+pub fn object_in(alloc: Global, kind: Kind, body: Value) -> Result<Object, Fault>
     ensures object_in { IfOk result (λ o. object_in kind (view body) ≡ Ok o.value) }
     ensures kind { IfOk result (λ o. o.kind ≡ kind) }
     ensures refused { IfErr result (RefusesSaid kind (view body)) }

@@ -9,7 +9,7 @@ ghost use Rattle.answers.specs.Serves.{Serves};
 
 use crate::limits::is_too_large;
 use crate::stored_texts::stored_with_text;
-use lifecycle::is_let_go;
+use lifecycle::is_finalized;
 use meta::{Fault, Key, Object, StoredObject, Write};
 use reply::Reply;
 use std::alloc::{AllocError, Global};
@@ -77,7 +77,7 @@ pub fn replaced(
     ensures { Serves (if is_finalized existing.now.value object.now.value then take_out (key_of key) object.now.value before
         else put_in_place (key_of key) object.now.value before) result }
 {
-    if !is_let_go(existing, object) {
+    if !is_finalized(existing, object) {
         return put_in_place(alloc, key, object, before);
     }
     let text = object.text(alloc)?;

@@ -14,7 +14,7 @@ pub enum Policy {
 
 /// What is said of a policy.
 #[derive(Clone, Copy, Debug, PartialEq, Eq)]
-pub enum PolicySaid {
+pub enum StatedPolicy {
     Nothing,
     Named(Policy),
     /// A name that no policy has.
@@ -38,20 +38,20 @@ impl Policy {
     }
 }
 
-impl PolicySaid {
+impl StatedPolicy {
     ghost use Rattle.std.specs.Prelude.{◌≡◌, option_map};
     ghost use Rattle.definitions.specs.DeleteOptions.{stated_policy};
 
     /// Returns what a text, where there is one, says of a policy.
-    pub fn read(text: Option<&str>) -> PolicySaid
+    pub fn read(text: Option<&str>) -> StatedPolicy
         ensures { result ≡ stated_policy (option_map (λ s. s.now) text.entry) }
     {
         let Some(name) = text else {
-            return PolicySaid::Nothing;
+            return StatedPolicy::Nothing;
         };
         match Policy::named(name) {
-            Some(policy) => PolicySaid::Named(policy),
-            None => PolicySaid::Unknown,
+            Some(policy) => StatedPolicy::Named(policy),
+            None => StatedPolicy::Unknown,
         }
     }
 }

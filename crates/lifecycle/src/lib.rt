@@ -8,4 +8,4 @@ mod updates;
 
 pub use fates::{DeleteFault, Fate, decide_delete};
 pub use options::DeleteOptions;
-pub use updates::{after_update, is_let_go};
+pub use updates::{after_update, is_finalized};

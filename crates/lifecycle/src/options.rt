@@ -6,7 +6,7 @@ ghost use Rattle.definitions.specs.DeleteOptions.{options_of, options_with, prec
 ghost use Rattle.definitions.specs.Metadata.{text_at};
 ghost use Rattle.lifecycle.specs.Options.{ReadsOptions};
 
-use definitions::policies::{Policy, PolicySaid};
+use definitions::policies::{Policy, StatedPolicy};
 use definitions::refusals::Part;
 use definitions::schemas::{Schema, Shape};
 use meta::Fault;
@@ -50,7 +50,7 @@ impl DeleteOptions {
 
     /// Returns the options of a delete without a body, by what its query says of the policy. The error is `Part::Query` for an
     /// unknown one.
-    pub fn from_query(said: PolicySaid) -> Result<DeleteOptions, Fault>
+    pub fn from_query(said: StatedPolicy) -> Result<DeleteOptions, Fault>
         ensures { ReadsOptions (options_with part.Query None None said) result }
     {
         with_policy(Part::Query, None, None, said)
@@ -76,10 +76,10 @@ fn precondition(alloc: Global, value: &Value, name: &str) -> Result<Option<Strin
     }
 }
 
-fn policy_said(value: &Value) -> PolicySaid
+fn policy_said(value: &Value) -> StatedPolicy
     ensures { result ≡ stated_policy (text_at (codes "propagationPolicy") (view value.now)) }
 {
-    PolicySaid::read(text_at(value, "propagationPolicy"))
+    StatedPolicy::read(text_at(value, "propagationPolicy"))
 }
 
 /// Returns the options with what is said of the policy, or the part of the request that says it wrong.
@@ -87,14 +87,14 @@ fn with_policy(
     part: Part,
     uid: Option<String>,
     version: Option<String>,
-    said: PolicySaid,
+    said: StatedPolicy,
 ) -> Result<DeleteOptions, Fault>
     ensures { ReadsOptions (options_with part (option_map string_bytes uid) (option_map string_bytes version) said) result }
 {
     let policy = match said {
-        PolicySaid::Nothing => None,
-        PolicySaid::Named(policy) => Some(policy),
-        PolicySaid::Unknown => return Err(Fault::BadRequest(part)),
+        StatedPolicy::Nothing => None,
+        StatedPolicy::Named(policy) => Some(policy),
+        StatedPolicy::Unknown => return Err(Fault::BadRequest(part)),
     };
     Ok(DeleteOptions {
         uid,

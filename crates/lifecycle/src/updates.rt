@@ -13,7 +13,7 @@ use std::alloc::{AllocError, Global};
 ///
 /// Whether it is being deleted is asked of the stored object, since no update begins or ends a deletion; what
 /// finalizers are left is asked of the one in its place.
-pub fn is_let_go(existing: &Object, object: &Object) -> bool
+pub fn is_finalized(existing: &Object, object: &Object) -> bool
     ensures { result ≡ is_finalized existing.now.value object.now.value }
 {
     existing.is_being_deleted() && object.metadata_member("finalizers").is_none()
@@ -29,7 +29,7 @@ pub fn after_update(
 ) -> Result<Write, AllocError>
     ensures { IfOk result (λ w. write_of w ≡ after_update (key_of key) existing.now.value object.now.value) }
 {
-    let put = if is_let_go(existing, object) {
+    let put = if is_finalized(existing, object) {
         None
     } else {
         Some(StoredObject::new(alloc, object)?)

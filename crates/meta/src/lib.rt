@@ -5,7 +5,7 @@ pub mod drafts;
 pub mod faults;
 pub mod finalizers;
 pub(crate) mod items;
-pub(crate) mod kept;
+pub(crate) mod stored_texts;
 pub mod keys;
 pub(crate) mod labels;
 pub mod lent_members;

@@ -6,7 +6,7 @@ ghost use Rattle.serde_json.specs.Written.{has_float, compact_text, IsInOrder};
 ghost use Rattle.definitions.specs.Metadata.{label};
 ghost use Rattle.definitions.specs.Verbs.{as_item};
 
-use crate::kept::Kept;
+use crate::stored_texts::StoredTexts;
 use crate::objects::Object;
 use definitions::kinds::Kind;
 use std::alloc::{AllocError, Global};
@@ -17,7 +17,7 @@ use std::sync::Arc;
 /// compared.
 #[derive(Drop)]
 pub struct StoredObject {
-    kept: Arc<Kept, Global>,
+    kept: Arc<StoredTexts, Global>,
 }
 
 impl Model for StoredObject {
@@ -37,7 +37,7 @@ impl StoredObject {
     pub fn new(alloc: Global, object: &Object) -> Result<StoredObject, AllocError>
         ensures { IfOk result (λ s. s ≡ object.now) }
     {
-        let kept = Arc::new(alloc, Kept::new(alloc, object)?)?;
+        let kept = Arc::new(alloc, StoredTexts::new(alloc, object)?)?;
         Ok(StoredObject { kept })
     }
 

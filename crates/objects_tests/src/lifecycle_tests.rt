@@ -1,7 +1,7 @@
 //! Deletes and updates of what is being deleted, as the documentation of Kubernetes has them.
 use crate::fixtures::{key, object};
 use definitions::kinds::Kind;
-use definitions::policies::{Policy, PolicySaid};
+use definitions::policies::{Policy, StatedPolicy};
 use lifecycle::{DeleteFault, DeleteOptions, Fate, after_update, decide_delete};
 use meta::Object;
 use serde_json::Value;
@@ -27,7 +27,7 @@ fn options_are_read(rt: HostRuntime) -> Result<(), Fail> {
 
 #[test]
 fn a_query_names_a_policy(rt: HostRuntime) -> Result<(), Fail> {
-    let named = DeleteOptions::from_query(PolicySaid::Named(Policy::Foreground))?;
+    let named = DeleteOptions::from_query(StatedPolicy::Named(Policy::Foreground))?;
     assert!(rt; named.policy == Some(Policy::Foreground));
     Ok(())
 }

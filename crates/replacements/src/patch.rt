@@ -9,9 +9,9 @@ ghost use Rattle.definitions.proofs.VerbSteps.{patch_read};
 ghost use Rattle.meta.specs.Keys.{key_of};
 ghost use Rattle.answers.specs.Serves.{Serves};
 
-use crate::existing::Held;
-use crate::update::replace_held;
-use answers::bodies::said;
+use crate::existing::Existing;
+use crate::update::replace_existing;
+use answers::bodies::object_in;
 use answers::names_given::names_path;
 use definitions::refusals::Part;
 use meta::reading::is_body;
@@ -36,7 +36,7 @@ pub fn patch(
     match store.get(&key) {
         None => Err(Fault::NotFound(key)),
         Some(kept) => {
-            let existing = Held::open(alloc, kept)?;
+            let existing = Existing::open(alloc, kept)?;
             patch_held(alloc, key, body, store.revision(), &existing)
         }
     }
@@ -48,16 +48,16 @@ fn patch_held(
     key: Key,
     body: Value,
     before: u64,
-    existing: &Held<'_>,
+    existing: &Existing<'_>,
 ) -> Result<(Reply, Option<Write>), Fault>
     requires { before ≤ greatest_revision }
     ensures { Serves (patch_read (key_of key) before existing.now.object.value (object_in key.kind (merged existing.now.object.value (view body)))) result }
 {
     let target = existing.object.try_copy()?.into_value();
     let changed = merge(alloc, body, target)?;
-    let object = said(alloc, key.kind, changed)?;
+    let object = object_in(alloc, key.kind, changed)?;
     if !names_path(&key, &object) {
         return Err(Fault::BadRequest(Part::Object));
     }
-    replace_held(alloc, key, object, before, existing)
+    replace_existing(alloc, key, object, before, existing)
 }

@@ -11,7 +11,7 @@ ghost use Rattle.definitions.proofs.VerbSteps.{restate};
 ghost use Rattle.meta.specs.Keys.{key_of};
 ghost use Rattle.answers.specs.Serves.{Serves};
 
-use crate::existing::Held;
+use crate::existing::Existing;
 use answers::first_status::first_status;
 use answers::generations::at_revision;
 use answers::names_given::{mismatch, names_path};
@@ -45,7 +45,7 @@ pub fn update_status(
     match store.get(&key) {
         None => Err(Fault::NotFound(key)),
         Some(kept) => {
-            let existing = Held::open(alloc, kept)?;
+            let existing = Existing::open(alloc, kept)?;
             restate_with(alloc, key, object, store.revision(), &existing)
         }
     }
@@ -57,7 +57,7 @@ fn restate_with(
     key: Key,
     object: Object,
     before: u64,
-    existing: &Held<'_>,
+    existing: &Existing<'_>,
 ) -> Result<(Reply, Option<Write>), Fault>
     requires { before ≤ greatest_revision }
     ensures { Serves (replace_status (key_of key) object.value before existing.now.object.value) result }
@@ -104,7 +104,7 @@ fn with_said_status(
 fn restate(
     alloc: Global,
     key: Key,
-    existing: &Held<'_>,
+    existing: &Existing<'_>,
     object: Object,
     before: u64,
 ) -> Result<(Reply, Option<Write>), Fault>

@@ -11,8 +11,8 @@ ghost use Rattle.definitions.proofs.VerbSteps.{replace_with, replace_changed};
 ghost use Rattle.meta.specs.Keys.{key_of};
 ghost use Rattle.answers.specs.Serves.{Serves};
 
-use crate::existing::Held;
-use answers::bodies::said;
+use crate::existing::Existing;
+use answers::bodies::object_in;
 use answers::generations::updated;
 use answers::names_given::{mismatch, names_path};
 use answers::placing::{replaced, unchanged};
@@ -33,7 +33,7 @@ pub fn update(
 ) -> Result<(Reply, Option<Write>), Fault>
     ensures { (moment : List ℕ) → Serves (accept_at (update_object (key_of key) (view body)) store.now.members store.now.revision moment) result }
 {
-    let object = said(alloc, key.kind, body)?;
+    let object = object_in(alloc, key.kind, body)?;
     if !names_path(&key, &object) {
         return Err(Fault::BadRequest(Part::Object));
     }
@@ -55,17 +55,17 @@ fn replace(
     requires kind { object.kind ≡ key.kind }
     ensures { Serves (replace (key_of key) object.value before kept.now.value) result }
 {
-    let existing = Held::open(alloc, kept)?;
-    replace_held(alloc, key, object, before, &existing)
+    let existing = Existing::open(alloc, kept)?;
+    replace_existing(alloc, key, object, before, &existing)
 }
 
 /// Returns an object in the place of the stored one, if that is the one that it names.
-pub(crate) fn replace_held(
+pub(crate) fn replace_existing(
     alloc: Global,
     key: Key,
     object: Object,
     before: u64,
-    existing: &Held<'_>,
+    existing: &Existing<'_>,
 ) -> Result<(Reply, Option<Write>), Fault>
     requires revision { before ≤ greatest_revision }
     requires kind { object.kind ≡ key.kind }
@@ -122,7 +122,7 @@ fn in_place(alloc: Global, object: Object, existing: &Object) -> Result<Object, 
 fn replace_with(
     alloc: Global,
     key: Key,
-    existing: &Held<'_>,
+    existing: &Existing<'_>,
     object: Object,
     before: u64,
 ) -> Result<(Reply, Option<Write>), Fault>
@@ -139,7 +139,7 @@ fn replace_with(
 fn replace_changed(
     alloc: Global,
     key: Key,
-    existing: &Held<'_>,
+    existing: &Existing<'_>,
     object: Object,
     before: u64,
 ) -> Result<(Reply, Option<Write>), Fault>

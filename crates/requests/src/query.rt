@@ -14,7 +14,7 @@ use crate::collections::{Collection, read_collection};
 use crate::faults::QueryFault;
 use crate::members::{Names, has_any, member};
 use definitions::methods::Method;
-use definitions::policies::PolicySaid;
+use definitions::policies::StatedPolicy;
 use routes::targets::Target;
 use std::alloc::{AllocError, Global};
 
@@ -24,32 +24,32 @@ pub struct Query {
     /// Which objects of a collection are asked for, and what of them.
     pub collection: Collection,
     /// What is said of what becomes of the dependents of a deleted object.
-    pub policy: PolicySaid,
+    pub policy: StatedPolicy,
 }
 
 /// Returns the query of a list or a watch.
 fn collection_query(alloc: Global, query: &[u8]) -> Result<Query, QueryFault>
-    ensures { Gives query_seen (result_map_both (λ c. record { collection = c; policy = PolicySaid.Nothing }) (λ p. p) (collection_of (raw_pairs query.now))) result }
+    ensures { Gives query_seen (result_map_both (λ c. record { collection = c; policy = StatedPolicy.Nothing }) (λ p. p) (collection_of (raw_pairs query.now))) result }
 {
     let collection = read_collection(alloc, query)?;
     Ok(Query {
         collection,
-        policy: PolicySaid::Nothing,
+        policy: StatedPolicy::Nothing,
     })
 }
 
 /// Returns what is said of a delete's policy.
-fn policy(alloc: Global, query: &[u8]) -> Result<PolicySaid, AllocError>
+fn policy(alloc: Global, query: &[u8]) -> Result<StatedPolicy, AllocError>
     ensures { IfOk result (λ said. said ≡ stated_policy (member (codes "propagationPolicy") (raw_pairs query.now))) }
 {
     match member(alloc, query, "propagationPolicy")? {
-        Some(name) => Ok(PolicySaid::read(Some(name.as_str()))),
-        None => Ok(PolicySaid::read(None)),
+        Some(name) => Ok(StatedPolicy::read(Some(name.as_str()))),
+        None => Ok(StatedPolicy::read(None)),
     }
 }
 
 /// Returns a query of which nothing counts but what is said of a delete's policy.
-fn only_policy(alloc: Global, query: &[u8], policy: PolicySaid) -> Result<Query, QueryFault>
+fn only_policy(alloc: Global, query: &[u8], policy: StatedPolicy) -> Result<Query, QueryFault>
     ensures { Gives query_seen (only_policy (raw_pairs query.now) policy) result }
 {
     if has_any(alloc, query, Names::Refused)? {
@@ -93,6 +93,6 @@ pub fn read_query(
     match (method, route) {
         (Method::Get, Target::Collection(_, _)) => collection_query(alloc, query),
         (Method::Delete, _) => delete_query(alloc, query),
-        _ => only_policy(alloc, query, PolicySaid::Nothing),
+        _ => only_policy(alloc, query, StatedPolicy::Nothing),
     }
 }

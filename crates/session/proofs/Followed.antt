@@ -19,22 +19,22 @@ use Rattle.definitions.specs.Versions.{Listed, list_for, compacts}
 use Rattle.definitions.specs.WatchReplies.{watch_lines}
 use Rattle.laws.proofs.HeldAnswers.{pages_held, lines_held}
 use Rattle.laws.proofs.HeldHistories.{opened_holds, accepted_holds, compaction_holds}
-use Rattle.session.specs.Held.{Held, accepted, reply_for, reply_to, server_from, server_or, held_after, compact_text}
+use Rattle.session.specs.SessionStates.{SessionState, accepted, reply_for, reply_to, server_from, server_or, state_after, compact_text}
 use Rattle.session.specs.Laws.{Follows, SessionsFollow}
 
 -- ---- what is asked
 
 -- a request is answered the same
-same_outcome : (held : Held) (s : answers.Session) → Follows held s → (q : Request) → accepted held q ≡ accept q s.history s.moment
-same_outcome held s is q =
-    ap (λ m. accept_at q held.server.snapshot.members held.server.snapshot.revision m) is.1 ∙ (accepted_holds s.window held.server s.history q s.moment is.0).0
+same_outcome : (state : SessionState) (s : answers.Session) → Follows state s → (q : Request) → accepted state q ≡ accept q s.history s.moment
+same_outcome state s is q =
+    ap (λ m. accept_at q state.server.snapshot.members state.server.snapshot.revision m) is.1 ∙ (accepted_holds s.window state.server s.history q s.moment is.0).0
 
 -- and all else that is asked
-same_reply : (held : Held) (s : answers.Session) → Follows held s → (a : Result Asked Refusal) → reply_for held a ≡ answers.reply_for s a
-same_reply held s is (Err f) = refl
-same_reply held s is (Ok (request q)) = ap outcome (same_outcome held s is q)
-same_reply held s is (Ok (list v o)) = ap outcome (pages_held s.window held.server s.history v o is.0)
-same_reply held s is (Ok (watch v o)) = ap (watch_reply v.kind) (lines_held s.window held.server s.history v o is.0)
+same_reply : (state : SessionState) (s : answers.Session) → Follows state s → (a : Result Asked Refusal) → reply_for state a ≡ answers.reply_for s a
+same_reply state s is (Err f) = refl
+same_reply state s is (Ok (request q)) = ap outcome (same_outcome state s is q)
+same_reply state s is (Ok (list v o)) = ap outcome (pages_held s.window state.server s.history v o is.0)
+same_reply state s is (Ok (watch v o)) = ap (watch_reply v.kind) (lines_held s.window state.server s.history v o is.0)
 
 -- lists and watches write nothing
 list_still : (v : View) (o : ListOptions) (size : ℕ) (s : Server) (h : History) (served listed : Result Listed Refusal) → IsServerAfter size s h
@@ -52,16 +52,16 @@ watch_still k size s h (Ok ls) (Err g) is = is
 watch_still k size s h (Ok ls) (Ok ms) is = is
 
 -- what is held after what is asked
-holds_after : (held : Held) (s : answers.Session) → Follows held s → (a : Result Asked Refusal)
-    → IsServerAfter s.window (server_from held.server (reply_for held a)) (history_from s.history (answers.reply_for s a))
-holds_after held s is (Err f) = is.0
-holds_after held s is (Ok (request q)) =
-    subst (λ o. IsServerAfter s.window (after_writing held.server (write_of o)) (history_after s.history (accept q s.history s.moment))) (sym (same_outcome held s is q))
-    (accepted_holds s.window held.server s.history q s.moment is.0).1
-holds_after held s is (Ok (list v o)) =
-    list_still v o s.window held.server s.history (list_by held.server v o.at) (list_for s.window s.history v o.at) is.0
-holds_after held s is (Ok (watch v o)) =
-    watch_still v.kind s.window held.server s.history (watch_served held.server v o) (watch_lines s.window s.history v o) is.0
+holds_after : (state : SessionState) (s : answers.Session) → Follows state s → (a : Result Asked Refusal)
+    → IsServerAfter s.window (server_from state.server (reply_for state a)) (history_from s.history (answers.reply_for s a))
+holds_after state s is (Err f) = is.0
+holds_after state s is (Ok (request q)) =
+    subst (λ o. IsServerAfter s.window (after_writing state.server (write_of o)) (history_after s.history (accept q s.history s.moment))) (sym (same_outcome state s is q))
+    (accepted_holds s.window state.server s.history q s.moment is.0).1
+holds_after state s is (Ok (list v o)) =
+    list_still v o s.window state.server s.history (list_by state.server v o.at) (list_for s.window s.history v o.at) is.0
+holds_after state s is (Ok (watch v o)) =
+    watch_still v.kind s.window state.server s.history (watch_served state.server v o) (watch_lines s.window s.history v o) is.0
 
 -- ---- compactions
 
@@ -80,24 +80,24 @@ holds_compacted size s h (Ok t) (Ok more) e is = e
 
 -- ---- lines
 
-same_line : (held : Held) (s : answers.Session) → Follows held s → (l : Line) → reply_to held l ≡ lines.reply_to s l
-same_line held s is (ask method target body) = ap reply_text (same_reply held s is (read_request method target body))
-same_line held s is (at moment) = refl
-same_line held s is (compact r) = same_compaction s.window (compact_by held.server r) (compacts s.history r) (compaction_holds s.window held.server s.history r is.0)
-same_line held s is unreadable = refl
+same_line : (state : SessionState) (s : answers.Session) → Follows state s → (l : Line) → reply_to state l ≡ lines.reply_to s l
+same_line state s is (ask method target body) = ap reply_text (same_reply state s is (read_request method target body))
+same_line state s is (at moment) = refl
+same_line state s is (compact r) = same_compaction s.window (compact_by state.server r) (compacts s.history r) (compaction_holds s.window state.server s.history r is.0)
+same_line state s is unreadable = refl
 
-follows_line : (held : Held) (s : answers.Session) → Follows held s → (l : Line) → Follows (held_after held l) (lines.session_after s l)
-follows_line held s is (ask method target body) = (holds_after held s is (read_request method target body), is.1)
-follows_line held s is (at moment) = (is.0, refl)
-follows_line held s is (compact r) =
-    (holds_compacted s.window held.server s.history (compact_by held.server r) (compacts s.history r) (compaction_holds s.window held.server s.history r is.0) is.0, is.1)
-follows_line held s is unreadable = is
+follows_line : (state : SessionState) (s : answers.Session) → Follows state s → (l : Line) → Follows (state_after state l) (lines.session_after s l)
+follows_line state s is (ask method target body) = (holds_after state s is (read_request method target body), is.1)
+follows_line state s is (at moment) = (is.0, refl)
+follows_line state s is (compact r) =
+    (holds_compacted s.window state.server s.history (compact_by state.server r) (compacts s.history r) (compaction_holds s.window state.server s.history r is.0) is.0, is.1)
+follows_line state s is unreadable = is
 
-same_if : (empty : Bool) (held : Held) (s : answers.Session) → Follows held s → (l : Line)
-    → ((if empty then [] else reply_to held l) ≡ (if empty then [] else lines.reply_to s l))
-    × Follows (if empty then held else held_after held l) (if empty then s else lines.session_after s l)
-same_if true held s is l = (refl, is)
-same_if false held s is l = (same_line held s is l, follows_line held s is l)
+same_if : (empty : Bool) (state : SessionState) (s : answers.Session) → Follows state s → (l : Line)
+    → ((if empty then [] else reply_to state l) ≡ (if empty then [] else lines.reply_to s l))
+    × Follows (if empty then state else state_after state l) (if empty then s else lines.session_after s l)
+same_if true state s is l = (refl, is)
+same_if false state s is l = (same_line state s is l, follows_line state s is l)
 
 pub sessions_follow : SessionsFollow
-sessions_follow = (λ window. (opened_holds window, refl), λ held s line is. same_if (length line == 0) held s is (line_of line))
+sessions_follow = (λ window. (opened_holds window, refl), λ state s line is. same_if (length line == 0) state s is (line_of line))

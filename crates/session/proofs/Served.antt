@@ -15,7 +15,7 @@ use Rattle.meta.specs.declared.faults.Fault.TheVariants as fault
 use Rattle.meta.specs.Writes.{write_of}
 use Rattle.meta.specs.declared.writes.Write.{Write}
 use Rattle.reply.specs.declared.reply.Reply.{Reply}
-use Rattle.session.specs.Held.{Held, accepted}
+use Rattle.session.specs.SessionStates.{SessionState, accepted}
 
 served-write : (o : Outcome) (r : Reply) (w : Option Write) → Serves o (Ok (r, w)) → option_map write_of w ≡ verbs.write_of o
 served-write (answered a) r w is = is.write
@@ -29,7 +29,7 @@ served-text (answered a) r w is = ap₂ (λ code text. decimal code ++ (32 ∷ (
 served-text (refused f) r w is = absurd is
 
 -- what is served has room
-pub served-room : (s : Held) (q : Request) (r : Reply) (w : Option Write) → Serves (accepted s q) (Ok (r, w))
+pub served-room : (s : SessionState) (q : Request) (r : Reply) (w : Option Write) → Serves (accepted s q) (Ok (r, w))
     → IfSome (option_map write_of w) (λ e. overflows s.server.snapshot.members s.server.snapshot.revision e ≡ false)
 served-room s q r w is =
     subst (λ e. IfSome e (λ e. overflows s.server.snapshot.members s.server.snapshot.revision e ≡ false)) (sym (served-write (accepted s q) r w is))

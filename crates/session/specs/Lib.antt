@@ -1,4 +1,4 @@
 pub mod Asked
-pub mod Held
+pub mod SessionStates
 pub mod Laws
 pub mod Shown

@@ -28,11 +28,11 @@ pub struct Session {
 }
 
 impl Model for Session {
-    ghost use Rattle.session.specs.Held.{Held, coded_held};
+    ghost use Rattle.session.specs.SessionStates.{SessionState, coded_state};
 
-    ghost Value = { Held };
+    ghost Value = { SessionState };
 
-    ghost coded = { coded_held };
+    ghost coded = { coded_state };
 
     ghost view = { λ s. record { server = s.server; moment = s.moment } };
 }
@@ -52,7 +52,7 @@ impl Session {
     ghost use Rattle.meta.specs.Writes.{write_of};
     ghost use Rattle.requests.specs.Collected.{list_seen, watch_seen};
     ghost use Rattle.selector.specs.Views.{view_of};
-    ghost use Rattle.session.specs.Held.{begun, accepted, reply_for, compact_text, server_from, server_or};
+    ghost use Rattle.session.specs.SessionStates.{begun, accepted, reply_for, compact_text, server_from, server_or};
     ghost use Rattle.verbs.specs.Requests.{request_of};
 
     /// Returns a session over a server where nothing is there, at the start of 2026, that keeps the last `window` changes of
@@ -198,11 +198,11 @@ impl Session {
 }
 
 impl LineService for Session {
-    ghost use Rattle.session.specs.Held.{reply_held, next_held};
+    ghost use Rattle.session.specs.SessionStates.{reply_by_state, next_state};
 
-    ghost reply = { reply_held };
+    ghost reply = { reply_by_state };
 
-    ghost next = { next_held };
+    ghost next = { next_state };
 
     fn serve(&mut self, alloc: Global, line: &[u8]) -> Result<Vec<u8>, AllocError> {
         if line.is_empty() {

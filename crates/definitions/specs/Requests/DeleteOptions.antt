@@ -7,8 +7,8 @@ use Rattle.serde_json.specs.Data.{Data}
 use Rattle.serde_json.specs.Find.{get}
 use Rattle.definitions.specs.declared.policies.Policy.{Policy}
 use Rattle.definitions.specs.declared.policies.Policy.TheVariants.{Orphan, Foreground, Background}
-use Rattle.definitions.specs.declared.policies.PolicySaid.{PolicySaid}
-use Rattle.definitions.specs.declared.policies.PolicySaid.TheVariants.{Nothing, Named, Unknown}
+use Rattle.definitions.specs.declared.policies.StatedPolicy.{StatedPolicy}
+use Rattle.definitions.specs.declared.policies.StatedPolicy.TheVariants.{Nothing, Named, Unknown}
 use Rattle.definitions.specs.declared.refusals.Part.{Part}
 use Rattle.definitions.specs.declared.refusals.Part.TheVariants as part
 use Rattle.definitions.specs.declared.schemas.Shape.TheVariants.{Object}
@@ -28,12 +28,12 @@ policy_named name =
     lookup (bytes_eq name) ((codes "Orphan", Orphan) ∷ (codes "Foreground", Foreground) ∷ (codes "Background", Background) ∷ [])
 
 -- what a text, where there is one, says of the policy
-abbrev pub stated_policy : Option (List ℕ) → PolicySaid
+abbrev pub stated_policy : Option (List ℕ) → StatedPolicy
 stated_policy None = Nothing
 stated_policy (Some name) = option_map_or Named (policy_named name) Unknown
 
 -- the options with what is said of the policy, or the part of the request that says it wrong
-abbrev pub options_with : Part → Option (List ℕ) → Option (List ℕ) → PolicySaid → Result Options Part
+abbrev pub options_with : Part → Option (List ℕ) → Option (List ℕ) → StatedPolicy → Result Options Part
 options_with p uid version Nothing = Ok (record { uid = uid; version = version; policy = None })
 options_with p uid version (Named policy) = Ok (record { uid = uid; version = version; policy = Some policy })
 options_with p uid version Unknown = Err p

@@ -11,8 +11,8 @@ use Rattle.definitions.specs.declared.kinds.Group.TheVariants.{Core, Apps}
 use Rattle.definitions.specs.declared.kinds.Kind.{Kind}
 use Rattle.definitions.specs.declared.methods.Method.{Method}
 use Rattle.definitions.specs.declared.methods.Method.TheVariants.{Get, Post, Put, Patch, Delete}
-use Rattle.definitions.specs.declared.policies.PolicySaid.{PolicySaid}
-use Rattle.definitions.specs.declared.policies.PolicySaid.TheVariants.{Nothing}
+use Rattle.definitions.specs.declared.policies.StatedPolicy.{StatedPolicy}
+use Rattle.definitions.specs.declared.policies.StatedPolicy.TheVariants.{Nothing}
 use Rattle.definitions.specs.declared.refusals.Part.{Part}
 use Rattle.definitions.specs.declared.refusals.Part.TheVariants as part
 use Rattle.definitions.specs.Texts.Kinds.{group, plural, kind_named, has_status}
@@ -132,7 +132,7 @@ pub data Asked : Type 0 where
 -- what a query adds to a request: which objects of a collection are asked for and what of them, and what is said of a delete's policy
 pub record Query : Type 0 where
   pub collection : Collection
-  pub policy : PolicySaid
+  pub policy : StatedPolicy
 
 -- a part of the request that is not understood is a refusal
 abbrev pub or_bad_request : {A : Type 0} → Result A Part → Result A Refusal
@@ -153,7 +153,7 @@ delete_options q text =
     else result_flatten (result_map_both (λ d. or_bad_request (options_of d)) (λ e. e) (body_of text))
 
 -- a query of which nothing counts but what is said of a delete's policy; it may not ask for a dry run (Kubernetes API Concepts, Dry-run)
-abbrev pub only_policy : Pairs → PolicySaid → Result Query Part
+abbrev pub only_policy : Pairs → StatedPolicy → Result Query Part
 only_policy pairs policy = if has_any (codes "dryRun" ∷ []) pairs then Err part.Query else Ok (record { collection = everything; policy = policy })
 
 -- what the query of a target adds, by the method and the route, or which part of it is not understood

@@ -6,4 +6,4 @@ use Rattle.replacements.proofs.update.replace.Goals as goal
 
 pub returns : goal.returns
 returns c =
-    subst (λ existing. Serves (replace (key_of c.args.key) c.args.object.value c.args.before existing) c.replace_held.result) c.in_ok-existing.ensures c.replace_held.ensures
+    subst (λ existing. Serves (replace (key_of c.args.key) c.args.object.value c.args.before existing) c.replace_existing.result) c.in_ok-existing.ensures c.replace_existing.ensures

@@ -1,5 +1,5 @@
 use Rattle.std.proofs.Common.{◌∙◌}
-use Rattle.session.specs.Held.{accepted}
+use Rattle.session.specs.SessionStates.{accepted}
 use Rattle.session.proofs.Served.{served-server, served-room, served-text}
 use Rattle.verbs.specs.Requests.{request_of}
 use Rattle.session.proofs.sessions.Session.accept.Goals as goal

@@ -7,18 +7,18 @@ use std::alloc::{AllocError, Global};
 
 /// The object that is stored: as it is kept, to be told as it stands, and opened, to be compared and changed.
 #[derive(Drop)]
-pub(crate) struct Held<'a> {
+pub(crate) struct Existing<'a> {
     pub(crate) kept: &'a StoredObject,
     pub(crate) object: Object,
     ghost told: { compact_text kept.now.value ≡ compact_text object.value },
 }
 
-impl Held<'_> {
+impl Existing<'_> {
     /// Returns what is kept, opened. The error is running out of memory.
-    pub(crate) fn open(alloc: Global, kept: &StoredObject) -> Result<Held<'_>, AllocError>
+    pub(crate) fn open(alloc: Global, kept: &StoredObject) -> Result<Existing<'_>, AllocError>
         ensures { IfOk result (λ h. h.object.value ≡ kept.now.value) }
     {
         let object = kept.open(alloc)?;
-        Ok(Held { kept, object })
+        Ok(Existing { kept, object })
     }
 }

@@ -3,7 +3,7 @@ use Rattle.definitions.specs.Replacements.{in_place}
 use Rattle.definitions.proofs.VerbSteps.{replace_with}
 use Rattle.meta.specs.Keys.{key_of}
 use Rattle.replacements.proofs.Replacing.{if_same-other}
-use Rattle.replacements.proofs.update.replace_held.Goals as goal
+use Rattle.replacements.proofs.update.replace_existing.Goals as goal
 
 pub returns-in-Some : goal.returns-in-Some
 returns-in-Some c =

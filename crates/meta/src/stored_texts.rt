@@ -25,7 +25,7 @@ const GREATEST_DEPTH: u32 = 127;
 /// An object by its texts. A tree is kept only where the object nests too deep for its text to be read back. No object
 /// that a request brings does, since bodies nest at most 100 deep.
 #[derive(Drop)]
-pub(crate) struct Kept {
+pub(crate) struct StoredTexts {
     kind: Kind,
     text: String,
     item: Item,
@@ -33,7 +33,7 @@ pub(crate) struct Kept {
     tree: Option<Box<Value>>,
 }
 
-impl Model for Kept {
+impl Model for StoredTexts {
     ghost use Rattle.std.specs.Prelude.{option_map, string_bytes};
     ghost use Rattle.codes.specs.Codes.{coded_object};
     ghost use Rattle.definitions.specs.Objects as objects;
@@ -49,9 +49,9 @@ impl Model for Kept {
         (string_bytes k.text) k.item k.labels.items };
 }
 
-impl Kept {
+impl StoredTexts {
     /// Returns what is kept of an object. The error is running out of memory.
-    pub(crate) fn new(alloc: Global, object: &Object) -> Result<Kept, AllocError>
+    pub(crate) fn new(alloc: Global, object: &Object) -> Result<StoredTexts, AllocError>
         ensures { IfOk result (λ k. k ≡ object.now) }
     {
         let text = exact_text(alloc, object)?;
@@ -59,7 +59,7 @@ impl Kept {
         let item = Item::new(object.kind(), text.as_str(), shown);
         let labels = labels_of(alloc, object)?;
         let tree = tree_of(alloc, object.value())?;
-        Ok(Kept {
+        Ok(StoredTexts {
             kind: object.kind(),
             text,
             item,

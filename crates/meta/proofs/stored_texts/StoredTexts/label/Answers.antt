@@ -3,7 +3,7 @@ use Rattle.definitions.specs.Metadata.{label, metadata}
 use Rattle.meta.specs.Labels.{label_of, label_text}
 use Rattle.meta.specs.Stored.{data_kept, tree_view}
 use Rattle.meta.proofs.LabelTexts.{label_text-label}
-use Rattle.meta.proofs.kept.Kept.label.Goals as goal
+use Rattle.meta.proofs.stored_texts.StoredTexts.label.Goals as goal
 
 pub returns : goal.returns
 returns c =

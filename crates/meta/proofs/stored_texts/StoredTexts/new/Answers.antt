@@ -3,7 +3,7 @@ use Rattle.serde_json.specs.Find.{as_object}
 use Rattle.meta.specs.Pieces.{Says}
 use Rattle.meta.specs.Stored.{IsTree, Keeps, data_kept, tree_view}
 use Rattle.meta.proofs.StoredTexts.{data_kept-is}
-use Rattle.meta.proofs.kept.Kept.new.Goals as goal
+use Rattle.meta.proofs.stored_texts.StoredTexts.new.Goals as goal
 
 pub invariant_of-result : goal.invariant_of-result
 invariant_of-result c =

@@ -13,26 +13,26 @@ use Rattle.definitions.specs.Verbs.{Outcome, refused, write_of, accept_at}
 use Rattle.definitions.specs.ObjectRequests.{Request}
 
 -- a server, and the moment that it is
-pub record Held : Type 0 where
+pub record SessionState : Type 0 where
   pub server : Server
   pub moment : List ℕ
 
 -- a code by which a model may hold it
-abbrev pub coded_held : Coded Held
-coded_held = code_by (Server × List ℕ) (coded× coded_server coded_text) (λ s. (s.server, s.moment)) (λ p. record { server = p.0; moment = p.1 }) (λ _. refl)
+abbrev pub coded_state : Coded SessionState
+coded_state = code_by (Server × List ℕ) (coded× coded_server coded_text) (λ s. (s.server, s.moment)) (λ p. record { server = p.0; moment = p.1 }) (λ _. refl)
 
 -- a session begins with a server where nothing is there, at the moment at which sessions begin
-abbrev pub begun : ℕ → Held
+abbrev pub begun : ℕ → SessionState
 begun window = record { server = opened_server window; moment = (start window).moment }
 
 -- ---- what is answered
 
 -- what a request is answered
-abbrev pub accepted : Held → Request → Outcome
+abbrev pub accepted : SessionState → Request → Outcome
 accepted s q = accept_at q s.server.snapshot.members s.server.snapshot.revision s.moment
 
 -- the reply to what is asked
-abbrev pub reply_for : Held → Result Asked Refusal → Reply
+abbrev pub reply_for : SessionState → Result Asked Refusal → Reply
 reply_for s (Err f) = outcome (refused f)
 reply_for s (Ok (request q)) = outcome (accepted s q)
 reply_for s (Ok (list v o)) = outcome (list_served s.server v o)
@@ -43,15 +43,15 @@ abbrev pub compact_text : Result Server Refusal → List ℕ
 compact_text (Err f) = reply_text (outcome (refused f))
 compact_text (Ok s) = line_text 200 (success_body None)
 
-abbrev pub reply_to : Held → Line → List ℕ
+abbrev pub reply_to : SessionState → Line → List ℕ
 reply_to s (ask method target body) = reply_text (reply_for s (read_request method target body))
 reply_to s (at moment) = []
 reply_to s (compact r) = compact_text (compact_by s.server r)
 reply_to s unreadable = reply_text (outcome (refused (bad_request part.Head)))
 
 -- an empty line is skipped
-abbrev pub reply_held : Held → List ℕ → List ℕ
-reply_held s t = if length t == 0 then [] else reply_to s (line_of t)
+abbrev pub reply_by_state : SessionState → List ℕ → List ℕ
+reply_by_state s t = if length t == 0 then [] else reply_to s (line_of t)
 
 -- ---- what is held then
 
@@ -66,11 +66,11 @@ abbrev pub server_or : Server → Result Server Refusal → Server
 server_or s (Err f) = s
 server_or s (Ok t) = t
 
-abbrev pub held_after : Held → Line → Held
-held_after s (ask method target body) = record s { server = server_from s.server (reply_for s (read_request method target body)) }
-held_after s (at moment) = record s { moment = moment }
-held_after s (compact r) = record s { server = server_or s.server (compact_by s.server r) }
-held_after s unreadable = s
+abbrev pub state_after : SessionState → Line → SessionState
+state_after s (ask method target body) = record s { server = server_from s.server (reply_for s (read_request method target body)) }
+state_after s (at moment) = record s { moment = moment }
+state_after s (compact r) = record s { server = server_or s.server (compact_by s.server r) }
+state_after s unreadable = s
 
-abbrev pub next_held : Held → List ℕ → Held
-next_held s t = if length t == 0 then s else held_after s (line_of t)
+abbrev pub next_state : SessionState → List ℕ → SessionState
+next_state s t = if length t == 0 then s else state_after s (line_of t)
