@@ -1,0 +1,5 @@
+pub mod Seats
+pub mod Entries
+pub mod Somebody
+pub mod Keeps
+pub mod Meetings
