@@ -73,6 +73,7 @@ module _ {T E : Type 0} (opens : T → Type 0) (gives : T → List E → T) (fol
           knows = refl;
           later = fits.seen;
           made = fits.made;
+          unmade = fits.unmade;
           happened = k.4;
           state = λ o is. subst (λ (z : T). opens z × (x ≡ gives z (entries h))) (ap (λ p. unwrap_or p o) (sym fits.opened ∙ is)) (k.3, k.5);
         },

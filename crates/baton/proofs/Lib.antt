@@ -3,3 +3,4 @@ pub mod Entries
 pub mod Somebody
 pub mod Keeps
 pub mod Meetings
+pub mod Numbers

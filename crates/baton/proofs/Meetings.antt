@@ -8,7 +8,7 @@ use Rattle.crossbeam_queue.proofs.Lists.{at_set}
 use Rattle.baton.specs.declared.views.Known.{Known}
 use Rattle.baton.specs.declared.views.View.{View}
 use Rattle.baton.specs.Marks.{StartsWith, made_by, CanHappen}
-use Rattle.baton.specs.Passes.{blank, alone, unopened, owns, Fits, Stands, Placed, Keeper, hosting, settled, heir, Knows, Open, Kept, Longer, Met}
+use Rattle.baton.specs.Passes.{blank, alone, unopened, owns, NoneAbove, Fits, Stands, Placed, Keeper, hosting, settled, heir, Knows, Open, Kept, Longer, Met}
 use Rattle.baton.proofs.Seats.{All, all_set, only, at_longer_cases, if_true, if_false, if_either, not_true, owned, owner_named, owns_self, owns_heir, elsewhere, keeper_set, keeper_snoc}
 use Rattle.baton.proofs.Entries.{none_in_front, between, prefixes, happened_in_front}
 use Rattle.baton.proofs.Somebody.{some_fork, some_merge, still_signed}
@@ -161,11 +161,14 @@ module _ {T E : Type 0} (opens : T → Type 0) (gives : T → List E → T) (fol
   pub hosts : (pass : ℕ) (v : View T E) (other : ℕ) (w : View T E) → v.own.holds ≡ false → w.own.holds ≡ false → v.guest ≡ blank → w.guest ≡ blank → Merges (Kept opens gives follows) pass v other w (hosting v w) (alone blank)
   hosts pass v other w still still' lone lone' items views k at two at' = inr (hosts_open pass v other w items views still still' lone lone' two at at' (still_open items views pass v still at k))
 
+  none_above : (h front : List (ℕ × E)) (k : Known T E) → StartsWith h front → NoneAbove k h → NoneAbove k front
+  none_above h front k s none n heirs above = none_in_front n h front s (none n heirs above)
+
   met : (opening : T) (h : List (ℕ × E)) (k l : Known T E) → k.name ≢ l.name → CanHappen follows h → Fits opening h k → Fits opening h l → Met opens gives follows k l
   met opening h k l apart can a b = (
     apart,
-    ⊎_elim (λ (p : StartsWith k.seen l.seen). inl (p, a.told, between l.name h k.seen l.seen l.made a.seen p b.made b.told, happened_in_front follows h k.seen a.seen can))
-        (λ (p : StartsWith l.seen k.seen). inr (p, b.told, between k.name h l.seen k.seen k.made b.seen p a.made a.told, happened_in_front follows h l.seen b.seen can))
+    ⊎_elim (λ (p : StartsWith k.seen l.seen). inl (p, a.told, between l.name h k.seen l.seen l.made a.seen p b.made b.told, happened_in_front follows h k.seen a.seen can, none_above h k.seen k a.seen a.unmade, none_above h k.seen l a.seen b.unmade))
+        (λ (p : StartsWith l.seen k.seen). inr (p, b.told, between k.name h l.seen k.seen k.made b.seen p a.made a.told, happened_in_front follows h l.seen b.seen can, none_above h l.seen l b.seen b.unmade, none_above h l.seen k b.seen a.unmade))
         (prefixes h k.seen l.seen a.seen b.seen),
   )
 

@@ -27,6 +27,10 @@ module _ {T E : Type 0} where
   abbrev pub owns : Known T E → ℕ → Bool
   owns k n = is_some k.opening && ((n == k.name) || (k.heirs && nat_lt k.name n))
 
+  -- no entry has a name that the pass may still give away
+  abbrev pub NoneAbove : Known T E → List (ℕ × E) → Type 0
+  NoneAbove k h = (n : ℕ) → k.heirs ≡ true → k.name < n → made_by n h ≡ []
+
   -- what is known is so: the history begins with what was seen, and its entries of this name are what was made
   pub record Fits (opening : T) (h : List (ℕ × E)) (k : Known T E) : Type 0 where
     pub opened : k.opening ≡ Some opening
@@ -34,7 +38,7 @@ module _ {T E : Type 0} where
     pub made : made_by k.name h ≡ k.made
     pub told : made_by k.name k.seen ≡ k.made
     pub whole : k.holds ≡ true → k.seen ≡ h
-    pub unmade : (n : ℕ) → k.heirs ≡ true → k.name < n → made_by n h ≡ []
+    pub unmade : NoneAbove k h
 
   -- and the names are owned at this seat alone
   abbrev pub Stands : T → List (ℕ × E) → (ℕ → ℕ) → ℕ → Known T E → Type 0
@@ -114,12 +118,13 @@ module _ {T E : Type 0} (opens : T → Type 0) (gives : T → List E → T) (fol
     pub knows : w ≡ holding history v
     pub later : StartsWith history v.own.seen
     pub made : made_by v.own.name history ≡ v.own.made
+    pub unmade : NoneAbove v.own history
     pub happened : CanHappen follows history
     pub state : (opening : T) → v.own.opening ≡ Some opening → opens opening × (x ≡ gives opening (entries history))
 
   -- one seen history begins with the other, and in the longer the entries of either name are what was made
   abbrev pub Longer : Known T E → Known T E → Type 0
-  Longer k l = StartsWith k.seen l.seen × (made_by k.name k.seen ≡ k.made) × (made_by l.name k.seen ≡ l.made) × CanHappen follows k.seen
+  Longer k l = StartsWith k.seen l.seen × (made_by k.name k.seen ≡ k.made) × (made_by l.name k.seen ≡ l.made) × CanHappen follows k.seen × NoneAbove k k.seen × NoneAbove l k.seen
 
   abbrev pub Met : Known T E → Known T E → Type 0
   Met k l = (k.name ≢ l.name) × (Longer k l ⊎ Longer l k)
