@@ -1,5 +1,5 @@
 -- Each move of a pass keeps the law.
-use Rattle.std.proofs.Common.{◌≡◌, ◌≢◌, ◌⊎◌, ℕ, ◌<◌, ◌≤◌, true, false, true≢false, List, [], ◌∷◌, ◌++◌, length, set, sym, refl, ap, ◌∙◌, subst, inl, inr, ⊎_elim, append-nil, append_assoc, Bool, arith}
+use Rattle.std.proofs.Common.{◌≡◌, ◌≢◌, ℕ, true, false, true≢false, List, [], ◌∷◌, ◌++◌, set, sym, refl, ap, ◌∙◌, subst, inl, inr, ⊎_elim, append-nil, append_assoc, arith}
 use Rattle.std.specs.Prelude.{Option, Some, None, is_some, unwrap_or, IfSome}
 use mathlib.Core.Option.{some}
 use lib.ListN.{get_elem?}
@@ -7,9 +7,9 @@ use Rattle.crossbeam_queue.specs.Fifo.{Pushes, Pops, Learns}
 use Rattle.crossbeam_queue.proofs.Lists.{at_set, set_here}
 use Rattle.baton.specs.declared.views.Known.{Known}
 use Rattle.baton.specs.declared.views.View.{View}
-use Rattle.baton.specs.Marks.{StartsWith, entries, made_by, marked, CanHappen}
-use Rattle.baton.specs.Passes.{blank, alone, unopened, newcomer, owns, Fits, Stands, Placed, Keeper, given, holding, Knows, SomePass, Value, Open, Kept, Taken}
-use Rattle.baton.proofs.Seats.{All, all_set, within, nil_ne_cons, only, not_true, owns_self, owns_heir, elsewhere}
+use Rattle.baton.specs.Marks.{entries, marked}
+use Rattle.baton.specs.Passes.{blank, alone, unopened, newcomer, owns, Fits, Stands, Placed, given, holding, SomePass, Open, Kept, Taken}
+use Rattle.baton.proofs.Seats.{all_set, within, nil_ne_cons, only, not_true, owns_self, owns_heir, elsewhere}
 use Rattle.baton.proofs.Somebody.{some_set, still_signed}
 use Rattle.baton.proofs.Entries.{made_here_one, made_else_one, made_none, nothing_happened, happens}
 

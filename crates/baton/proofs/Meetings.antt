@@ -1,15 +1,15 @@
 -- Passes that come of others, and passes that meet, keep the law.
-use Rattle.std.proofs.Common.{◌≡◌, ◌≢◌, ◌⊎◌, ℕ, ◌+◌, ◌<◌, true, false, true≢false, List, [], ◌∷◌, ◌++◌, length, set, sym, refl, ap, ◌∙◌, subst, inl, inr, ⊎_elim, Bool, if◌then◌else◌, arith}
-use Rattle.std.specs.Prelude.{Option, Some, None, is_some}
+use Rattle.std.proofs.Common.{◌≡◌, ◌≢◌, ◌⊎◌, ℕ, ◌+◌, ◌<◌, true, false, true≢false, List, [], ◌∷◌, ◌++◌, length, set, sym, refl, ap, ◌∙◌, subst, inl, inr, ⊎_elim, if◌then◌else◌, arith}
+use Rattle.std.specs.Prelude.{is_some}
 use mathlib.Core.Option.{some}
 use lib.ListN.{get_elem?}
 use Rattle.crossbeam_queue.specs.Fifo.{Forks, Merges, Learns}
 use Rattle.crossbeam_queue.proofs.Lists.{at_set}
 use Rattle.baton.specs.declared.views.Known.{Known}
 use Rattle.baton.specs.declared.views.View.{View}
-use Rattle.baton.specs.Marks.{StartsWith, made_by, CanHappen}
-use Rattle.baton.specs.Passes.{blank, alone, unopened, owns, NoneAbove, Fits, Stands, Placed, Keeper, hosting, settled, heir, Knows, Open, Kept, Longer, Met}
-use Rattle.baton.proofs.Seats.{All, all_set, only, at_longer_cases, if_true, if_false, if_either, not_true, owned, owner_named, owns_self, owns_heir, elsewhere, keeper_set, keeper_snoc}
+use Rattle.baton.specs.Marks.{StartsWith, CanHappen}
+use Rattle.baton.specs.Passes.{blank, alone, unopened, owns, NoneAbove, Fits, Stands, Placed, hosting, settled, heir, Knows, Open, Kept, Met}
+use Rattle.baton.proofs.Seats.{All, all_set, only, at_longer_cases, if_true, if_false, if_either, not_true, owned, owns_self, owns_heir, elsewhere, keeper_set, keeper_snoc}
 use Rattle.baton.proofs.Entries.{none_in_front, between, prefixes, happened_in_front}
 use Rattle.baton.proofs.Somebody.{some_fork, some_merge, still_signed}
 use Rattle.baton.proofs.Keeps.{blank_stands}

@@ -1,4 +1,4 @@
-use Rattle.std.proofs.Common.{rules, ◌≡◌, ap, sym, ◌∙◌, subst, arith}
+use Rattle.std.proofs.Common.{rules, ◌≡◌, sym, subst}
 use Rattle.crossbeam_queue.specs.Passes.{view}
 use Rattle.baton.specs.Batons.{IsNew, IsFirst, IsNewOf, AreNumbered}
 use Rattle.baton.proofs.Numbers.{all_more, numbered_more}

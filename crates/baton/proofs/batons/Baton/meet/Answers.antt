@@ -1,4 +1,4 @@
-use Rattle.std.proofs.Common.{◌≡◌, ◌∙◌, ap, true, false}
+use Rattle.std.proofs.Common.{◌∙◌, ap}
 use Rattle.std.specs.Prelude.{is_some}
 use Rattle.crossbeam_queue.specs.Passes.{view}
 use Rattle.baton.proofs.Meetings.{spares, hosts, meets, parts}
