@@ -4,6 +4,8 @@ ghost use Rattle.baton.specs.Batons.{IsFree};
 
 use baton::{Baton, Change, Law};
 use std::sync::Wait;
+use std::thread;
+use std::time::{Clock, Duration};
 
 /// The right to take the number.
 pub(crate) type Pass = baton::Pass<u64, Counting>;
@@ -70,5 +72,16 @@ pub(crate) fn add_many<R: Wait>(
     for _ in 0..turns {
         add_one(rt, baton, &mut pass);
     }
+    pass
+}
+
+/// Takes the number, sleeps for ten milliseconds, and gives it as it was. It gives the pass back.
+pub(crate) fn hold<R: Wait + Clock>(rt: &R, baton: &Baton<u64, Counting>, mut pass: Pass) -> Pass
+    requires { IsFree baton.now pass }
+    ensures { IsFree baton.now result }
+{
+    let held = baton.take(rt, &mut pass);
+    thread::sleep(rt, Duration::from_millis(10));
+    baton.give::<Unchanged, R>(rt, &mut pass, held);
     pass
 }
