@@ -5,4 +5,4 @@ use Rattle.revisions.specs.Events.{event_seen}
 use Rattle.desk.specs.declared.watching.Watched.{Watched}
 
 abbrev pub watched_of : Watched → versions.Watched
-watched_of w = record { changes = map event_seen w.events.items; stands = w.stands }
+watched_of w = record { events = map event_seen w.events.items; stands = w.stands }

@@ -12,7 +12,7 @@ use desk::watching::last_revision;
 /// are shown and it stands above the last change.
 pub fn last_bookmark(bookmarks: bool, from: u64, watched: &Watched) -> Option<u64>
     ensures { told_lines bookmarks from (watched_of watched.now)
-        ≡ map event (watched_of watched.now).changes ++ last_bookmark result }
+        ≡ map event (watched_of watched.now).events ++ last_bookmark result }
 {
     if bookmarks && last_revision(&watched.events, from) < watched.stands {
         Some(watched.stands)
