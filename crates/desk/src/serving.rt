@@ -28,7 +28,7 @@ impl Server {
             ≡ after_writing self.old (outcomes.write_of (accept_at (request_of request) self.old.snapshot.members self.old.snapshot.revision moment))) }
         ensures err { OnErr result (self.new ≡ self.old) }
     {
-        let (reply, write) = verbs::accept(alloc, &self.store, request, moment)?;
+        let (reply, write) = self.answer(alloc, request, moment)?;
         if let Some(write) = write {
             self.take(write)?;
         }

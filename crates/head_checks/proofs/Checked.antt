@@ -7,7 +7,7 @@ use Rattle.definitions.specs.declared.refusals.Part.{Part}
 use Rattle.definitions.specs.declared.refusals.Part.TheVariants as part
 use Rattle.definitions.specs.Refusals.{Refusal, bad_request, no_such_path, method_not_allowed}
 use Rattle.definitions.specs.Targets.{Route, route, path_of, names_namespace, is_allowed, query_for}
-use Rattle.definitions.specs.RequestQueries as queries
+use Rattle.definitions.specs.Targets as queries
 use Rattle.connections.specs.Heads.{Head, stated_length, method_named}
 use Rattle.connections.specs.Checks as words
 use Rattle.connections.specs.Checks.{length_or_none, body_checked, query_checked, method_checked, path_checked, length_checked, checked}
