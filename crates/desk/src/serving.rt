@@ -28,11 +28,14 @@ impl Server {
             ≡ after_writing self.old (outcomes.write_of (accept_at (request_of request) self.old.snapshot.members self.old.snapshot.revision moment))) }
         ensures err { OnErr result (self.new ≡ self.old) }
     {
-        let (reply, write) = self.answer(alloc, request, moment)?;
-        if let Some(write) = write {
-            self.take(write)?;
+        let (reply, write) = verbs::accept(alloc, &self.store, request, moment)?;
+        match write {
+            None => Ok(reply),
+            Some(write) => {
+                self.take(write)?;
+                Ok(reply)
+            }
         }
-        Ok(reply)
     }
 
     /// Returns the reply to a request at a moment with what it writes, or why it is refused. Nothing is written yet: who has to
