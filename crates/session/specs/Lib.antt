@@ -1,4 +1,3 @@
-pub mod Asked
 pub mod Held
 pub mod Laws
 pub mod Shown
