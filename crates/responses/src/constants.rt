@@ -2,7 +2,7 @@
 ghost use Rattle.std.specs.Prelude.{◌≡◌};
 ghost use Rattle.chunked.specs.Bodies.{last_chunk};
 ghost use Rattle.connections.specs.Replies.{watch_head, reply_text};
-ghost use Rattle.definitions.specs.Lines.{outcome};
+ghost use Rattle.definitions.specs.Replies.{outcome};
 ghost use Rattle.definitions.specs.Refusals.{no_memory};
 ghost use Rattle.definitions.specs.Verbs.{refused};
 

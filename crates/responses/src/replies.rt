@@ -1,7 +1,7 @@
 //! Replies whose body is known.
 ghost use Rattle.std.specs.Prelude.{◌≡◌, IfOk};
 ghost use Rattle.connections.specs.Replies.{response_text, reply_text};
-ghost use Rattle.definitions.specs.Lines.{outcome};
+ghost use Rattle.definitions.specs.Replies.{outcome};
 ghost use Rattle.definitions.specs.Verbs.{refused};
 ghost use Rattle.meta.specs.Faults.{refusal_of};
 

@@ -2,10 +2,10 @@
 use Rattle.std.specs.Prelude.{◌≡◌, ◌⊎◌, ℕ, List, Result, Ok, Err}
 use Rattle.definitions.specs.Collections.{ListOptions}
 use Rattle.definitions.specs.History.{View, viewed}
-use Rattle.definitions.specs.Lists.{list_served}
+use Rattle.server_state.specs.Servers.{list_served, Server, after_writing, watch_by}
 use Rattle.definitions.specs.Refusals.{Refusal, no_memory}
-use Rattle.definitions.specs.Servers.{Server, after_writing, watch_by}
-use Rattle.definitions.specs.Verbs.{Request, Outcome, refused, write_of, accept_at}
+use Rattle.definitions.specs.Verbs.{Outcome, refused, write_of, accept_at}
+use Rattle.definitions.specs.ObjectRequests.{Request}
 use Rattle.definitions.specs.Versions.{Listed, listed_as, Watched}
 
 -- the outcome of a request, whose write is then written

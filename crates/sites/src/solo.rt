@@ -22,8 +22,8 @@ pub struct Solo {
 }
 
 impl Model for Solo {
-    ghost use Rattle.definitions.specs.Servers as servers;
-    ghost use Rattle.definitions.specs.ServerCodes.{coded_server};
+    ghost use Rattle.server_state.specs.Servers as servers;
+    ghost use Rattle.server_state.specs.Codes.{coded_server};
 
     ghost Value = { servers.Server };
 

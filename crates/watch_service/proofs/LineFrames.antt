@@ -5,8 +5,7 @@ use Rattle.definitions.specs.declared.frames.FrameKind.TheVariants.{Added}
 use Rattle.definitions.specs.Changes.{Change}
 use Rattle.definitions.specs.Frames.{frame_text, bookmark_event}
 use Rattle.definitions.specs.History.{Members}
-use Rattle.definitions.specs.Streams.{Line, change, event_of}
-use Rattle.definitions.specs.WatchReplies.{added_lines}
+use Rattle.definitions.specs.Streams.{Line, change, event_of, added_lines}
 use Rattle.chunked.specs.Bodies.{chunk_text}
 use Rattle.connections.specs.Replies.{frames_text}
 use Rattle.responses.specs.Frames.{change_frames, object_frames}

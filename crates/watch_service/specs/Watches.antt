@@ -5,9 +5,9 @@ use Rattle.definitions.specs.declared.kinds.Kind.{Kind}
 use Rattle.definitions.specs.Frames.{frame_text, error_event}
 use Rattle.definitions.specs.History.{View}
 use Rattle.definitions.specs.Refusals.{Refusal}
-use Rattle.definitions.specs.Streams.{Line}
+use Rattle.definitions.specs.Streams.{Line, added_lines}
 use Rattle.definitions.specs.Versions.{Listed, Watched}
-use Rattle.definitions.specs.WatchReplies.{told_lines, added_lines}
+use Rattle.definitions.specs.WatchReplies.{told_lines}
 use Rattle.chunked.specs.Bodies.{chunk_text, last_chunk}
 use Rattle.connections.specs.Replies.{watch_head, frames_text}
 
