@@ -3,10 +3,10 @@ use Rattle.std.specs.Prelude.{◌≡◌, ◌⊎◌, Err}
 use Rattle.serde_json.specs.Data.{Data}
 use Rattle.definitions.specs.declared.kinds.Kind.{Kind}
 use Rattle.definitions.specs.declared.refusals.Part.{Part}
-use Rattle.definitions.specs.Verbs.{said}
+use Rattle.definitions.specs.Verbs.{object_in}
 use Rattle.meta.specs.declared.faults.Fault.{Fault}
 use Rattle.meta.specs.declared.faults.Fault.TheVariants as fault
 
 -- the fault is want of memory, or the part of the request for which the body says no object of the kind
 abbrev pub RefusesSaid : Kind → Data → Fault → Type 0
-RefusesSaid k d e = (e ≡ fault.NoMemory) ⊎ ((p : Part) × (e ≡ fault.BadRequest p) × (said k d ≡ Err p))
+RefusesSaid k d e = (e ≡ fault.NoMemory) ⊎ ((p : Part) × (e ≡ fault.BadRequest p) × (object_in k d ≡ Err p))

@@ -6,4 +6,4 @@ use Rattle.definitions.specs.declared.refusals.Mismatch.TheVariants as why
 use Rattle.definitions.specs.Metadata.{uid, version, differs}
 
 abbrev pub mismatch : Data → Data → Option Mismatch
-mismatch o held = if differs (uid o) (uid held) then Some why.Uid else (if differs (version o) (version held) then Some why.Modified else None)
+mismatch o existing = if differs (uid o) (uid existing) then Some why.Uid else (if differs (version o) (version existing) then Some why.Modified else None)

@@ -1,7 +1,7 @@
 //! What bodies say.
 ghost use Rattle.std.specs.Prelude.{◌≡◌, IfOk, IfErr, Ok};
 ghost use Rattle.serde_json.specs.View.{view};
-ghost use Rattle.definitions.specs.Verbs.{said};
+ghost use Rattle.definitions.specs.Verbs.{object_in};
 ghost use Rattle.answers.specs.Bodies.{RefusesSaid};
 
 use definitions::kinds::Kind;
@@ -10,10 +10,10 @@ use serde_json::Value;
 use std::alloc::Global;
 use validate::defaults;
 
-/// What a body says as an object of a kind, with what is filled in where its spec leaves it out. The errors are the part
-/// of the request at fault, and want of memory.
+/// Returns what a body says as an object of a kind, with what is filled in where its spec leaves it out. The errors are the
+/// part of the request at fault, and running out of memory.
 pub fn said(alloc: Global, kind: Kind, body: Value) -> Result<Object, Fault>
-    ensures said { IfOk result (λ o. said kind (view body) ≡ Ok o.value) }
+    ensures object_in { IfOk result (λ o. object_in kind (view body) ≡ Ok o.value) }
     ensures kind { IfOk result (λ o. o.kind ≡ kind) }
     ensures refused { IfErr result (RefusesSaid kind (view body)) }
 {

@@ -10,14 +10,14 @@ use meta::values::{whole_number, with_member, with_text};
 use serde_json::{Map, Value};
 use std::alloc::{AllocError, Global};
 
-/// An object without members.
+/// Returns an object without members.
 fn empty(alloc: Global) -> Value
     ensures { view result ≡ empty }
 {
     Value::Object(Map::new(alloc))
 }
 
-/// The status of a new object, of a kind that has one. The error is want of memory.
+/// Returns the status of a new object, of a kind that has one. The error is running out of memory.
 pub fn first_status(alloc: Global, kind: Kind) -> Result<Option<Value>, AllocError>
     ensures status { IfOk result (λ s. option_map view s ≡ first_status kind) }
     ensures no_float { IfOk result (λ s. IfSome s (λ v. has_float (view v) ≡ false)) }

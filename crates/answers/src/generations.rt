@@ -11,7 +11,7 @@ use definitions::kinds::Kind;
 use meta::{Draft, Object};
 use std::alloc::{AllocError, Global};
 
-/// The text of an object's spec, which is empty where there is none.
+/// Returns the text of an object's spec, which is empty where there is none.
 fn spec_text(alloc: Global, object: &Object) -> Result<String, AllocError>
     ensures { IfOk result (λ s. string_bytes s ≡ text_of (get (codes "spec") object.now.value)) }
 {
@@ -21,7 +21,7 @@ fn spec_text(alloc: Global, object: &Object) -> Result<String, AllocError>
     }
 }
 
-/// The text of an object's annotations, which is empty where there are none.
+/// Returns the text of an object's annotations, which is empty where there are none.
 fn annotations_text(alloc: Global, object: &Object) -> Result<String, AllocError>
     ensures { IfOk result (λ s. string_bytes s ≡ text_of (metadata (codes "annotations") object.now.value)) }
 {
@@ -31,57 +31,57 @@ fn annotations_text(alloc: Global, object: &Object) -> Result<String, AllocError
     }
 }
 
-fn has_new_spec(alloc: Global, held: &Object, object: &Object) -> Result<bool, AllocError>
-    ensures { IfOk result (λ b. b ≡ has_new_spec held.now.value object.now.value) }
+fn has_new_spec(alloc: Global, existing: &Object, object: &Object) -> Result<bool, AllocError>
+    ensures { IfOk result (λ b. b ≡ has_new_spec existing.now.value object.now.value) }
 {
-    let before = spec_text(alloc, held)?;
+    let before = spec_text(alloc, existing)?;
     let after = spec_text(alloc, object)?;
     Ok(before.as_str() != after.as_str())
 }
 
-fn has_new_annotations(alloc: Global, held: &Object, object: &Object) -> Result<bool, AllocError>
-    ensures { IfOk result (λ b. b ≡ has_new_annotations held.now.value object.now.value) }
+fn has_new_annotations(alloc: Global, existing: &Object, object: &Object) -> Result<bool, AllocError>
+    ensures { IfOk result (λ b. b ≡ has_new_annotations existing.now.value object.now.value) }
 {
-    let before = annotations_text(alloc, held)?;
+    let before = annotations_text(alloc, existing)?;
     let after = annotations_text(alloc, object)?;
     Ok(before.as_str() != after.as_str())
 }
 
-/// Whether an object is a new generation of the one that is held.
+/// Returns whether an object is a new generation of the stored one.
 fn is_new_generation(
     alloc: Global,
     kind: Kind,
-    held: &Object,
+    existing: &Object,
     object: &Object,
 ) -> Result<bool, AllocError>
-    ensures { IfOk result (λ b. b ≡ is_new_generation kind held.now.value object.now.value) }
+    ensures { IfOk result (λ b. b ≡ is_new_generation kind existing.now.value object.now.value) }
 {
     match kind {
         Kind::ConfigMap => Ok(false),
         Kind::Pod => Ok(false),
-        Kind::ReplicaSet => has_new_spec(alloc, held, object),
+        Kind::ReplicaSet => has_new_spec(alloc, existing, object),
         Kind::Deployment => {
-            if has_new_spec(alloc, held, object)? {
+            if has_new_spec(alloc, existing, object)? {
                 return Ok(true);
             }
-            has_new_annotations(alloc, held, object)
+            has_new_annotations(alloc, existing, object)
         }
     }
 }
 
-/// Sets the generation after that of the object that is held, where it is a new one.
+/// Sets the generation after that of the stored object, where it is a new one.
 fn raise_generation(
     alloc: Global,
     draft: &mut Draft,
     is_new: bool,
-    held: &Object,
+    existing: &Object,
 ) -> Result<(), AllocError>
-    ensures metadata { OnOk result (draft.new.metadata ≡ with_next_generation is_new held.now.value draft.old.metadata) }
+    ensures metadata { OnOk result (draft.new.metadata ≡ with_next_generation is_new existing.now.value draft.old.metadata) }
     ensures rest { draft.new.rest ≡ draft.old.rest }
     ensures kind { draft.new.kind ≡ draft.old.kind }
 {
     if is_new {
-        draft.set_count(alloc, "generation", held.next_generation())
+        draft.set_count(alloc, "generation", existing.next_generation())
     } else {
         Ok(())
     }
@@ -98,7 +98,7 @@ fn set_revision(alloc: Global, draft: &mut Draft, before: u64) -> Result<(), All
     draft.set_text(alloc, "resourceVersion", digits.as_str())
 }
 
-/// The object at the revision after this one.
+/// Returns the object at the revision after this one.
 pub fn at_revision(alloc: Global, object: Object, before: u64) -> Result<Object, AllocError>
     requires { before ≤ greatest_revision }
     ensures { IfOk result (λ o. o.value ≡ at_revision (before + 1) (metadata_of object.value) object.value) }
@@ -109,20 +109,20 @@ pub fn at_revision(alloc: Global, object: Object, before: u64) -> Result<Object,
     Ok(made)
 }
 
-/// The object as it stands in the place of the one that is held, at the revision after this one.
+/// Returns the object as it stands in the place of the stored one, at the revision after this one.
 pub fn updated(
     alloc: Global,
     kind: Kind,
     object: Object,
-    held: &Object,
+    existing: &Object,
     before: u64,
 ) -> Result<Object, AllocError>
     requires { before ≤ greatest_revision }
-    ensures { IfOk result (λ o. o.value ≡ updated kind (before + 1) held.now.value object.value) }
+    ensures { IfOk result (λ o. o.value ≡ updated kind (before + 1) existing.now.value object.value) }
 {
-    let is_new = is_new_generation(alloc, kind, held, &object)?;
+    let is_new = is_new_generation(alloc, kind, existing, &object)?;
     let mut draft = object.open(alloc)?;
-    raise_generation(alloc, &mut draft, is_new, held)?;
+    raise_generation(alloc, &mut draft, is_new, existing)?;
     set_revision(alloc, &mut draft, before)?;
     let made = draft.close(alloc)?;
     Ok(made)

@@ -19,8 +19,8 @@ use std::alloc::{AllocError, Global};
 /// About how much longer a page with few objects is than their texts.
 const PAGE_LEN: usize = 256;
 
-/// The text of a page of a list at a revision. Where more follows, `next` asks for it, and `remaining` says how many objects
-/// that is, if it is to be told. The error is want of memory.
+/// Returns the text of a page of a list at a revision. Where more follows, `next` asks for it, and `remaining` says how many
+/// objects that is, if it is to be told. The error is running out of memory.
 pub fn page_text(
     alloc: Global,
     kind: Kind,
@@ -55,8 +55,8 @@ pub fn page_text(
     Ok(text)
 }
 
-/// About how long the text of a page of these objects is: an item is a little shorter than its object's text, which makes
-/// up for what the page says of itself. The text grows if that does not.
+/// Returns about how long the text of a page of these objects is: an item is a little shorter than its object's text, which
+/// makes up for what the page says of itself. The text grows if that does not.
 fn likely_len(members: &[Member<'_>]) -> usize {
     let mut len = PAGE_LEN;
     for member in members {
@@ -65,7 +65,7 @@ fn likely_len(members: &[Member<'_>]) -> usize {
     len
 }
 
-/// What a page says of itself.
+/// Returns what a page says of itself.
 fn metadata(
     alloc: Global,
     revision: u64,
@@ -104,14 +104,14 @@ fn push_all(text: &mut String, pieces: &[&str]) -> Result<(), AllocError>
     Ok(())
 }
 
-/// A text as JSON.
+/// Returns a text as JSON.
 fn quoted(alloc: Global, text: &str) -> Result<String, AllocError>
     ensures { IfOk result (λ t. string_bytes t ≡ quoted text.now) }
 {
     Value::try_from_str(alloc, text)?.to_string(alloc)
 }
 
-/// What a list of a kind says in its member `kind`, as JSON.
+/// Returns what a list of a kind says in its member `kind`, as JSON.
 fn list_name(alloc: Global, kind: Kind) -> Result<String, AllocError>
     ensures { IfOk result (λ t. string_bytes t ≡ quoted (kind_text kind ++ codes "List")) }
 {

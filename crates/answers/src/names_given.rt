@@ -2,13 +2,13 @@
 ghost use Rattle.std.specs.Prelude.{◌≡◌, option_map};
 ghost use Rattle.definitions.specs.Metadata.{differs, is_other};
 ghost use Rattle.definitions.specs.Verbs.{names_path};
-ghost use Rattle.meta.specs.Keys.{name_of};
+ghost use Rattle.meta.specs.Keys.{key_of};
 ghost use Rattle.answers.specs.Naming.{mismatch};
 
 use definitions::refusals::Mismatch;
 use meta::{Key, Object};
 
-/// Whether a text is named, and is another than this one.
+/// Returns whether a text is named, and is another than this one.
 pub fn is_other(named: Option<&str>, text: &str) -> bool
     ensures { result ≡ is_other (option_map (λ s. s.now) named.entry) text.now }
 {
@@ -18,33 +18,33 @@ pub fn is_other(named: Option<&str>, text: &str) -> bool
     }
 }
 
-/// Whether a text is named, and the object has another one, or none.
-fn differs(named: Option<&str>, held: Option<&str>) -> bool
-    ensures { result ≡ differs (option_map (λ s. s.now) named.entry) (option_map (λ s. s.now) held.entry) }
+/// Returns whether a text is named, and the object has another one, or none.
+fn differs(named: Option<&str>, existing: Option<&str>) -> bool
+    ensures { result ≡ differs (option_map (λ s. s.now) named.entry) (option_map (λ s. s.now) existing.entry) }
 {
-    match (named, held) {
+    match (named, existing) {
         (None, _) => false,
         (Some(_), None) => true,
         (Some(text), Some(other)) => text != other,
     }
 }
 
-/// Whether an object names the name of a path, and no other namespace.
+/// Returns whether an object names the name of a path, and no other namespace.
 pub fn names_path(key: &Key, object: &Object) -> bool
-    ensures { result ≡ names_path (name_of key.now) object.now.value }
+    ensures { result ≡ names_path (key_of key.now) object.now.value }
 {
     let elsewhere = is_other(object.namespace(), key.namespace.as_str());
     !elsewhere && !differs(Some(key.name.as_str()), object.name())
 }
 
-/// In what the object that is held is another than the one that a body names: by its uid first, then by its version.
-pub fn mismatch(object: &Object, held: &Object) -> Option<Mismatch>
-    ensures { result ≡ mismatch object.now.value held.now.value }
+/// Returns in what the stored object is another than the one that a body names: by its uid first, then by its version.
+pub fn mismatch(object: &Object, existing: &Object) -> Option<Mismatch>
+    ensures { result ≡ mismatch object.now.value existing.now.value }
 {
-    if differs(object.uid(), held.uid()) {
+    if differs(object.uid(), existing.uid()) {
         return Some(Mismatch::Uid);
     }
-    if differs(object.resource_version(), held.resource_version()) {
+    if differs(object.resource_version(), existing.resource_version()) {
         return Some(Mismatch::Modified);
     }
     None

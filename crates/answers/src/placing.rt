@@ -1,10 +1,10 @@
 //! Objects in the place of others.
 ghost use Rattle.std.specs.Prelude.{◌≡◌, ◌+◌, ◌≤◌, IfOk, IfSome, is_some, string_bytes, if◌then◌else◌};
 ghost use Rattle.serde_json.specs.Written.{compact_text};
-ghost use Rattle.definitions.specs.Replacements.{is_let_go, says_the_same};
+ghost use Rattle.definitions.specs.Replacements.{is_finalized, says_the_same};
 ghost use Rattle.definitions.specs.Revisions.{greatest_revision};
-ghost use Rattle.definitions.specs.Verbs.{is_past_greatest, put_in_place, let_go};
-ghost use Rattle.meta.specs.Keys.{name_of};
+ghost use Rattle.definitions.specs.Verbs.{is_past_greatest, put_in_place, take_out};
+ghost use Rattle.meta.specs.Keys.{key_of};
 ghost use Rattle.answers.specs.Serves.{Serves};
 
 use crate::limits::is_too_large;
@@ -15,24 +15,24 @@ use reply::Reply;
 use std::alloc::{AllocError, Global};
 use store::limits::GREATEST_REVISION;
 
-/// The text of the object that is held, if another at its version says the same.
+/// Returns the text of the stored object, if another at its version says the same.
 pub fn unchanged(
     alloc: Global,
-    held: &StoredObject,
+    existing: &StoredObject,
     object: &Object,
 ) -> Result<Option<String>, AllocError>
-    ensures same { IfOk result (λ found. is_some found ≡ says_the_same held.now.value object.now.value) }
-    ensures text { IfOk result (λ found. IfSome found (λ s. string_bytes s ≡ compact_text held.now.value)) }
+    ensures same { IfOk result (λ found. is_some found ≡ says_the_same existing.now.value object.now.value) }
+    ensures text { IfOk result (λ found. IfSome found (λ s. string_bytes s ≡ compact_text existing.now.value)) }
 {
     let text = object.text(alloc)?;
-    if text.as_str() == held.text() {
+    if text.as_str() == existing.text() {
         Ok(Some(text))
     } else {
         Ok(None)
     }
 }
 
-/// Whether the revision after this one is past the greatest.
+/// Returns whether the revision after this one is past the greatest.
 pub fn is_full(before: u64) -> bool
     requires { before ≤ greatest_revision }
     ensures { result ≡ is_past_greatest (before + 1) }
@@ -40,7 +40,7 @@ pub fn is_full(before: u64) -> bool
     before >= GREATEST_REVISION
 }
 
-/// The object under a key in the place of another, or the first refusal: of the length, the room.
+/// Returns the object under a key in the place of another, or the first refusal: of the length, the room.
 pub fn put_in_place(
     alloc: Global,
     key: Key,
@@ -48,7 +48,7 @@ pub fn put_in_place(
     before: u64,
 ) -> Result<(Reply, Option<Write>), Fault>
     requires { before ≤ greatest_revision }
-    ensures { Serves (put_in_place (name_of key) object.now.value before) result }
+    ensures { Serves (put_in_place (key_of key) object.now.value before) result }
 {
     let (stored, text) = stored_with_text(alloc, object)?;
     if is_too_large(text.as_str()) {
@@ -64,20 +64,20 @@ pub fn put_in_place(
     Ok((Reply { code: 200, text }, Some(write)))
 }
 
-/// The object under a key in the place of the one that is held or, where nothing keeps that any more, its removal; or the
+/// Returns the object under a key in the place of the stored one or, where nothing keeps that any more, its removal; or the
 /// first refusal: of the length of what is put, the room.
 pub fn replaced(
     alloc: Global,
     key: Key,
-    held: &Object,
+    existing: &Object,
     object: &Object,
     before: u64,
 ) -> Result<(Reply, Option<Write>), Fault>
     requires { before ≤ greatest_revision }
-    ensures { Serves (if is_let_go held.now.value object.now.value then let_go (name_of key) object.now.value before
-        else put_in_place (name_of key) object.now.value before) result }
+    ensures { Serves (if is_finalized existing.now.value object.now.value then take_out (key_of key) object.now.value before
+        else put_in_place (key_of key) object.now.value before) result }
 {
-    if !is_let_go(held, object) {
+    if !is_let_go(existing, object) {
         return put_in_place(alloc, key, object, before);
     }
     let text = object.text(alloc)?;

@@ -5,8 +5,8 @@ ghost use Rattle.serde_json.specs.Written.{compact_text};
 use meta::{Object, StoredObject};
 use std::alloc::{AllocError, Global};
 
-/// The object as it is to be kept, with a copy of its text for the reply. The text is made once. The error is want of
-/// memory.
+/// Returns the object as it is to be kept, with a copy of its text for the reply. The text is made once. The error is running
+/// out of memory.
 pub fn stored_with_text(
     alloc: Global,
     object: &Object,

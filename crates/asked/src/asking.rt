@@ -2,7 +2,7 @@
 ghost use Rattle.std.specs.Prelude.{◌≡◌, IfOk, option_map, string_bytes};
 ghost use Rattle.definitions.specs.Targets.{asked, read_as, selected, asked_with, body_of, delete_options, query_for, read_request};
 ghost use Rattle.meta.specs.Faults.{refusal_of};
-ghost use Rattle.meta.specs.Keys.{name_of};
+ghost use Rattle.meta.specs.Keys.{key_of};
 ghost use Rattle.requests.specs.Collected.{collection_seen, read_seen};
 ghost use Rattle.requests.specs.Queried.{query_seen};
 ghost use Rattle.routes.specs.Seen.{now, route_seen};
@@ -44,7 +44,7 @@ pub fn read_request(
     }
 }
 
-/// What a method asks of a target that passed the checks, with its query, if the body is not too long.
+/// Returns what a method asks of a target that passed the checks, with its query, if the body is not too long.
 fn ask_with(
     alloc: Global,
     method: Method,
@@ -107,7 +107,7 @@ pub fn ask(
     }
 }
 
-/// The list of what is selected of a collection, or a watch of it.
+/// Returns the list of what is selected of a collection, or a watch of it.
 fn read_as(kind: Kind, namespace: Option<String>, collection: Collection) -> Asked
     ensures { asked_seen result
         ≡ read_as (selected kind (option_map string_bytes namespace) (collection_seen collection)) (read_seen collection.read) }
@@ -124,9 +124,9 @@ fn read_as(kind: Kind, namespace: Option<String>, collection: Collection) -> Ask
     }
 }
 
-/// The key of an object.
+/// Returns the key of an object.
 fn key(alloc: Global, kind: Kind, namespace: &str, name: &str) -> Result<Key, AllocError>
-    ensures { IfOk result (λ k. name_of k ≡ record { kind = kind; namespace = namespace.now; name = name.now }) }
+    ensures { IfOk result (λ k. key_of k ≡ record { kind = kind; namespace = namespace.now; name = name.now }) }
 {
     Ok(Key {
         kind,
@@ -135,7 +135,7 @@ fn key(alloc: Global, kind: Kind, namespace: &str, name: &str) -> Result<Key, Al
     })
 }
 
-/// A text of one's own, where there is one.
+/// Returns a text of one's own, where there is one.
 fn owned(alloc: Global, text: Option<&str>) -> Result<Option<String>, AllocError>
     ensures { IfOk result (λ owned. option_map string_bytes owned ≡ option_map now text.entry) }
 {
@@ -145,7 +145,7 @@ fn owned(alloc: Global, text: Option<&str>) -> Result<Option<String>, AllocError
     }
 }
 
-/// The data of a body.
+/// Returns the data of a body.
 fn read(alloc: Global, body: &[u8]) -> Result<Value, Fault>
     ensures { ReadsData (body_of body.now) result }
 {
@@ -156,7 +156,7 @@ fn read(alloc: Global, body: &[u8]) -> Result<Value, Fault>
     }
 }
 
-/// The options of a delete: what its body says or, without one, its query.
+/// Returns the options of a delete: what its body says or, without one, its query.
 fn delete_options(alloc: Global, query: &Query, body: &[u8]) -> Result<DeleteOptions, Fault>
     ensures { ReadsDelete (delete_options (query_seen query.now) body.now) result }
 {

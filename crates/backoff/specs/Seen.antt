@@ -5,12 +5,12 @@ use Rattle.controllers.specs.Delays as delays
 use Rattle.controllers.specs.Delays.{Delays, alarm_cmp}
 use Rattle.backoff.specs.declared.alarm.Alarm.{Alarm}
 use Rattle.work_keys.specs.Seen.{by_task, seen_set}
-use Rattle.work_keys.specs.Tasks.{task_of}
+use Rattle.work_keys.specs.Tasks.{work_key_of}
 use Rattle.work_keys.specs.declared.work_key.WorkKey.{WorkKey}
 
 -- what an alarm says
 abbrev pub alarm_of : Alarm → delays.Alarm
-alarm_of a = record { at = a.at; task = task_of a.key }
+alarm_of a = record { at = a.at; task = work_key_of a.key }
 
 -- the moments by key
 abbrev pub delays_of : List (WorkKey × ℕ) → Delays

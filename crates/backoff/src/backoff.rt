@@ -2,7 +2,7 @@
 ghost use Rattle.std.specs.Prelude.{◌≡◌, ◌+◌, min, IfOk, OnOk, OnErr};
 ghost use Rattle.std.specs.FinMap as map;
 ghost use Rattle.controllers.specs.Delays.{failures, failed, delay_after};
-ghost use Rattle.work_keys.specs.Tasks.{task_of};
+ghost use Rattle.work_keys.specs.Tasks.{work_key_of};
 
 use std::alloc::{AllocError, Global};
 use std::collections::BTreeMap;
@@ -17,11 +17,11 @@ pub struct Backoff {
 
 impl Model for Backoff {
     ghost use Rattle.controllers.specs.Delays.{Failures};
-    ghost use Rattle.controllers.specs.Codes.{counts_code};
+    ghost use Rattle.controllers.specs.Codes.{coded_counts};
 
     ghost Value = { Failures };
 
-    ghost coded = { counts_code };
+    ghost coded = { coded_counts };
 
     ghost use Rattle.work_keys.specs.Seen.{by_task};
 
@@ -38,10 +38,10 @@ impl Backoff {
         }
     }
 
-    /// How long a key that failed waits, in milliseconds: twice as long after each failure, and at most 1,000 seconds.
+    /// Returns how long a key that failed waits, in milliseconds: twice as long after each failure, and at most 1,000 seconds.
     pub fn delay(&mut self, key: &WorkKey) -> Result<u64, AllocError>
-        ensures ok { OnOk result (self.new ≡ failed (task_of key.now) self.old) }
-        ensures delay { IfOk result (λ d. d ≡ delay_after (failures (task_of key.now) self.old)) }
+        ensures ok { OnOk result (self.new ≡ failed (work_key_of key.now) self.old) }
+        ensures delay { IfOk result (λ d. d ≡ delay_after (failures (work_key_of key.now) self.old)) }
         ensures err { OnErr result (self.new ≡ self.old) }
     {
         let before = self.failures.get(key).copied().unwrap_or(0);
@@ -52,20 +52,20 @@ impl Backoff {
 
     /// A key that succeeded has no failures.
     pub fn forget(&mut self, key: &WorkKey)
-        ensures { self.new ≡ map.remove self.old (task_of key.now) }
+        ensures { self.new ≡ map.remove self.old (work_key_of key.now) }
     {
         self.failures.remove(key);
     }
 }
 
-/// One more failure, of which 32 are counted.
+/// Returns one more failure, of which 32 are counted.
 fn one_more(failures: u32) -> u32
     ensures { result ≡ min (failures + 1) 32 }
 {
     if failures < 32 { failures + 1 } else { 32 }
 }
 
-/// The delay after some failures. The 18th doubling passes the ceiling.
+/// Returns the delay after some failures. The 18th doubling passes the ceiling.
 fn delay_of(failures: u32) -> u64
     ensures { result ≡ delay_after failures }
 {

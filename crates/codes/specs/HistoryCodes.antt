@@ -6,15 +6,15 @@ use Rattle.serde_json.specs.Data.{Data}
 use Rattle.definitions.specs.declared.kinds.Kind.{Kind}
 use Rattle.definitions.specs.contracts.kinds.Kind as kind
 use Rattle.codes.specs.Codes.{coded_data, coded_text}
-use Rattle.definitions.specs.Names.{Name}
+use Rattle.definitions.specs.Keys.{Key}
 use Rattle.definitions.specs.History.{Write, Entry, write, compaction, History}
 
-abbrev pub coded_name : Coded Name
-coded_name =
+abbrev pub coded_key : Coded Key
+coded_key =
     code_by (Kind × (List ℕ × List ℕ)) (coded× kind.the_row.coded (coded× coded_text coded_text)) (λ n. (n.kind, (n.namespace, n.name))) (λ p. record { kind = p.0; namespace = p.1.0; name = p.1.1 }) (λ _. refl)
 
 abbrev pub coded_write : Coded Write
-coded_write = code_by (Name × Option Data) (coded× coded_name (coded_option coded_data)) (λ w. (w.key, w.put)) (λ p. record { key = p.0; put = p.1 }) (λ _. refl)
+coded_write = code_by (Key × Option Data) (coded× coded_key (coded_option coded_data)) (λ w. (w.key, w.put)) (λ p. record { key = p.0; put = p.1 }) (λ _. refl)
 
 abbrev pub entry_parts : Entry → Write ⊎ ℕ
 entry_parts (write w) = inl w

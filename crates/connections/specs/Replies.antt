@@ -5,7 +5,7 @@ use Rattle.definitions.specs.declared.kinds.Kind.{Kind}
 use Rattle.definitions.specs.Frames.{frame_text}
 use Rattle.definitions.specs.Replies.{Reply, outcome, shown, compacted}
 use Rattle.definitions.specs.Refusals.{Refusal, success_body}
-use Rattle.definitions.specs.Streams.{Line, event_of}
+use Rattle.definitions.specs.Streams.{Line, frame_of}
 use Rattle.definitions.specs.Targets.{Asked}
 use Rattle.definitions.specs.Verbs.{outcome_code, outcome_body}
 use Rattle.chunked.specs.Bodies.{crlf, chunks_text, last_chunk}
@@ -58,7 +58,7 @@ watch_head = head_text 200 (codes "Transfer-Encoding: chunked")
 
 -- each line of a watch is a chunk
 abbrev pub frames_text : Kind → List Line → List ℕ
-frames_text k lines = chunks_text (map (λ l. frame_text (event_of k l)) lines)
+frames_text k lines = chunks_text (map (λ l. frame_text (frame_of k l)) lines)
 
 abbrev pub watch_text : Kind → List Line → List ℕ
 watch_text k lines = watch_head ++ (frames_text k lines ++ last_chunk)

@@ -10,7 +10,7 @@ use Rattle.std.specs.FinMap.{IsAntisymmetric, nat_cmp-IsAntisymmetric, find, put
 use Rattle.std.specs.FinMap.Entries.{below_all, by_order}
 use Rattle.std.specs.FinSet as set
 use Rattle.std.specs.FinSet.{contains-from_list, contains-insert, contains-remove, same_set}
-use Rattle.controllers.specs.WorkQueues.{Task, task_cmp}
+use Rattle.controllers.specs.WorkQueues.{WorkKey, work_key_cmp}
 use Rattle.controllers.specs.Delays.{Delays, Alarm, alarm_cmp, alarms}
 use Rattle.controllers.proofs.TaskOrder.{task_total, task_tells, then_Equal}
 
@@ -24,11 +24,11 @@ alarm_tells a b e =
     let t = task_tells a.task b.task parts.1 in
     λ i. record { at = m i; task = t i }
 
-abbrev pub same : Task → Task → Bool
-same = eq_by_cmp task_cmp
+abbrev pub same : WorkKey → WorkKey → Bool
+same = eq_by_cmp work_key_cmp
 
-pub same_tells : (q t : Task) → same q t ≡ true → q ≡ t
-same_tells q t e = task_tells q t ((Equal-is (task_cmp q t)).0 e)
+pub same_tells : (q t : WorkKey) → same q t ≡ true → q ≡ t
+same_tells q t e = task_tells q t ((Equal-is (work_key_cmp q t)).0 e)
 
 abbrev pub same_at : ℕ → ℕ → Bool
 same_at a b = is_eq (nat_cmp a b)
@@ -43,7 +43,7 @@ abbrev pub is_moment : Option ℕ → ℕ → Bool
 is_moment None a = false
 is_moment (Some b) a = same_at a b
 
-abbrev pub alarm_of : Task × ℕ → Alarm
+abbrev pub alarm_of : WorkKey × ℕ → Alarm
 alarm_of e = record { at = e.1; task = e.0 }
 
 abbrev pub alarm_set : Delays → set.FinSet alarm_cmp
@@ -55,7 +55,7 @@ tie_both Equal y = refl
 tie_both Greater y = refl
 
 -- an alarm is that of a key and a moment where both are the same
-at_alarm : (a : Alarm) (k : Task) (b : ℕ) → eq_by_cmp alarm_cmp a (alarm_of (k, b)) ≡ (same_at a.at b && same a.task k)
+at_alarm : (a : Alarm) (k : WorkKey) (b : ℕ) → eq_by_cmp alarm_cmp a (alarm_of (k, b)) ≡ (same_at a.at b && same a.task k)
 at_alarm a k b = tie_both _ _
 
 less_is_not_equal : (o : Ordering) (b : Bool) → T (is_lt o && b) → is_eq o ≡ false
@@ -79,20 +79,20 @@ and_true : (a : Bool) → ((a && true) || false) ≡ a
 and_true true = refl
 and_true false = refl
 
-not_found : (k : Task) (es : List (Task × ℕ)) → T (below_all task_cmp k es) → find task_cmp k es ≡ None
+not_found : (k : WorkKey) (es : List (WorkKey × ℕ)) → T (below_all work_key_cmp k es) → find work_key_cmp k es ≡ None
 not_found k [] h = refl
 not_found k (e ∷ es) h =
-    ap (λ b. cond b (Some e.1) (find task_cmp k es)) (less_is_not_equal (task_cmp k e.0) (below_all task_cmp k es) h)
-    ∙ not_found k es (second (is_lt (task_cmp k e.0)) (below_all task_cmp k es) h)
+    ap (λ b. cond b (Some e.1) (find work_key_cmp k es)) (less_is_not_equal (work_key_cmp k e.0) (below_all work_key_cmp k es) h)
+    ∙ not_found k es (second (is_lt (work_key_cmp k e.0)) (below_all work_key_cmp k es) h)
 
 -- a key stands once among entries in order, so it has one alarm
-found_once : (a : Alarm) (es : List (Task × ℕ)) → T (is_sorted task_cmp es) → list_any (eq_by_cmp alarm_cmp a) (map alarm_of es) ≡ is_moment (find task_cmp a.task es) a.at
+found_once : (a : Alarm) (es : List (WorkKey × ℕ)) → T (is_sorted work_key_cmp es) → list_any (eq_by_cmp alarm_cmp a) (map alarm_of es) ≡ is_moment (find work_key_cmp a.task es) a.at
 found_once a [] h = refl
-found_once a (e ∷ es) h = (λ i. at_alarm a e.0 e.1 i || found_once a es (second (below_all task_cmp e.0 es) (is_sorted task_cmp es) h) i) ∙ by (same a.task e.0) refl
+found_once a (e ∷ es) h = (λ i. at_alarm a e.0 e.1 i || found_once a es (second (below_all work_key_cmp e.0 es) (is_sorted work_key_cmp es) h) i) ∙ by (same a.task e.0) refl
   where
-    by : (t : Bool) → same a.task e.0 ≡ t → ((same_at a.at e.1 && t) || is_moment (find task_cmp a.task es) a.at) ≡ is_moment (cond t (Some e.1) (find task_cmp a.task es)) a.at
-    by true is = ap (λ o. (same_at a.at e.1 && true) || is_moment o a.at) (ap (λ t. find task_cmp t es) (same_tells a.task e.0 is) ∙ not_found e.0 es (first (below_all task_cmp e.0 es) (is_sorted task_cmp es) h)) ∙ and_true (same_at a.at e.1)
-    by false is = ap (λ b. b || is_moment (find task_cmp a.task es) a.at) (and_false (same_at a.at e.1))
+    by : (t : Bool) → same a.task e.0 ≡ t → ((same_at a.at e.1 && t) || is_moment (find work_key_cmp a.task es) a.at) ≡ is_moment (cond t (Some e.1) (find work_key_cmp a.task es)) a.at
+    by true is = ap (λ o. (same_at a.at e.1 && true) || is_moment o a.at) (ap (λ t. find work_key_cmp t es) (same_tells a.task e.0 is) ∙ not_found e.0 es (first (below_all work_key_cmp e.0 es) (is_sorted work_key_cmp es) h)) ∙ and_true (same_at a.at e.1)
+    by false is = ap (λ b. b || is_moment (find work_key_cmp a.task es) a.at) (and_false (same_at a.at e.1))
 
 -- the alarms are those of the keys that are delayed, at their moments
 pub contains-alarms : (m : Delays) (a : Alarm) → set.contains (alarm_set m) a ≡ is_moment (map_of.get m a.task) a.at
@@ -106,7 +106,7 @@ moment_of m a e = by (map_of.get m a.task) (sym (contains-alarms m a) ∙ e)
     by None h = absurd (true≢false (sym h))
     by (Some b) h = ap Some (sym (same_at_tells a.at b h))
 
-module _ (m : Delays) (k : Task) where
+module _ (m : Delays) (k : WorkKey) where
   at_key : (a : Alarm) (o : Option ℕ) → map_of.get m k ≡ o → same a.task k ≡ true → set.contains (alarm_set m) a ≡ is_moment o a.at
   at_key a o is e = contains-alarms m a ∙ ap (λ t. is_moment (map_of.get m t) a.at) (same_tells a.task k e) ∙ ap (λ o. is_moment o a.at) is
 
@@ -200,7 +200,7 @@ find_mark q (k ∷ ks) = ap (λ r. cond (eq_by_cmp alarm_cmp q k) (Some tt) r) (
     by true = refl
     by false = refl
 
-pub marked_entries : (es : List (Task × ℕ)) → map {B = Alarm × Unit {0}} (λ (e : Task × ℕ). (alarm_of e, tt)) es ≡ marked (map alarm_of es)
+pub marked_entries : (es : List (WorkKey × ℕ)) → map {B = Alarm × Unit {0}} (λ (e : WorkKey × ℕ). (alarm_of e, tt)) es ≡ marked (map alarm_of es)
 marked_entries [] = refl
 marked_entries (e ∷ es) = ap (λ r. (alarm_of e, tt) ∷ r) (marked_entries es)
 
@@ -208,7 +208,7 @@ marked_entries (e ∷ es) = ap (λ r. (alarm_of e, tt) ∷ r) (marked_entries es
 pub alarms_are : (m : Delays) (ks : List Alarm) → IsStrictlySortedBy alarm_cmp ks → set.from_list ks ≡ alarm_set m → alarms m ≡ ks
 alarms_are m ks h is =
     ap map_of.keys
-    (same_map alarm_total alarm_tells (map_of.from_entries (map {B = Alarm × Unit {0}} (λ (e : Task × ℕ). (alarm_of e, tt)) (map_of.entries m))) (map_of.from_entries (marked ks))
+    (same_map alarm_total alarm_tells (map_of.from_entries (map {B = Alarm × Unit {0}} (λ (e : WorkKey × ℕ). (alarm_of e, tt)) (map_of.entries m))) (map_of.from_entries (marked ks))
     (λ q. get-from_entries alarm_total _ q
     ∙ ap (find alarm_cmp q) (marked_entries (map_of.entries m))
     ∙ find_mark q (map alarm_of (map_of.entries m))
@@ -220,4 +220,4 @@ alarms_are m ks h is =
 
 -- without delays there are no alarms
 pub no_alarms : alarm_set map_of.empty ≡ set.empty
-no_alarms = ap (λ es. set.from_list {R = alarm_cmp} (map alarm_of es)) (no_entries (map_of.entries (map_of.empty {X = ℕ} {R = task_cmp})) (sym (len-entries (map_of.empty {R = task_cmp})) ∙ len-empty task_cmp ℕ))
+no_alarms = ap (λ es. set.from_list {R = alarm_cmp} (map alarm_of es)) (no_entries (map_of.entries (map_of.empty {X = ℕ} {R = work_key_cmp})) (sym (len-entries (map_of.empty {R = work_key_cmp})) ∙ len-empty work_key_cmp ℕ))

@@ -11,7 +11,7 @@ use Rattle.std.specs.FinMap as map_of
 use Rattle.std.specs.FinMap.{get-remove, get-retain_keys, get_tied, same_map}
 use Rattle.std.specs.FinSet as set
 use Rattle.std.specs.FinSet.{contains-from_list, contains-insert, contains-remove, same_set}
-use Rattle.controllers.specs.WorkQueues.{Task, task_cmp}
+use Rattle.controllers.specs.WorkQueues.{WorkKey, work_key_cmp}
 use Rattle.controllers.specs.Delays.{Delays, Alarm, alarm_cmp, due, has_come, still_delayed}
 use Rattle.controllers.proofs.TaskOrder.{task_total, task_tells}
 use Rattle.controllers.proofs.Alarms.{alarm_total, alarm_tells, alarm_set, alarm_of, contains-alarms, moment_of, alarms_removed, alarms_are, same_at_itself, same_tells, is_moment}
@@ -72,19 +72,19 @@ module _ (m : Delays) (a : Alarm) (ks : List Alarm) (h : AreAlarms m (a ∷ ks))
       ∙ ap (λ b. map (λ (a : Alarm). a.task) (cond b (a ∷ filter (comes now) ks) (filter (comes now) ks))) e
       ∙ ap (λ l. a.task ∷ l) (sym (due_is now (map_of.remove m a.task) ks rest_are))
 
-pub get-still : (now : ℕ) (m : Delays) (q : Task) → map_of.get (still_delayed now m) q ≡ cond (not (has_come now (map_of.get m q))) (map_of.get m q) None
+pub get-still : (now : ℕ) (m : Delays) (q : WorkKey) → map_of.get (still_delayed now m) q ≡ cond (not (has_come now (map_of.get m q))) (map_of.get m q) None
 get-still now m q = get-retain_keys m (λ k. not (has_come now (map_of.get m k))) q (λ x t. ap (λ o. not (has_come now o)) (get_tied task_total m q x t))
 
 -- to take out a key that is due changes nothing of what is left afterwards
-pub still_without : (now at : ℕ) (m : Delays) (k : Task) → map_of.get m k ≡ Some at → nat_le at now ≡ true → still_delayed now (map_of.remove m k) ≡ still_delayed now m
+pub still_without : (now at : ℕ) (m : Delays) (k : WorkKey) → map_of.get m k ≡ Some at → nat_le at now ≡ true → still_delayed now (map_of.remove m k) ≡ still_delayed now m
 still_without now at m k is come =
     same_map task_total task_tells _ _
-    (λ q. get-still now (map_of.remove m k) q ∙ ap (λ o. cond (not (has_come now o)) o None) (get-remove task_total m k q) ∙ by q (eq_by_cmp task_cmp q k) refl ∙ sym (get-still now m q))
+    (λ q. get-still now (map_of.remove m k) q ∙ ap (λ o. cond (not (has_come now o)) o None) (get-remove task_total m k q) ∙ by q (eq_by_cmp work_key_cmp q k) refl ∙ sym (get-still now m q))
   where
     left : (o : Option ℕ) → o ≡ Some at → None ≡ cond (not (has_come now o)) o None
     left o e = ap (λ b. cond (not b) (Some at) None) (sym come) ∙ ap (λ o. cond (not (has_come now o)) o None) (sym e)
 
-    by : (q : Task) (b : Bool) → eq_by_cmp task_cmp q k ≡ b → cond (not (has_come now (cond b None (map_of.get m q)))) (cond b None (map_of.get m q)) None ≡ cond (not (has_come now (map_of.get m q))) (map_of.get m q) None
+    by : (q : WorkKey) (b : Bool) → eq_by_cmp work_key_cmp q k ≡ b → cond (not (has_come now (cond b None (map_of.get m q)))) (cond b None (map_of.get m q)) None ≡ cond (not (has_come now (map_of.get m q))) (map_of.get m q) None
     by q true e = left (map_of.get m q) (ap (map_of.get m) (same_tells q k e) ∙ is)
     by q false e = refl
 
@@ -95,7 +95,7 @@ AllLater now ks = AllByRecursion (λ (y : Alarm). nat_le y.at now ≡ false) ks
 later_than : (a b : Alarm) → alarm_cmp a b ≡ Less → a.at ≤ b.at
 later_than a b e = by (nat_cmp a.at b.at) refl e
   where
-    by : (o : Ordering) → nat_cmp a.at b.at ≡ o → ordering_then o (task_cmp a.task b.task) ≡ Less → a.at ≤ b.at
+    by : (o : Ordering) → nat_cmp a.at b.at ≡ o → ordering_then o (work_key_cmp a.task b.task) ≡ Less → a.at ≤ b.at
     by Less is f = grind (arith, nat_tests, is)
     by Equal is f = grind (arith, nat_tests, is)
     by Greater is f = cc
@@ -131,7 +131,7 @@ module _ (now : ℕ) (m : Delays) (ks : List Alarm) (h : AreAlarms m ks) (l : Al
   all_still_later : still_delayed now m ≡ m
   all_still_later = same_map task_total task_tells _ _ (λ q. get-still now m q ∙ by q (map_of.get m q) refl)
     where
-      by : (q : Task) (o : Option ℕ) → map_of.get m q ≡ o → cond (not (has_come now o)) o None ≡ o
+      by : (q : WorkKey) (o : Option ℕ) → map_of.get m q ≡ o → cond (not (has_come now o)) o None ≡ o
       by q None is = refl
       by q (Some b) is =
           ap (λ c. cond (not c) (Some b) None)

@@ -8,7 +8,7 @@ use Rattle.serde_json.specs.Read.{read}
 use Rattle.definitions.specs.declared.frames.FrameKind.{FrameKind}
 use Rattle.controllers.specs.declared.frame_fault.FrameFault.{FrameFault}
 use Rattle.controllers.specs.declared.frame_fault.FrameFault.TheVariants.{NotAFrame, TooLong}
-use Rattle.definitions.specs.Frames.{Event, kind_named}
+use Rattle.definitions.specs.Frames.{Frame, kind_named}
 
 -- ---- what a line says
 
@@ -16,15 +16,15 @@ use Rattle.definitions.specs.Frames.{Event, kind_named}
 abbrev pub object_at : List ℕ → Data → Option Data
 object_at k d = option_map object (option_and_then as_object (get k d))
 
-abbrev pub with_kind : Option Data → FrameKind → Option Event
+abbrev pub with_kind : Option Data → FrameKind → Option Frame
 with_kind o kind = option_map (λ d. record { kind = kind; object = d }) o
 
 -- an object with a `type` of the five and an object `object`
-abbrev pub event_in : Data → Option Event
-event_in d = option_and_then (with_kind (object_at (codes "object") d)) (option_and_then kind_named (option_and_then as_str (get (codes "type") d)))
+abbrev pub frame_in : Data → Option Frame
+frame_in d = option_and_then (with_kind (object_at (codes "object") d)) (option_and_then kind_named (option_and_then as_str (get (codes "type") d)))
 
-abbrev pub event_of_line : List ℕ → Option Event
-event_of_line l = if is_utf8 l then option_and_then event_in (read l) else None
+abbrev pub frame_of_line : List ℕ → Option Frame
+frame_of_line l = if is_utf8 l then option_and_then frame_in (read l) else None
 
 -- the most bytes of a frame, its newline counted
 abbrev pub longest_frame : ℕ
@@ -34,13 +34,13 @@ longest_frame = 2097152
 abbrev pub has_room : List ℕ → Bool
 has_room l = nat_lt (length l) longest_frame
 
-abbrev pub event_or_fault : Option Event → Result Event FrameFault
-event_or_fault None = Err NotAFrame
-event_or_fault (Some e) = Ok e
+abbrev pub frame_or_fault : Option Frame → Result Frame FrameFault
+frame_or_fault None = Err NotAFrame
+frame_or_fault (Some e) = Ok e
 
 -- what a line says, its newline left out
-abbrev pub line_read : List ℕ → Result Event FrameFault
-line_read l = if has_room l then event_or_fault (event_of_line l) else Err TooLong
+abbrev pub line_read : List ℕ → Result Frame FrameFault
+line_read l = if has_room l then frame_or_fault (frame_of_line l) else Err TooLong
 
 -- ---- what bytes say
 
@@ -58,7 +58,7 @@ rest bytes = get_or (cut_at_newlines bytes) (length (cut_at_newlines bytes) - 1)
 
 -- what was read: the events in order, and then the bytes of a line that is not whole, or a fault
 pub record Read : Type 0 where
-  pub events : List Event
+  pub events : List Frame
   pub held : List ℕ
   pub fault : Option FrameFault
 
@@ -69,10 +69,10 @@ abbrev pub failed : FrameFault → Read
 failed f = record { events = []; held = []; fault = Some f }
 
 -- these events, and then what was read after them
-abbrev pub onto : List Event → Read → Read
+abbrev pub onto : List Frame → Read → Read
 onto es r = record { events = es ++ r.events; held = r.held; fault = r.fault }
 
-abbrev pub next : Result Event FrameFault → Read → Read
+abbrev pub next : Result Frame FrameFault → Read → Read
 next (Ok e) r = onto (e ∷ []) r
 next (Err f) r = failed f
 

@@ -17,14 +17,14 @@ use Rattle.controllers.specs.declared.reflectors.Phase.TheVariants.{Listing, Wat
 use Rattle.controllers.specs.declared.reflectors.End.{End}
 use Rattle.controllers.specs.declared.reflectors.End.TheVariants.{Expired, Unreadable}
 use Rattle.definitions.specs.Kinds.{api_version, kind_text}
-use Rattle.definitions.specs.Names.{Name, is_named}
+use Rattle.definitions.specs.Keys.{Key, is_same_key}
 use Rattle.definitions.specs.History.{Members, put_or_remove}
 use Rattle.definitions.specs.Metadata.{name, namespace, uid, version}
 use Rattle.definitions.specs.Objects.{Object}
 use Rattle.definitions.specs.Reading.{reading}
 use Rattle.definitions.specs.Revisions.{revision_of}
 use Rattle.controllers.specs.ReadFrames as frames
-use Rattle.definitions.specs.Frames.{Event}
+use Rattle.definitions.specs.Frames.{Frame}
 use Rattle.controllers.specs.ReadFrames.{Read}
 
 -- ---- what values say
@@ -57,7 +57,7 @@ abbrev pub shown : Kind → Data → Option Shown
 shown k d = shown_read k (reading k d)
 
 -- the name that an object says
-abbrev pub name_in : Object → Name
+abbrev pub name_in : Object → Key
 name_in o = record { kind = o.kind; namespace = unwrap_or (namespace o.value) []; name = unwrap_or (name o.value) [] }
 
 -- ---- what a list says
@@ -77,9 +77,9 @@ all_shown k no_items = Some []
 all_shown k (item d ds) = option_and_then (λ s. option_map (λ os. s.object ∷ os) (all_shown k ds)) (shown k d)
 
 -- whether a name stands twice
-abbrev pub repeats : List Name → Bool
+abbrev pub repeats : List Key → Bool
 repeats [] = false
-repeats (n ∷ ns) = list_any (λ m. is_named m n) ns || repeats ns
+repeats (n ∷ ns) = list_any (λ m. is_same_key m n) ns || repeats ns
 
 -- objects of which no two have one name
 abbrev pub apart : List Object → Option (List Object)
@@ -106,7 +106,7 @@ list_of k body = if is_utf8 body then option_and_then (list_in k) (read body) el
 pub data Delta : Type 0 where
   replace : ℕ → List Object → Delta
   put : Object → Delta
-  remove : ℕ → Name → Delta
+  remove : ℕ → Key → Delta
   mark : ℕ → Delta
 
 abbrev pub put_in : Members → Object → Members
@@ -186,7 +186,7 @@ step_by Bookmark k last d = or_unreadable (option_map mark_step (marked k last d
 step_by Error k last d = Err (error_end d)
 
 -- what a frame does where the last revision is this one, or the end that it is
-abbrev pub step : Kind → ℕ → Event → Result Step End
+abbrev pub step : Kind → ℕ → Frame → Result Step End
 step k last e = step_by e.kind k last e.object
 
 -- frames that were taken in: their deltas, the revision from then on, and the end, if one of them was one
@@ -203,7 +203,7 @@ going_on last more (Err e) = record { deltas = []; revision = last; ended = Some
 going_on last more (Ok t) = first_delta t.delta (more t.revision)
 
 -- frames in order, up to the first that is an end
-abbrev pub run : Kind → ℕ → List Event → Run
+abbrev pub run : Kind → ℕ → List Frame → Run
 run k last [] = record { deltas = []; revision = last; ended = None }
 run k last (e ∷ es) = going_on last (λ r. run k r es) (step k last e)
 

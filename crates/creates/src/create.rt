@@ -8,7 +8,7 @@ ghost use Rattle.definitions.proofs.VerbSteps.{create_as, create_read};
 ghost use Rattle.definitions.specs.NewObjects.{new_metadata, with_first_status, with_generation};
 ghost use Rattle.definitions.specs.Revisions.{greatest_revision};
 ghost use Rattle.definitions.specs.Values.{members_of};
-ghost use Rattle.meta.specs.Keys.{name_of};
+ghost use Rattle.meta.specs.Keys.{key_of};
 ghost use Rattle.serde_json.specs.View.{view};
 ghost use Rattle.answers.specs.Serves.{Serves};
 
@@ -32,7 +32,7 @@ use validate::{check_create, defaults};
 /// The 48 bits of a uid that say in which cluster it was given.
 const CLUSTER: u64 = 0;
 
-/// A new object of a kind in a namespace, of what a body says.
+/// Returns a new object of a kind in a namespace, of what a body says.
 pub fn create(
     alloc: Global,
     store: &Store,
@@ -55,7 +55,7 @@ pub fn create(
     create_as(alloc, store, key, &object)
 }
 
-/// Whether an object that is to be created names another namespace, or a version.
+/// Returns whether an object that is to be created names another namespace, or a version.
 fn is_misplaced(object: &Object, namespace: &str) -> bool
     ensures { result ≡ (is_other (metadata.namespace object.now.value) namespace.now
         || is_some (metadata.version object.now.value)) }
@@ -64,7 +64,7 @@ fn is_misplaced(object: &Object, namespace: &str) -> bool
     elsewhere || object.resource_version().is_some()
 }
 
-/// The key of this name.
+/// Returns the key of this name.
 fn given_key(alloc: Global, kind: Kind, namespace: &str, name: &str) -> Result<Key, AllocError>
     ensures kind { IfOk result (λ k. k.kind ≡ kind) }
     ensures namespace { IfOk result (λ k. string_bytes k.namespace ≡ namespace.now) }
@@ -77,7 +77,7 @@ fn given_key(alloc: Global, kind: Kind, namespace: &str, name: &str) -> Result<K
     })
 }
 
-/// The key of a new object: with the name that it says, or one that is made, or, where it says nothing of it, none.
+/// Returns the key of a new object: with the name that it says, or one that is made, or, where it says nothing of it, none.
 fn new_key(
     alloc: Global,
     store: &Store,
@@ -85,7 +85,7 @@ fn new_key(
     namespace: &str,
     object: &Object,
 ) -> Result<Key, AllocError>
-    ensures { IfOk result (λ k. name_of k
+    ensures { IfOk result (λ k. key_of k
         ≡ new_name kind namespace.now object.now.value store.now.members store.now.revision) }
 {
     match object.name() {
@@ -97,7 +97,7 @@ fn new_key(
     }
 }
 
-/// The object with the first status of a kind, whatever status the body said.
+/// Returns the object with the first status of a kind, whatever status the body said.
 fn with_first_status(alloc: Global, object: Object, kind: Kind) -> Result<Object, AllocError>
     ensures value { IfOk result (λ o. o.value ≡ with_first_status kind object.value) }
     ensures kind { IfOk result (λ o. o.kind ≡ object.kind) }
@@ -141,7 +141,7 @@ fn set_metadata(
     draft.set_text(alloc, "uid", uid.as_str())
 }
 
-/// The object, which has its first status, with what the server sets in the metadata of a new one under a key, after a
+/// Returns the object, which has its first status, with what the server sets in the metadata of a new one under a key, after a
 /// revision.
 fn created(
     alloc: Global,
@@ -164,14 +164,14 @@ fn created(
     Ok(made)
 }
 
-/// The object under a key where none is, or the first refusal: of the length, what is there, the room.
+/// Returns the object under a key where none is, or the first refusal: of the length, what is there, the room.
 fn create_as(
     alloc: Global,
     store: &Store,
     key: Key,
     object: &Object,
 ) -> Result<(Reply, Option<Write>), Fault>
-    ensures { Serves (create_as (name_of key) object.now.value store.now.members store.now.revision) result }
+    ensures { Serves (create_as (key_of key) object.now.value store.now.members store.now.revision) result }
 {
     let (stored, text) = stored_with_text(alloc, object)?;
     if is_too_large(text.as_str()) {

@@ -21,7 +21,7 @@ const LONGEST_BASE: usize = 58;
 /// How many names are tried.
 const TRIES: u64 = 8;
 
-/// The last digit of a number in base 27.
+/// Returns the last digit of a number in base 27.
 fn letter(number: u64) -> u8
     ensures value { result ≡ unwrap_or (slice_get alphabet (number % 27)) 0 }
     ensures ascii { result < 128 }
@@ -40,7 +40,7 @@ fn push_suffix(name: &mut String, letters: u32, number: u64) -> Result<(), Alloc
     name.push(letter(number) as char)
 }
 
-/// What is given, cut to 58 bytes; a character that is cut through becomes U+FFFD.
+/// Returns what is given, cut to 58 bytes; a character that is cut through becomes U+FFFD.
 fn base(alloc: Global, given: &str) -> Result<String, AllocError>
     ensures { IfOk result (λ b. string_bytes b ≡ utf8_lossy (take 58 given.now)) }
 {
@@ -51,7 +51,7 @@ fn base(alloc: Global, given: &str) -> Result<String, AllocError>
     String::from_utf8_lossy(alloc, &bytes[..LONGEST_BASE])
 }
 
-/// The key whose name is a base with the digits of a number behind it.
+/// Returns the key whose name is a base with the digits of a number behind it.
 fn numbered_key(
     alloc: Global,
     kind: Kind,
@@ -72,15 +72,15 @@ fn numbered_key(
     })
 }
 
-/// Whether no object is under a key.
+/// Returns whether no object is under a key.
 fn is_free(store: &Store, key: &Key) -> bool
     ensures { result ≡ is_free key.now.kind (string_bytes key.now.namespace) store.now.members (string_bytes key.now.name) }
 {
     store.get(key).is_none()
 }
 
-/// The key of a new object whose name is made of what is given: the first of eight that is free, each made of the next
-/// number from the next revision on; where none is, the first of them. The error is want of memory.
+/// Returns the key of a new object whose name is made of what is given: the first of eight that is free, each made of the next
+/// number from the next revision on; where none is, the first of them. The error is running out of memory.
 pub fn made_key(
     alloc: Global,
     store: &Store,

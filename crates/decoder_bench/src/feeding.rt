@@ -33,7 +33,7 @@ impl From<AllocError> for FeedFault {
     }
 }
 
-/// A frame of this many bytes, its newline counted: a change of a ConfigMap whose data fills it.
+/// Returns a frame of this many bytes, its newline counted: a change of a ConfigMap whose data fills it.
 fn frame(alloc: Global, size: usize) -> Result<Vec<u8>, FeedFault>
     requires { SHORTEST_FRAME ≤ size }
 {
@@ -44,7 +44,7 @@ fn frame(alloc: Global, size: usize) -> Result<Vec<u8>, FeedFault>
     Ok(bytes)
 }
 
-/// As many frames of one size as go into a number of bytes.
+/// Returns as many frames of one size as go into a number of bytes.
 pub fn input(alloc: Global, size: usize, total: usize) -> Result<Vec<u8>, FeedFault>
     requires { SHORTEST_FRAME ≤ size }
 {

@@ -11,7 +11,7 @@ use std::alloc::Global;
 use std::process::ExitCode;
 use std::{env, io};
 
-/// What the program is asked by its arguments.
+/// Returns what the program is asked by its arguments.
 fn read_arguments(rt: &HostRuntime) -> io::Result<Option<Asked>> {
     let mut words = env::args(rt)?;
     let _program = words.next();
@@ -23,13 +23,13 @@ fn read_arguments(rt: &HostRuntime) -> io::Result<Option<Asked>> {
     }
 }
 
-/// The number of frames that come out.
+/// Returns the number of frames that come out.
 fn frames(alloc: Global, asked: Asked) -> Result<u64, FeedFault> {
     let input = feeding::input(alloc, asked.frame, asked.total)?;
     feeding::count(alloc, input.as_slice(), asked.piece)
 }
 
-/// What a fault is called on standard error.
+/// Returns what a fault is called on standard error.
 fn fault_name(fault: FeedFault) -> &'static str {
     match fault {
         FeedFault::Want => "no memory",

@@ -13,12 +13,12 @@ use Rattle.definitions.specs.Kinds.{rank}
 use Rattle.definitions.specs.Metadata.{labels_of}
 use Rattle.definitions.specs.SelectorFields.{fields_meet}
 use Rattle.definitions.specs.Selectors.{meets_all}
-use Rattle.definitions.specs.Names.{Name, name_cmp}
+use Rattle.definitions.specs.Keys.{Key, key_cmp}
 use Rattle.definitions.specs.History.{History, View, Members, viewed, in_view, in_namespace, list, up_to, members}
 use Rattle.definitions.specs.Pages.{Place, place_of, place_cmp, after_place, last_place, page_of, remaining, AreInPlace}
 use Rattle.definitions.proofs.PutLaws.{IsAbove, IsAscending, IsAscending-after_all}
 
-abbrev pub order : Name → Name → Ordering
+abbrev pub order : Key → Key → Ordering
 order a b = place_cmp (place_of a) (place_of b)
 
 pub place_total : IsTotalOrder place_cmp
@@ -36,16 +36,16 @@ abbrev later : Place → Members → Members
 later p ms = filter (λ m. is_lt (place_cmp p (place_of m.0))) ms
 
 -- above a place all are after it
-all_later : (k : Name) (ms : Members) → IsAbove order k ms → later (place_of k) ms ≡ ms
+all_later : (k : Key) (ms : Members) → IsAbove order k ms → later (place_of k) ms ≡ ms
 all_later k [] a = refl
 all_later k (m ∷ ms) a = rw a.0 (ap (λ z. m ∷ z) (all_later k ms a.1))
 
-in_middle : (j : Name) (es : Members) (e : Name × Data) (more : Members) → IsAbove order j (es ++ e ∷ more) → order j e.0 ≡ Less
+in_middle : (j : Key) (es : Members) (e : Key × Data) (more : Members) → IsAbove order j (es ++ e ∷ more) → order j e.0 ≡ Less
 in_middle j [] e more h = h.0
 in_middle j (f ∷ es) e more h = in_middle j es e more h.1
 
 -- after the place of a member come those that follow it
-rest_later : (xs : Members) (m : Name × Data) (ys : Members) → IsAscending order (xs ++ m ∷ ys) → later (place_of m.0) (xs ++ m ∷ ys) ≡ ys
+rest_later : (xs : Members) (m : Key × Data) (ys : Members) → IsAscending order (xs ++ m ∷ ys) → later (place_of m.0) (xs ++ m ∷ ys) ≡ ys
 rest_later [] m ys a = rw (itself (place_of m.0)) (all_later m.0 ys a.0)
 rest_later (x ∷ xs) m ys a =
     let below : place_cmp (place_of m.0) (place_of x.0) ≡ Greater = place_total.antisymm (place_of m.0) (place_of x.0) ∙ ap ordering_reverse (in_middle x.0 xs m ys a.0) in
@@ -57,12 +57,12 @@ no_some q h = cc
 not_false : true ≡ false → ⊥
 not_false h = cc
 
-last_split : (xs : Members) (q : Place) → last_place xs ≡ Some q → (cs : Members) × (m : Name × Data) × (xs ≡ cs ++ m ∷ []) × (Some (place_of m.0) ≡ Some q)
+last_split : (xs : Members) (q : Place) → last_place xs ≡ Some q → (cs : Members) × (m : Key × Data) × (xs ≡ cs ++ m ∷ []) × (Some (place_of m.0) ≡ Some q)
 last_split [] q h = absurd (no_some q h)
 last_split (m ∷ []) q h = ([], m, refl, h)
 last_split (m ∷ n ∷ ms) q h = let s = last_split (n ∷ ms) q h in (m ∷ s.0, s.1, ap (λ z. m ∷ z) s.2, s.3)
 
-last_there : (m : Name × Data) (ms : Members) → last_place (m ∷ ms) ≡ None → ⊥
+last_there : (m : Key × Data) (ms : Members) → last_place (m ∷ ms) ≡ None → ⊥
 last_there m [] h = cc
 last_there m (n ∷ ms) h = last_there n ms h
 
@@ -108,7 +108,7 @@ first_part : (a b : Bool) → (a && b) ≡ true → a ≡ true
 first_part true b h = refl
 first_part false b h = h
 
-same_rank : (v : View) (a : Name) (d : Data) → in_view v a d ≡ true → rank v.kind ≡ rank a.kind
+same_rank : (v : View) (a : Key) (d : Data) → in_view v a d ≡ true → rank v.kind ≡ rank a.kind
 same_rank v a d h =
     let kinds = rank v.kind == rank a.kind in
     let namespaces = in_namespace v.namespace a.namespace in
@@ -119,24 +119,24 @@ same_rank v a d h =
 nat_self : (n : ℕ) → nat_cmp n n ≡ Equal
 nat_self n = reversed (nat_cmp n n) (nat_cmp_total.antisymm n n)
 
-same_order : (v : View) (a b : Name) (d e : Data) → in_view v a d ≡ true → in_view v b e ≡ true → order a b ≡ name_cmp a b
+same_order : (v : View) (a b : Key) (d e : Data) → in_view v a d ≡ true → in_view v b e ≡ true → order a b ≡ key_cmp a b
 same_order v a b d e g h =
     let ranks : rank a.kind ≡ rank b.kind = sym (same_rank v a d g) ∙ same_rank v b e h in
     sym (then_same (nat_cmp (rank a.kind) (rank b.kind)) (order a b) (ap (nat_cmp (rank a.kind)) (sym ranks) ∙ nat_self (rank a.kind)))
 
-above_cond : (v : View) (k : Name) (d : Data) (b : Bool) (e : Name × Data) (es : Members) → in_view v k d ≡ true → in_view v e.0 e.1 ≡ b → name_cmp k e.0 ≡ Less → IsAbove order k es → IsAbove order k (cond b (e ∷ es) es)
+above_cond : (v : View) (k : Key) (d : Data) (b : Bool) (e : Key × Data) (es : Members) → in_view v k d ≡ true → in_view v e.0 e.1 ≡ b → key_cmp k e.0 ≡ Less → IsAbove order k es → IsAbove order k (cond b (e ∷ es) es)
 above_cond v k d true e es g h l a = (same_order v k e.0 d e.1 g h ∙ l, a)
 above_cond v k d false e es g h l a = a
 
-above_viewed : (v : View) (k : Name) (d : Data) (es : Members) → in_view v k d ≡ true → IsAbove name_cmp k es → IsAbove order k (viewed v es)
+above_viewed : (v : View) (k : Key) (d : Data) (es : Members) → in_view v k d ≡ true → IsAbove key_cmp k es → IsAbove order k (viewed v es)
 above_viewed v k d [] g a = tt
 above_viewed v k d (e ∷ es) g a = above_cond v k d (in_view v e.0 e.1) e (viewed v es) g refl a.0 (above_viewed v k d es g a.1)
 
-ascending_cond : (v : View) (b : Bool) (e : Name × Data) (es : Members) → in_view v e.0 e.1 ≡ b → IsAbove name_cmp e.0 es → IsAscending order (viewed v es) → IsAscending order (cond b (e ∷ viewed v es) (viewed v es))
+ascending_cond : (v : View) (b : Bool) (e : Key × Data) (es : Members) → in_view v e.0 e.1 ≡ b → IsAbove key_cmp e.0 es → IsAscending order (viewed v es) → IsAscending order (cond b (e ∷ viewed v es) (viewed v es))
 ascending_cond v true e es g a s = (above_viewed v e.0 e.1 es g a, s)
 ascending_cond v false e es g a s = s
 
-pub ascending_viewed : (v : View) (es : Members) → IsAscending name_cmp es → IsAscending order (viewed v es)
+pub ascending_viewed : (v : View) (es : Members) → IsAscending key_cmp es → IsAscending order (viewed v es)
 ascending_viewed v [] a = tt
 ascending_viewed v (e ∷ es) a = ascending_cond v (in_view v e.0 e.1) e es refl a.0 (ascending_viewed v es a.1)
 
@@ -147,7 +147,7 @@ pub all_after : (ms : Members) → after_place None ms ≡ ms
 all_after [] = refl
 all_after (m ∷ ms) = ap (λ z. m ∷ z) (all_after ms)
 
-all_below : (k : Name) (ms : Members) → IsAbove order k ms → AllByRecursion (λ y. place_cmp (place_of k) y ≡ Less) (map (λ m. place_of m.0) ms)
+all_below : (k : Key) (ms : Members) → IsAbove order k ms → AllByRecursion (λ y. place_cmp (place_of k) y ≡ Less) (map (λ m. place_of m.0) ms)
 all_below k [] a = tt
 all_below k (m ∷ ms) a = (a.0, all_below k ms a.1)
 

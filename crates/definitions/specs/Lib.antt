@@ -7,7 +7,7 @@ pub mod Answers
 pub mod Watching
 pub mod Replies
 pub use Rattle.definitions.specs.Texts.Kinds
-pub use Rattle.definitions.specs.Texts.Names
+pub use Rattle.definitions.specs.Texts.Keys
 pub use Rattle.definitions.specs.Texts.Values
 pub use Rattle.definitions.specs.Texts.Labels
 pub use Rattle.definitions.specs.Texts.Moments
@@ -27,7 +27,7 @@ pub use Rattle.definitions.specs.Objects.NewObjects
 pub use Rattle.definitions.specs.Objects.Replacements
 pub use Rattle.definitions.specs.Objects.Refusals
 pub use Rattle.definitions.specs.State.History
-pub use Rattle.definitions.specs.State.Changes
+pub use Rattle.definitions.specs.State.Events
 pub use Rattle.definitions.specs.State.Windows
 pub use Rattle.definitions.specs.State.Pages
 pub use Rattle.definitions.specs.Requests.Queries

@@ -1,6 +1,6 @@
 -- Kinds, names, JSON values and the small texts that objects carry (labels, moments, revisions, uids), and what selects objects by them.
 pub mod Kinds
-pub mod Names
+pub mod Keys
 pub mod Values
 pub mod Labels
 pub mod Moments

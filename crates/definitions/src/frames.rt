@@ -30,7 +30,7 @@ impl ChangeKind {
     ghost use Rattle.std.specs.Prelude.{◌≡◌};
     ghost use Rattle.definitions.specs.Frames.{frame_kind};
 
-    /// The type of the change's frame.
+    /// Returns the type of the change's frame.
     pub fn frame_kind(self) -> FrameKind
         ensures { result ≡ frame_kind self }
     {
@@ -46,7 +46,7 @@ impl FrameKind {
     ghost use Rattle.std.specs.Prelude.{◌≡◌};
     ghost use Rattle.definitions.specs.Frames.{kind_text, kind_named};
 
-    /// What a frame of the kind says in its member `type`.
+    /// Returns what a frame of the kind says in its member `type`.
     pub fn text(self) -> &'static str
         ensures { result.now ≡ kind_text self }
     {
@@ -59,7 +59,7 @@ impl FrameKind {
         }
     }
 
-    /// The kind that a member `type` names.
+    /// Returns the kind that a member `type` names.
     pub fn named(text: &str) -> Option<FrameKind>
         ensures { result ≡ kind_named text.now }
     {

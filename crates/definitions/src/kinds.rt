@@ -26,7 +26,7 @@ impl Group {
     ghost use Rattle.std.specs.Prelude.{◌≡◌};
     ghost use Rattle.definitions.specs.Kinds.{kind_named};
 
-    /// The kind of this group whose plural name this is.
+    /// Returns the kind of this group whose plural name this is.
     pub fn kind_named(self, plural: &str) -> Option<Kind>
         ensures { result ≡ kind_named self plural.now }
     {
@@ -57,7 +57,7 @@ impl Kind {
     ghost use Rattle.std.specs.Prelude.{◌≡◌};
     ghost use Rattle.definitions.specs.Kinds.{group, group_name, kind_text, api_version, plural, resource, has_status, has_generation};
 
-    /// The group that the kind belongs to.
+    /// Returns the group that the kind belongs to.
     pub fn group(self) -> Group
         ensures { result ≡ group self }
     {
@@ -67,7 +67,7 @@ impl Kind {
         }
     }
 
-    /// The name of that group; the core group has none.
+    /// Returns the name of that group; the core group has none.
     pub fn group_name(self) -> &'static str
         ensures { result.now ≡ group_name self }
     {
@@ -77,7 +77,7 @@ impl Kind {
         }
     }
 
-    /// What an object of the kind says in its member `kind`.
+    /// Returns what an object of the kind says in its member `kind`.
     pub fn name(self) -> &'static str
         ensures { result.now ≡ kind_text self }
     {
@@ -89,7 +89,7 @@ impl Kind {
         }
     }
 
-    /// What it says in its member `apiVersion`.
+    /// Returns what it says in its member `apiVersion`.
     pub fn api_version(self) -> &'static str
         ensures { result.now ≡ api_version self }
     {
@@ -99,7 +99,7 @@ impl Kind {
         }
     }
 
-    /// The name of its resource in paths.
+    /// Returns the name of its resource in paths.
     pub fn plural(self) -> &'static str
         ensures { result.now ≡ plural self }
     {
@@ -111,7 +111,7 @@ impl Kind {
         }
     }
 
-    /// The name of its resource in messages, with the group.
+    /// Returns the name of its resource in messages, with the group.
     pub fn resource(self) -> &'static str
         ensures { result.now ≡ resource self }
     {
@@ -123,7 +123,7 @@ impl Kind {
         }
     }
 
-    /// Whether its objects have a status, at a path of its own.
+    /// Returns whether its objects have a status, at a path of its own.
     pub fn has_status(self) -> bool
         ensures { result ≡ has_status self }
     {
@@ -133,7 +133,7 @@ impl Kind {
         }
     }
 
-    /// Whether the server counts changes of its objects' specs in `metadata.generation`.
+    /// Returns whether the server counts changes of its objects' specs in `metadata.generation`.
     pub fn has_generation(self) -> bool
         ensures { result ≡ has_generation self }
     {

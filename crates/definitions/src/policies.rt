@@ -25,7 +25,7 @@ impl Policy {
     ghost use Rattle.std.specs.Prelude.{◌≡◌};
     ghost use Rattle.definitions.specs.DeleteOptions.{policy_named};
 
-    /// The policy with this name.
+    /// Returns the policy with this name.
     pub fn named(name: &str) -> Option<Policy>
         ensures { result ≡ policy_named name.now }
     {
@@ -40,11 +40,11 @@ impl Policy {
 
 impl PolicySaid {
     ghost use Rattle.std.specs.Prelude.{◌≡◌, option_map};
-    ghost use Rattle.definitions.specs.DeleteOptions.{policy_said};
+    ghost use Rattle.definitions.specs.DeleteOptions.{stated_policy};
 
-    /// What a text, where there is one, says of a policy.
+    /// Returns what a text, where there is one, says of a policy.
     pub fn read(text: Option<&str>) -> PolicySaid
-        ensures { result ≡ policy_said (option_map (λ s. s.now) text.entry) }
+        ensures { result ≡ stated_policy (option_map (λ s. s.now) text.entry) }
     {
         let Some(name) = text else {
             return PolicySaid::Nothing;

@@ -50,7 +50,7 @@ impl Part {
     ghost use Rattle.std.specs.Prelude.{◌≡◌};
     ghost use Rattle.definitions.specs.Refusals.{part_text};
 
-    /// How a message names the part.
+    /// Returns how a message names the part.
     pub fn text(self) -> &'static str
         ensures { result.now ≡ part_text self }
     {
@@ -70,7 +70,7 @@ impl Mismatch {
     ghost use Rattle.std.specs.Prelude.{◌≡◌};
     ghost use Rattle.definitions.specs.Refusals.{mismatch_text};
 
-    /// The end of the message.
+    /// Returns the end of the message.
     pub fn text(self) -> &'static str
         ensures { result.now ≡ mismatch_text self }
     {
@@ -88,7 +88,7 @@ impl Field {
     ghost use Rattle.std.specs.Prelude.{◌≡◌};
     ghost use Rattle.definitions.specs.Refusals.{field_text};
 
-    /// How a message names the field: its path in the object.
+    /// Returns how a message names the field: its path in the object.
     pub fn text(self) -> &'static str
         ensures { result.now ≡ field_text self }
     {

@@ -24,7 +24,7 @@ impl Match {
     ghost use Rattle.std.specs.Prelude.{◌≡◌, option_map};
     ghost use Rattle.definitions.specs.Collections.{match_of};
 
-    /// The match that a parameter names, or that nothing is said; nothing, if it is no name of a match.
+    /// Returns the match that a parameter names, or that nothing is said; nothing, if it is no name of a match.
     pub fn read(name: Option<&str>) -> Option<Match>
         ensures { result ≡ match_of (option_map (λ t. t.now) name.entry) }
     {

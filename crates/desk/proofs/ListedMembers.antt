@@ -5,13 +5,13 @@ use Rattle.std.specs.Map.{remove_entry}
 use Rattle.std.specs.Ordering.{match_ordering}
 use Rattle.std.specs.BTreeMap.{insert_entry, is_at}
 use Rattle.serde_json.specs.Data.{Data}
-use Rattle.definitions.specs.Names.{Name, name_cmp}
+use Rattle.definitions.specs.Keys.{Key, key_cmp}
 use Rattle.definitions.specs.History.{View, Members, viewed, in_view, put_or_remove, seen}
 use Rattle.definitions.specs.Pages.{AreInPlace, place_of, last_place}
 use Rattle.definitions.specs.Refusals.{Refusal, expired, too_new}
-use Rattle.definitions.specs.Windows.{Kept}
-use Rattle.server_state.specs.Recorded.{Window, above, undone, list_kept}
-use Rattle.meta.specs.Keys.{name_of}
+use Rattle.definitions.specs.Windows.{Change}
+use Rattle.server_state.specs.Recorded.{Window, above, undone, recorded_list}
+use Rattle.meta.specs.Keys.{key_of}
 use Rattle.meta.specs.Members.{member_of}
 use Rattle.meta.specs.declared.lent_members.Member.{Member}
 use Rattle.watch_cache.specs.Served.{Serves}
@@ -23,7 +23,7 @@ abbrev pub AllIn : View → Members → Type 0
 AllIn v [] = Unit {0}
 AllIn v (m ∷ ms) = (in_view v m.0 m.1 ≡ true) × AllIn v ms
 
-viewed_at : (v : View) (b : Bool) (m : Name × Data) (ms : Members) → in_view v m.0 m.1 ≡ b → AllIn v ms → AllIn v (cond b (m ∷ ms) ms)
+viewed_at : (v : View) (b : Bool) (m : Key × Data) (ms : Members) → in_view v m.0 m.1 ≡ b → AllIn v ms → AllIn v (cond b (m ∷ ms) ms)
 viewed_at v true m ms is a = (is, a)
 viewed_at v false m ms is a = a
 
@@ -36,47 +36,47 @@ all_viewed v [] a = refl
 all_viewed v (m ∷ ms) a = rw a.0 (ap (λ z. m ∷ z) (all_viewed v ms a.1))
 
 -- members in order that one view asks for stand in the order of places
-pub in_place : (v : View) (ms : Members) → AllIn v ms → IsAscending name_cmp ms → AreInPlace ms
+pub in_place : (v : View) (ms : Members) → AllIn v ms → IsAscending key_cmp ms → AreInPlace ms
 in_place v ms a up = in_place_from ms (subst (λ z. IsAscending order z) (all_viewed v ms a) (ascending_viewed v ms up))
 
 -- ---- what is left when changes are undone
 
-removed_at : (v : View) (b : Bool) (m : Name × Data) (ms rest : Members) → AllIn v (m ∷ ms) → AllIn v rest → AllIn v (cond b ms (m ∷ rest))
+removed_at : (v : View) (b : Bool) (m : Key × Data) (ms rest : Members) → AllIn v (m ∷ ms) → AllIn v rest → AllIn v (cond b ms (m ∷ rest))
 removed_at v true m ms rest a r = a.1
 removed_at v false m ms rest a r = (a.0, r)
 
-removed_in : (v : View) (k : Name) (ms : Members) → AllIn v ms → AllIn v (remove_entry (is_at (name_cmp k)) ms)
+removed_in : (v : View) (k : Key) (ms : Members) → AllIn v ms → AllIn v (remove_entry (is_at (key_cmp k)) ms)
 removed_in v k [] a = tt
-removed_in v k (m ∷ ms) a = removed_at v (is_eq (name_cmp k m.0)) m ms (remove_entry (is_at (name_cmp k)) ms) a (removed_in v k ms a.1)
+removed_in v k (m ∷ ms) a = removed_at v (is_eq (key_cmp k m.0)) m ms (remove_entry (is_at (key_cmp k)) ms) a (removed_in v k ms a.1)
 
-put_at : (v : View) (k : Name) (d : Data) (m : Name × Data) (ms rest : Members) (r : Ordering) → name_cmp k m.0 ≡ r → in_view v k d ≡ true → AllIn v (m ∷ ms) → AllIn v rest
+put_at : (v : View) (k : Key) (d : Data) (m : Key × Data) (ms rest : Members) (r : Ordering) → key_cmp k m.0 ≡ r → in_view v k d ≡ true → AllIn v (m ∷ ms) → AllIn v rest
     → AllIn v (match_ordering r ((k, d) ∷ m ∷ ms) ((m.0, d) ∷ ms) (m ∷ rest))
 put_at v k d m ms rest Less at is a r = (is, a)
 put_at v k d m ms rest Equal at is a r = (ap (λ n. in_view v n d) (sym (same_name k m.0 (ap is_eq at))) ∙ is, a.1)
 put_at v k d m ms rest Greater at is a r = (a.0, r)
 
-put_in : (v : View) (k : Name) (d : Data) (ms : Members) → in_view v k d ≡ true → AllIn v ms → AllIn v (insert_entry name_cmp ms k d)
+put_in : (v : View) (k : Key) (d : Data) (ms : Members) → in_view v k d ≡ true → AllIn v ms → AllIn v (insert_entry key_cmp ms k d)
 put_in v k d [] is a = (is, tt)
-put_in v k d (m ∷ ms) is a = put_at v k d m ms (insert_entry name_cmp ms k d) (name_cmp k m.0) refl is a (put_in v k d ms is a.1)
+put_in v k d (m ∷ ms) is a = put_at v k d m ms (insert_entry key_cmp ms k d) (key_cmp k m.0) refl is a (put_in v k d ms is a.1)
 
-seen_at : (v : View) (k : Name) (d : Data) (b : Bool) (ms : Members) → in_view v k d ≡ b → AllIn v ms → AllIn v (put_or_remove ms k (cond b (Some d) None))
+seen_at : (v : View) (k : Key) (d : Data) (b : Bool) (ms : Members) → in_view v k d ≡ b → AllIn v ms → AllIn v (put_or_remove ms k (cond b (Some d) None))
 seen_at v k d true ms is a = put_in v k d ms is a
 seen_at v k d false ms is a = removed_in v k ms a
 
-seen_in : (v : View) (k : Name) (o : Option Data) (ms : Members) → AllIn v ms → AllIn v (put_or_remove ms k (seen v k o))
+seen_in : (v : View) (k : Key) (o : Option Data) (ms : Members) → AllIn v ms → AllIn v (put_or_remove ms k (seen v k o))
 seen_in v k None ms a = removed_in v k ms a
 seen_in v k (Some d) ms a = seen_at v k d (in_view v k d) ms refl a
 
-pub undone_in : (v : View) (ms : Members) (ks : List Kept) → AllIn v ms → AllIn v (undone v ms ks)
+pub undone_in : (v : View) (ms : Members) (ks : List Change) → AllIn v ms → AllIn v (undone v ms ks)
 undone_in v ms [] a = a
 undone_in v ms (k ∷ ks) a = seen_in v k.key k.old (undone v ms ks) (undone_in v ms ks a)
 
-pub undone_ascending : (v : View) (ms : Members) (ks : List Kept) → IsAscending name_cmp ms → IsAscending name_cmp (undone v ms ks)
+pub undone_ascending : (v : View) (ms : Members) (ks : List Change) → IsAscending key_cmp ms → IsAscending key_cmp (undone v ms ks)
 undone_ascending v ms [] a = a
 undone_ascending v ms (k ∷ ks) a = IsAscending-after k.key (seen v k.key k.old) (undone v ms ks) (undone_ascending v ms ks a)
 
-pub viewed_ascending : (v : View) (ms : Members) → IsAscending name_cmp ms → IsAscending name_cmp (viewed v ms)
-viewed_ascending v ms a = IsAscending-filter name_cmp (λ m. in_view v m.0 m.1) ms a
+pub viewed_ascending : (v : View) (ms : Members) → IsAscending key_cmp ms → IsAscending key_cmp (viewed v ms)
+viewed_ascending v ms a = IsAscending-filter key_cmp (λ m. in_view v m.0 m.1) ms a
 
 -- ---- what is served of them
 
@@ -86,21 +86,21 @@ served_at seen false true f g x y is = absurd is
 served_at seen false false f g x y is = is
 
 -- an earlier list of a view stands in the order of places
-pub earlier_in_place : {Y : Type 0} (seen_of : Y → Members) (w : Window) (now r : ℕ) (v : View) (ms ls : Members) (y : Y) → IsAscending name_cmp ms → ls ≡ viewed v ms
-    → Serves seen_of (list_kept w now ls v r) (Ok y) → AreInPlace (seen_of y)
+pub earlier_in_place : {Y : Type 0} (seen_of : Y → Members) (w : Window) (now r : ℕ) (v : View) (ms ls : Members) (y : Y) → IsAscending key_cmp ms → ls ≡ viewed v ms
+    → Serves seen_of (recorded_list w now ls v r) (Ok y) → AreInPlace (seen_of y)
 earlier_in_place seen_of w now r v ms ls y up at is =
     let left : undone v ls (above r w.kept) ≡ seen_of y = served_at seen_of (nat_lt r w.floor) (nat_lt now r) (expired r w.floor) (too_new r now) (undone v ls (above r w.kept)) y is in
     let all : AllIn v ls = subst (λ z. AllIn v z) (sym at) (viewed_in v ms) in
-    let rising : IsAscending name_cmp ls = subst (λ z. IsAscending name_cmp z) (sym at) (viewed_ascending v ms up) in
+    let rising : IsAscending key_cmp ls = subst (λ z. IsAscending key_cmp z) (sym at) (viewed_ascending v ms up) in
     subst (λ z. AreInPlace z) left (in_place v (undone v ls (above r w.kept)) (undone_in v ls (above r w.kept) all) (undone_ascending v ls (above r w.kept) rising))
 
 -- ---- the place of the last member
 
-last_at : (x : Member) (ms : List Member) (m : Member) → slice_get (x ∷ ms) (length ms) ≡ Some m → last_place (map member_of (x ∷ ms)) ≡ Some (place_of (name_of m.key.now))
+last_at : (x : Member) (ms : List Member) (m : Member) → slice_get (x ∷ ms) (length ms) ≡ Some m → last_place (map member_of (x ∷ ms)) ≡ Some (place_of (key_of m.key.now))
 last_at x [] m is = cc
 last_at x (y ∷ ms) m is = last_at y ms m is
 
-pub last_member : (ms : List Member) (m : Member) → slice_get ms (length ms - 1) ≡ Some m → last_place (map member_of ms) ≡ Some (place_of (name_of m.key.now))
+pub last_member : (ms : List Member) (m : Member) → slice_get ms (length ms - 1) ≡ Some m → last_place (map member_of ms) ≡ Some (place_of (key_of m.key.now))
 last_member [] m is = cc
 last_member (x ∷ ms) m is =
     let place : length ms ≡ suc (length ms) - 1 = omega arith in

@@ -5,14 +5,14 @@ use Rattle.std.specs.Result.{result_map_both}
 use Rattle.std.proofs.lemmas.Bool.Decides.{nat_tests}
 use Rattle.std.proofs.lemmas.List.{take_all, length-append}
 use Rattle.serde_json.specs.Data.{Data}
-use Rattle.definitions.specs.Changes.{Change, change_of}
+use Rattle.definitions.specs.Events.{Event as Change, event_of}
 use Rattle.definitions.specs.History.{View, seen}
-use Rattle.definitions.specs.Names.{Name}
+use Rattle.definitions.specs.Keys.{Key}
 use Rattle.definitions.specs.Refusals.{Refusal}
 use Rattle.definitions.specs.Versions.{watched, last_change}
-use Rattle.definitions.specs.Windows.{Kept, within}
-use Rattle.server_state.specs.Recorded.{Window, above, change_kept, changes_kept, since_kept}
-use Rattle.revisions.specs.Events.{change_seen}
+use Rattle.definitions.specs.Windows.{Change as Kept, within}
+use Rattle.server_state.specs.Recorded.{Window, above, event_recorded, events_recorded, recorded_since}
+use Rattle.revisions.specs.Events.{event_seen}
 use Rattle.revisions.specs.declared.events.Event.{Event}
 use Rattle.watch_cache.specs.Served.{Serves}
 use Rattle.revisions.specs.Watches.{watched_of}
@@ -20,7 +20,7 @@ use Rattle.revisions.specs.declared.watched.Watched.{Watched}
 
 -- the first n of more than n changes
 pub given_part : {Y : Type 0} (seen : Y → List Change) (all : Result (List Change) Refusal) (y : Y) (now a n : ℕ) (w : Watched) → Serves seen all (Ok y) → n < length (seen y)
-    → map change_seen w.events.items ≡ take n (seen y) → w.stands ≡ last_change a (take n (seen y)) → Serves watched_of (result_map_both (watched now a n) (λ f. f) all) (Ok w)
+    → map event_seen w.events.items ≡ take n (seen y) → w.stands ≡ last_change a (take n (seen y)) → Serves watched_of (result_map_both (watched now a n) (λ f. f) all) (Ok w)
 given_part seen (Err f) y now a n w is more changes stands = absurd is
 given_part seen (Ok cs) y now a n w is more changes stands =
     let over : nat_le (length (seen y)) n ≡ false = grind (arith, nat_tests) in
@@ -29,17 +29,17 @@ given_part seen (Ok cs) y now a n w is more changes stands =
 
 -- ---- no window has more changes than it keeps
 
-one-change : (r : ℕ) (k : Name) (old new : Option Data) → length (change_of r k old new) ≤ 1
+one-change : (r : ℕ) (k : Key) (old new : Option Data) → length (event_of r k old new) ≤ 1
 one-change r k None None = omega arith
 one-change r k None (Some new) = omega arith
 one-change r k (Some old) None = omega arith
 one-change r k (Some old) (Some new) = omega arith
 
-few-changes : (v : View) (ks : List Kept) → length (changes_kept v ks) ≤ length ks
+few-changes : (v : View) (ks : List Kept) → length (events_recorded v ks) ≤ length ks
 few-changes v [] = omega arith
 few-changes v (k ∷ ks) =
     let one = one-change k.revision k.key (seen v k.key k.old) (seen v k.key k.new) in
-    omega (arith, length-append (change_kept v k) (changes_kept v ks), one, few-changes v ks)
+    omega (arith, length-append (event_recorded v k) (events_recorded v ks), one, few-changes v ks)
 
 few-above : (a : ℕ) (ks : List Kept) → length (above a ks) ≤ length ks
 few-above a [] = omega arith
@@ -50,10 +50,10 @@ few-above a (k ∷ ks) = by (nat_lt a k.revision) (few-above a ks)
     by false h = omega (arith, h)
 
 -- where two numbers are the same or no fewer than are kept, they ask for the same changes
-pub since-all : (w : Window) (now : ℕ) (v : View) (a m n : ℕ) → (m ≡ n) ⊎ ((length w.kept ≤ m) × (length w.kept ≤ n)) → since_kept w now v a m ≡ since_kept w now v a n
-since-all w now v a m n (inl same) = ap (since_kept w now v a) same
+pub since-all : (w : Window) (now : ℕ) (v : View) (a m n : ℕ) → (m ≡ n) ⊎ ((length w.kept ≤ m) × (length w.kept ≤ n)) → recorded_since w now v a m ≡ recorded_since w now v a n
+since-all w now v a m n (inl same) = ap (recorded_since w now v a) same
 since-all w now v a m n (inr most) =
-    let cs = changes_kept v (above a w.kept) in
+    let cs = events_recorded v (above a w.kept) in
     let few : length cs ≤ length w.kept = omega (arith, few-changes v (above a w.kept), few-above a w.kept) in
     let all : take m cs ≡ take n cs = take_all m cs (omega (arith, few, most.0)) ∙ sym (take_all n cs (omega (arith, few, most.1))) in
     ap (within w.floor now a) all

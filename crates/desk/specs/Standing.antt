@@ -4,7 +4,7 @@ use Rattle.std.specs.List.Sorted.{IsStrictlySortedBy}
 use Rattle.std.specs.Map.{keys_of}
 use Rattle.definitions.specs.declared.kinds.Kind.{Kind}
 use Rattle.definitions.specs.declared.kinds.Kind.TheVariants.{ConfigMap, Pod, ReplicaSet, Deployment}
-use Rattle.definitions.specs.Names.{name_cmp}
+use Rattle.definitions.specs.Keys.{key_cmp}
 use Rattle.server_state.specs.Servers.{Server}
 use Rattle.server_state.specs.Recorded.{Window}
 use Rattle.definitions.specs.Windows.{last_revision}
@@ -15,7 +15,7 @@ IsUpTo r k w = (w.kind ≡ k) × (last_revision 0 w.kept ≤ r)
 
 -- what is there stands in order, and each window is one of its kind up to the present revision
 pub record IsStanding (s : Server) : Type 0 where
-  pub in_order : IsStrictlySortedBy name_cmp (keys_of s.snapshot.members)
+  pub in_order : IsStrictlySortedBy key_cmp (keys_of s.snapshot.members)
   pub of_config_maps : IsUpTo s.snapshot.revision ConfigMap s.config_maps
   pub of_pods : IsUpTo s.snapshot.revision Pod s.pods
   pub of_replica_sets : IsUpTo s.snapshot.revision ReplicaSet s.replica_sets

@@ -29,9 +29,9 @@ impl Server {
     ghost use Rattle.desk.specs.Pages.{IsPageAt};
     ghost use Rattle.desk.specs.Replies.{Lists};
 
-    /// A page of the list of a view: at most `limit` objects, or all if it is 0, after the place that a token names, or the
-    /// first. The token is that of a page before it, so the list is to be one at its revision. The errors are a revision
-    /// below what is kept, one above the present, and want of memory. A revision that is refused takes no memory.
+    /// Returns a page of the list of a view: at most `limit` objects, or all if it is 0, after the place that a token names, or
+    /// the first. The token is that of a page before it, so the list is to be one at its revision. The errors are a revision
+    /// below what is kept, one above the present, and running out of memory. A revision that is refused takes no memory.
     pub fn list(
         &self,
         alloc: Global,
@@ -53,7 +53,7 @@ impl Server {
         }
     }
 
-    /// A page of what is there of a view, as a list at a revision. The error is want of memory.
+    /// Returns a page of what is there of a view, as a list at a revision. The error is running out of memory.
     fn list_as(
         &self,
         alloc: Global,
@@ -76,7 +76,7 @@ impl Server {
         )
     }
 
-    /// A page of the list at a revision. Where the kind has not changed since, it is one of what is there; else what is
+    /// Returns a page of the list at a revision. Where the kind has not changed since, it is one of what is there; else what is
     /// there is listed, and the later changes are undone.
     fn list_exact(
         &self,
@@ -102,7 +102,7 @@ impl Server {
     }
 }
 
-/// A key of the place that a token names, if there is one. The error is want of memory.
+/// Returns a key of the place that a token names, if there is one. The error is running out of memory.
 fn key_after(kind: Kind, after: Option<&Token>) -> Result<Option<Key>, AllocError>
     ensures { IfOk result (λ key. after_key key ≡ asked_place after.entry) }
 {
@@ -116,7 +116,8 @@ fn key_after(kind: Kind, after: Option<&Token>) -> Result<Option<Key>, AllocErro
     }))
 }
 
-/// The reply with these objects of a list at a revision, after which so many remain. The error is want of memory.
+/// Returns the reply with these objects of a list at a revision, after which so many remain. The error is running out of
+/// memory.
 fn page_reply(
     alloc: Global,
     view: &View,
@@ -132,8 +133,8 @@ fn page_reply(
     Ok(Reply { code: 200, text })
 }
 
-/// The token that asks for what comes after these objects of a list at a revision, if any remain. The error is want of
-/// memory.
+/// Returns the token that asks for what comes after these objects of a list at a revision, if any remain. The error is running
+/// out of memory.
 fn next_of(
     items: &[Member<'_>],
     remaining: usize,
@@ -152,7 +153,7 @@ fn next_of(
     }
 }
 
-/// How many objects follow a page, where that is told: a view that selects does not say it.
+/// Returns how many objects follow a page, where that is told: a view that selects does not say it.
 fn told_count(view: &View, remaining: usize) -> Option<usize>
     ensures { result ≡ (if is_selective (view_of view.now) then None else Some remaining) }
 {

@@ -37,17 +37,17 @@ impl Server {
     ghost use Rattle.std.specs.List.Sorted.{IsStrictlySortedBy};
     ghost use Rattle.std.specs.Map.{keys_of};
     ghost use Rattle.definitions.specs.History.{viewed};
-    ghost use Rattle.definitions.specs.Names.{name_cmp};
+    ghost use Rattle.definitions.specs.Keys.{key_cmp};
     ghost use Rattle.definitions.specs.Revisions.{greatest_revision};
     ghost use Rattle.server_state.specs.Servers.{opened_server, window_of, with_window};
     ghost use Rattle.definitions.specs.Windows.{last_revision};
     ghost use Rattle.server_state.specs.Recorded.{recorded};
     ghost use Rattle.meta.specs.Members.{member_of};
     ghost use Rattle.selector.specs.Views.{view_of};
-    ghost use Rattle.watch_cache.specs.Changes.{kept_seen};
+    ghost use Rattle.watch_cache.specs.Changes.{change_seen};
 
-    /// A server at revision 1, where nothing is there, that keeps the last `window` changes of each kind. The error is
-    /// want of memory.
+    /// Returns a server at revision 1, where nothing is there, that keeps the last `window` changes of each kind. The error is
+    /// running out of memory.
     pub fn new(alloc: Global, window: usize) -> Result<Server, AllocError>
         ensures { IfOk result (λ s. s ≡ opened_server window) }
     {
@@ -60,7 +60,7 @@ impl Server {
         })
     }
 
-    /// The present revision. It takes no memory.
+    /// Returns the present revision. It takes no memory.
     pub fn revision(&self) -> u64
         ensures value { result ≡ self.now.snapshot.revision }
         ensures bound { result ≤ greatest_revision }
@@ -68,17 +68,17 @@ impl Server {
         self.store.revision()
     }
 
-    /// What is there of a view, in the order of keys: what a watch begins with that has seen nothing yet. The error is
-    /// want of memory.
+    /// Returns what is there of a view, in the order of keys: what a watch begins with that has seen nothing yet. The error is
+    /// running out of memory.
     pub fn added<'a>(&'a self, alloc: Global, view: &View) -> Result<Vec<Member<'a>>, AllocError>
         ensures members { IfOk result (λ found. map member_of found.items
             ≡ viewed (view_of view.entry.now) self.entry.now.snapshot.members) }
-        ensures in_order { IsStrictlySortedBy name_cmp (keys_of self.entry.now.snapshot.members) }
+        ensures in_order { IsStrictlySortedBy key_cmp (keys_of self.entry.now.snapshot.members) }
     {
         self.store.list(alloc, view)
     }
 
-    /// The changes of a kind.
+    /// Returns the changes of a kind.
     pub(crate) fn cache(&self, kind: Kind) -> &Cache
         ensures { result.now ≡ window_of kind self.now }
     {
@@ -94,7 +94,7 @@ impl Server {
     pub(crate) fn record(&mut self, change: Change)
         requires next { last_revision 0 (window_of change.key.kind self.old).kept < change.revision }
         requires present { change.revision ≤ self.old.snapshot.revision }
-        ensures { self.new ≡ with_window change.key.kind (recorded (window_of change.key.kind self.old) (kept_seen change)) self.old }
+        ensures { self.new ≡ with_window change.key.kind (recorded (window_of change.key.kind self.old) (change_seen change)) self.old }
     {
         match change.key.kind {
             Kind::ConfigMap => self.config_maps.record(change),

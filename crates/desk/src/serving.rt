@@ -20,8 +20,8 @@ impl Server {
     ghost use Rattle.verbs.specs.Requests.{request_of};
     ghost use Rattle.desk.specs.Replies.{Replies};
 
-    /// The reply to a request at a moment, after which what it writes is written. An error, a refusal or want of memory,
-    /// changes nothing: all memory is taken before the store changes.
+    /// Returns the reply to a request at a moment, after which what it writes is written. An error, a refusal or running out of
+    /// memory, changes nothing: all memory is taken before the store changes.
     pub fn serve(&mut self, alloc: Global, request: Request, moment: Moment) -> Result<Reply, Fault>
         ensures reply { Replies (accept_at (request_of request) self.old.snapshot.members self.old.snapshot.revision moment) result }
         ensures ok { OnOk result (self.new
@@ -35,8 +35,8 @@ impl Server {
         Ok(reply)
     }
 
-    /// The reply to a request at a moment with what it writes, or why it is refused. Nothing is written yet: who has to make
-    /// something of the reply first takes the write with `take`.
+    /// Returns the reply to a request at a moment with what it writes, or why it is refused. Nothing is written yet: who has to
+    /// make something of the reply first takes the write with `take`.
     pub fn answer(
         &self,
         alloc: Global,
@@ -48,8 +48,8 @@ impl Server {
         verbs::accept(alloc, &self.store, request, moment)
     }
 
-    /// Takes a write for which there is room, as there is for what a reply to a request writes. An error, want of memory,
-    /// changes nothing.
+    /// Takes a write for which there is room, as there is for what a reply to a request writes. An error, running out of
+    /// memory, changes nothing.
     pub fn take(&mut self, write: Write) -> Result<(), Fault>
         requires { overflows self.old.snapshot.members self.old.snapshot.revision (write_of write) ≡ false }
         ensures ok { OnOk result (self.new ≡ after_write self.old (write_of write)) }
@@ -70,7 +70,7 @@ impl Server {
     }
 }
 
-/// A copy of what is put, if anything is.
+/// Returns a copy of what is put, if anything is.
 fn copy_of(put: Option<&StoredObject>) -> Result<Option<StoredObject>, AllocError>
     ensures { IfOk result (λ copy. option_map (λ o. o.value) copy ≡ option_map (λ o. o.now.value) put.entry) }
 {

@@ -9,14 +9,14 @@ use std::alloc::Global;
 impl Server {
     ghost use Rattle.std.specs.Prelude.{◌+◌, map};
     ghost use Rattle.server_state.specs.Servers.{watch_by, window_of};
-    ghost use Rattle.server_state.specs.Recorded.{since_kept};
-    ghost use Rattle.revisions.specs.Events.{change_seen};
+    ghost use Rattle.server_state.specs.Recorded.{recorded_since};
+    ghost use Rattle.revisions.specs.Events.{event_seen};
     ghost use Rattle.selector.specs.Views.{view_of};
     ghost use Rattle.watch_cache.specs.Served.{Serves};
     ghost use Rattle.revisions.specs.Watches.{watched_of};
 
-    /// The first changes of a view after a revision, at most `max`, which may be any number. The errors are a revision below
-    /// what is kept, one above the present, and want of memory. A revision that is refused takes no memory.
+    /// Returns the first changes of a view after a revision, at most `max`, which may be any number. The errors are a revision
+    /// below what is kept, one above the present, and running out of memory. A revision that is refused takes no memory.
     pub fn watch_from(
         &self,
         alloc: Global,
@@ -39,8 +39,8 @@ impl Server {
         Ok(Watched { events, stands })
     }
 
-    /// The first changes of a view after a revision, at most `max` and one more, which tells whether there is more. Where
-    /// no number is greater than `max`, no cache has more changes.
+    /// Returns the first changes of a view after a revision, at most `max` and one more, which tells whether there is more.
+    /// Where no number is greater than `max`, no cache has more changes.
     fn one_more(
         &self,
         alloc: Global,
@@ -48,8 +48,8 @@ impl Server {
         after: u64,
         max: usize,
     ) -> Result<Vec<Event>, Fault>
-        ensures { Serves (λ es. map change_seen es.items)
-            (since_kept (window_of view.now.kind self.now) self.now.snapshot.revision (view_of view.now) after (max + 1)) result }
+        ensures { Serves (λ es. map event_seen es.items)
+            (recorded_since (window_of view.now.kind self.now) self.now.snapshot.revision (view_of view.now) after (max + 1)) result }
     {
         let cache = self.cache(view.kind);
         // says that no more changes are kept than there is room for

@@ -9,7 +9,7 @@ use Rattle.std.specs.declared.cmp.Ordering.{Ordering}
 use Rattle.std.specs.FinMap as map
 use Rattle.std.specs.FinMap.{find, put, get-entries, get-insert, get-empty, entries-insert, len-entries, len-empty}
 use Rattle.std.specs.FinSet.{contains-empty, contains-insert, contains-remove}
-use Rattle.controllers.specs.WorkQueues.{Task, task_cmp}
+use Rattle.controllers.specs.WorkQueues.{WorkKey, work_key_cmp}
 use Rattle.controllers.specs.Delays.{Alarm, alarm_cmp, due, failures, delay_after, Delays, delayed, earlier}
 use Rattle.examples.specs.BoardExamples.{task_x, task_y, task_d, failing, both_delayed, KeysWaitOnce, DelaysDouble, KeysComeDue, CreationsAreAwaited}
 use Rattle.controllers.specs.Expectations.{Owner, Table, creations_expected, is_met, satisfied}
@@ -31,8 +31,8 @@ wait_once = record {
 
 -- ---- failures
 
-failures-failing : (n : ℕ) (k : Task) → failures k (failing n k) ≡ min n 32
-failures-failing zero k = ap (λ x. unwrap_or x 0) (get-empty task_cmp k)
+failures-failing : (n : ℕ) (k : WorkKey) → failures k (failing n k) ≡ min n 32
+failures-failing zero k = ap (λ x. unwrap_or x 0) (get-empty work_key_cmp k)
 failures-failing (suc n) k =
     let before = failures-failing n k in
     ap (λ x. unwrap_or x 0)
@@ -63,10 +63,10 @@ entries-empty : {K X : Type 0} (R : K → K → Ordering) → map.entries (map.e
 entries-empty {X = X} R = none_in (map.entries (map.empty {X = X} {R = R})) (sym (len-entries (map.empty {X = X} {R = R})) ∙ len-empty R X)
 
 -- the entries after a key was delayed, by those before
-entries-delayed : (k : Task) (at : ℕ) (m : Delays) (es : List (Task × ℕ)) → map.entries m ≡ es → map.entries (delayed k at m) ≡ put task_cmp k (earlier (find task_cmp k es) at) es
+entries-delayed : (k : WorkKey) (at : ℕ) (m : Delays) (es : List (WorkKey × ℕ)) → map.entries m ≡ es → map.entries (delayed k at m) ≡ put work_key_cmp k (earlier (find work_key_cmp k es) at) es
 entries-delayed k at m es is =
-    entries-insert task_total m k (earlier (map.get m k) at) ∙ ap (λ x. put task_cmp k (earlier x at) (map.entries m)) (get-entries m k)
-    ∙ ap (λ z. put task_cmp k (earlier (find task_cmp k z) at) z) is
+    entries-insert task_total m k (earlier (map.get m k) at) ∙ ap (λ x. put work_key_cmp k (earlier x at) (map.entries m)) (get-entries m k)
+    ∙ ap (λ z. put work_key_cmp k (earlier (find work_key_cmp k z) at) z) is
 
 abbrev all_put : List (Alarm × Unit {0}) → List (Alarm × Unit {0})
 all_put [] = []
@@ -76,19 +76,19 @@ entries-from : (es : List (Alarm × Unit {0})) → map.entries (map.from_entries
 entries-from [] = entries-empty alarm_cmp
 entries-from (e ∷ es) = entries-insert alarm_total (map.from_entries es) e.0 e.1 ∙ ap (put alarm_cmp e.0 e.1) (entries-from es)
 
-abbrev alarm_entry : Task × ℕ → Alarm × Unit {0}
+abbrev alarm_entry : WorkKey × ℕ → Alarm × Unit {0}
 alarm_entry e = (record { at = e.1; task = e.0 }, tt)
 
-abbrev due_of : ℕ → List (Task × ℕ) → List Task
+abbrev due_of : ℕ → List (WorkKey × ℕ) → List WorkKey
 due_of now es = list_map (λ (a : Alarm). a.task) (filter (λ (a : Alarm). nat_le a.at now) (list_map (λ e. e.0) (all_put (list_map alarm_entry es))))
 
-due_is : (now : ℕ) (m : Delays) (es : List (Task × ℕ)) → map.entries m ≡ es → due now m ≡ due_of now es
+due_is : (now : ℕ) (m : Delays) (es : List (WorkKey × ℕ)) → map.entries m ≡ es → due now m ≡ due_of now es
 due_is now m es is =
     ap (λ z. list_map (λ (a : Alarm). a.task) (filter (λ (a : Alarm). nat_le a.at now) (list_map (λ e. e.0) z)))
     (entries-from (list_map alarm_entry (map.entries m)) ∙ ap (λ z. all_put (list_map alarm_entry z)) is)
 
 entries_both : map.entries both_delayed ≡ (task_x, 10) ∷ (task_y, 10) ∷ []
-entries_both = entries-delayed task_x 10 (delayed task_y 10 map.empty) ((task_y, 10) ∷ []) (entries-delayed task_y 10 map.empty [] (entries-empty task_cmp))
+entries_both = entries-delayed task_x 10 (delayed task_y 10 map.empty) ((task_y, 10) ∷ []) (entries-delayed task_y 10 map.empty [] (entries-empty work_key_cmp))
 
 pub come_due : KeysComeDue
 come_due = record {

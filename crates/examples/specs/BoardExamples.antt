@@ -3,24 +3,24 @@ use Rattle.std.specs.Prelude.{◌≡◌, ◌≤◌, ◌-◌, ℕ, zero, suc, tru
 use Rattle.std.specs.FinMap as map
 use Rattle.controllers.specs.declared.controller.Controller.TheVariants.{ReplicaSet as ForReplicaSet, Deployment as ForDeployment}
 use Rattle.definitions.specs.declared.kinds.Kind.TheVariants.{ReplicaSet, Deployment}
-use Rattle.controllers.specs.WorkQueues.{Task, idle, Call, add, get, finish, after_all, handed}
+use Rattle.controllers.specs.WorkQueues.{WorkKey, idle, Call, add, get, finish, after_all, handed}
 use Rattle.controllers.specs.Delays.{Failures, failures, delay_after, failed, Delays, delayed, due}
 use Rattle.controllers.specs.Expectations.{Owner, Table, creations_expected, created, satisfied}
 
 -- two ReplicaSets of one namespace, and a Deployment
-abbrev pub task_x : Task
+abbrev pub task_x : WorkKey
 task_x = record { controller = ForReplicaSet; key = record { kind = ReplicaSet; namespace = codes "default"; name = codes "x" } }
 
-abbrev pub task_y : Task
+abbrev pub task_y : WorkKey
 task_y = record { controller = ForReplicaSet; key = record { kind = ReplicaSet; namespace = codes "default"; name = codes "y" } }
 
-abbrev pub task_d : Task
+abbrev pub task_d : WorkKey
 task_d = record { controller = ForDeployment; key = record { kind = Deployment; namespace = codes "default"; name = codes "a" } }
 
 -- ---- the queue
 
 -- the queue, and the key that is handed out next
-abbrev waiting : List Call → List Task × Option Task
+abbrev waiting : List Call → List WorkKey × Option WorkKey
 waiting cs = ((after_all idle cs).queue, handed (after_all idle cs))
 
 -- x is added twice, handed out, added while it is in hand, and done; then it is handed out again, and done
@@ -35,22 +35,22 @@ pub record KeysWaitOnce : Type 0 where
 -- ---- failures
 
 -- a key that failed so often in a row, and no other
-abbrev pub failing : ℕ → Task → Failures
+abbrev pub failing : ℕ → WorkKey → Failures
 failing zero k = map.empty
 failing (suc n) k = failed k (failing n k)
 
 -- the delay of its n-th failure in a row, the first being 1
-abbrev pub delay_of : ℕ → Task → ℕ
+abbrev pub delay_of : ℕ → WorkKey → ℕ
 delay_of n k = delay_after (failures k (failing (n - 1) k))
 
 -- 5, 10 and 20 ms; the eighteenth is the last below 1,000 s
 pub record DelaysDouble : Type 0 where
-  pub first : (k : Task) → delay_of 1 k ≡ 5
-  pub second : (k : Task) → delay_of 2 k ≡ 10
-  pub third : (k : Task) → delay_of 3 k ≡ 20
-  pub eighteenth : (k : Task) → delay_of 18 k ≡ 655360
-  pub nineteenth : (k : Task) → delay_of 19 k ≡ 1000000
-  pub later : (n : ℕ) (k : Task) → 19 ≤ n → delay_of n k ≡ 1000000
+  pub first : (k : WorkKey) → delay_of 1 k ≡ 5
+  pub second : (k : WorkKey) → delay_of 2 k ≡ 10
+  pub third : (k : WorkKey) → delay_of 3 k ≡ 20
+  pub eighteenth : (k : WorkKey) → delay_of 18 k ≡ 655360
+  pub nineteenth : (k : WorkKey) → delay_of 19 k ≡ 1000000
+  pub later : (n : ℕ) (k : WorkKey) → 19 ≤ n → delay_of n k ≡ 1000000
 
 -- ---- delays
 

@@ -4,7 +4,7 @@ use Rattle.std.specs.Result.{result_map_both}
 use Rattle.definitions.specs.declared.kinds.Kind.TheVariants.{ConfigMap, Pod}
 use Rattle.definitions.specs.History.{View, whole}
 use Rattle.definitions.specs.Refusals.{Refusal, expired, too_new}
-use Rattle.definitions.specs.Streams.{Line, change, bookmark, initial, initial_end}
+use Rattle.definitions.specs.Streams.{Line, event, bookmark, initial, initial_end}
 use Rattle.definitions.specs.Versions.{Watched, watched_from}
 use Rattle.definitions.specs.WatchReplies.{lines_from, watch_lines}
 use Rattle.examples.specs.WindowExamples.{named, stored, puts, six_writes, config_maps}
@@ -14,7 +14,7 @@ pods = whole Pod None
 
 -- what a line says of itself: the revision of a change or of a bookmark, 0 of an object that was there
 abbrev said : Line → ℕ
-said (change c) = c.revision
+said (event c) = c.revision
 said (bookmark r) = r
 said (initial n d) = 0
 said (initial_end r) = r

@@ -2,12 +2,12 @@
 use Rattle.std.specs.Prelude.{◌≡◌, ℕ, List, [], ◌∷◌, map, Option, Some, None, codes}
 use Rattle.serde_json.specs.Data.{Data, null}
 use Rattle.definitions.specs.declared.kinds.Kind.TheVariants.{ConfigMap}
-use Rattle.definitions.specs.Names.{Name}
+use Rattle.definitions.specs.Keys.{Key}
 use Rattle.definitions.specs.History.{Members}
 use Rattle.definitions.specs.Pages.{Place, Page, page_of, remaining}
 use Rattle.definitions.specs.PageTokens.{token_text}
 
-abbrev entry : List ℕ → Name × Data
+abbrev entry : List ℕ → Key × Data
 entry name = (record { kind = ConfigMap; namespace = codes "default"; name = name }, null)
 
 abbrev five : Members

@@ -17,7 +17,7 @@ use Rattle.definitions.specs.Reading.{is_body}
 use Rattle.definitions.specs.Targets.{collection, object_at, status_of, path_text}
 use Rattle.line_protocol.specs.Lines.{replay}
 use Rattle.definitions.specs.Moments.{is_moment}
-use Rattle.definitions.specs.Names.{is_subdomain, is_namespace}
+use Rattle.definitions.specs.Keys.{is_subdomain, is_namespace}
 use Rattle.definitions.specs.Uids.{uid_text}
 use Rattle.definitions.specs.Values.{merged}
 

@@ -4,27 +4,27 @@ use Rattle.serde_json.specs.Data.{Members}
 use Rattle.serde_json.specs.Read.{read}
 use Rattle.definitions.specs.declared.selectors.Operator.TheVariants.{In, NotIn, Exists, DoesNotExist}
 use Rattle.definitions.specs.Labels.{is_label_value}
-use Rattle.definitions.specs.SelectorFields.{FieldRequirement, said_of_fields, fields_meet}
-use Rattle.definitions.specs.SelectorTexts.{said_by_text}
-use Rattle.definitions.specs.SelectorValues.{Flaw, mistyped, unfit, said_by_value}
+use Rattle.definitions.specs.SelectorFields.{FieldRequirement, fields_of_text, fields_meet}
+use Rattle.definitions.specs.SelectorTexts.{selector_of_text}
+use Rattle.definitions.specs.SelectorValues.{Flaw, mistyped, unfit, selector_of_value}
 use Rattle.definitions.specs.Selectors.{Requirement, meets_all}
 use Rattle.definitions.specs.Values.{inner_of}
 
 abbrev pub says : List ℕ → Option (List Requirement)
-says t = said_by_text t
+says t = selector_of_text t
 
 abbrev pub value_says : List ℕ → Option (Result (List Requirement) Flaw)
-value_says t = option_map said_by_value (read t)
+value_says t = option_map selector_of_value (read t)
 
 abbrev pub selected : Option (List Requirement) → Members → Option Bool
 selected rs labels = option_map (λ (r : List Requirement). meets_all r labels) rs
 
 -- whether the labels in a JSON object meet what a text says
 abbrev pub text_selects : List ℕ → List ℕ → Option Bool
-text_selects t labels = selected (said_by_text t) (inner_of (read labels))
+text_selects t labels = selected (selector_of_text t) (inner_of (read labels))
 
 abbrev pub field_selects : List ℕ → List ℕ → List ℕ → Option Bool
-field_selects t name namespace = option_map (λ (r : List FieldRequirement). fields_meet r name namespace) (said_of_fields t)
+field_selects t name namespace = option_map (λ (r : List FieldRequirement). fields_meet r name namespace) (fields_of_text t)
 
 abbrev pub AllFormsAreRead : Type 0
 AllFormsAreRead =
@@ -111,5 +111,5 @@ FieldsAreRead =
 
 abbrev pub FieldsAreRefused : Type 0
 FieldsAreRefused =
-    (said_of_fields (codes "metadata.uid=a") ≡ None) × (said_of_fields (codes "metadata.name") ≡ None) × (said_of_fields (codes "metadata.name= a") ≡ None)
-    × (said_of_fields (codes "metadata.name=a,") ≡ None) × (said_of_fields (codes "metadata.name!a") ≡ None)
+    (fields_of_text (codes "metadata.uid=a") ≡ None) × (fields_of_text (codes "metadata.name") ≡ None) × (fields_of_text (codes "metadata.name= a") ≡ None)
+    × (fields_of_text (codes "metadata.name=a,") ≡ None) × (fields_of_text (codes "metadata.name!a") ≡ None)

@@ -3,14 +3,14 @@ use Rattle.std.specs.Prelude.{◌≡◌, ℕ, List, [], ◌∷◌, ◌++◌, map
 use Rattle.serde_json.specs.Data.{Data, string, object, no_members, member}
 use Rattle.definitions.specs.declared.kinds.Kind.{Kind}
 use Rattle.definitions.specs.declared.kinds.Kind.TheVariants.{ConfigMap, Pod}
-use Rattle.definitions.specs.Names.{Name}
+use Rattle.definitions.specs.Keys.{Key}
 use Rattle.definitions.specs.History.{History, Entry, write, compaction, View, Members, whole, list}
 use Rattle.definitions.specs.Refusals.{Refusal, expired, too_new}
-use Rattle.definitions.specs.Changes.{Change}
-use Rattle.definitions.specs.Windows.{Kept, writes_of, floor, since, list_within}
-use Rattle.server_state.specs.Recorded.{Window, opened, recorded, since_kept, list_kept}
+use Rattle.definitions.specs.Events.{Event}
+use Rattle.definitions.specs.Windows.{Change, changes_of, floor, since, list_within}
+use Rattle.server_state.specs.Recorded.{Window, opened, recorded, recorded_since, recorded_list}
 
-abbrev pub named : Kind → List ℕ → Name
+abbrev pub named : Kind → List ℕ → Key
 named kind name = record { kind = kind; namespace = codes "default"; name = name }
 
 -- an object of a name, with a version
@@ -48,15 +48,15 @@ at_five =
     ∷ []
 
 -- a window after these writes, one after another
-abbrev after_writes : Window → List Kept → Window
+abbrev after_writes : Window → List Change → Window
 after_writes s [] = s
 after_writes s (k ∷ ks) = after_writes (recorded s k) ks
 
 -- a window of four that has recorded the six writes
 abbrev window_of_four : Window
-window_of_four = after_writes (opened ConfigMap 4) (writes_of ConfigMap six_writes)
+window_of_four = after_writes (opened ConfigMap 4) (changes_of ConfigMap six_writes)
 
-abbrev revisions : Result (List Change) Refusal → Result (List ℕ) Refusal
+abbrev revisions : Result (List Event) Refusal → Result (List ℕ) Refusal
 revisions (Ok cs) = Ok (map (λ c. c.revision) cs)
 revisions (Err f) = Err f
 
@@ -76,7 +76,7 @@ abbrev pub WatchesReachBack : Type 0
 WatchesReachBack =
     (since 4 six_writes config_maps 2 9 ≡ Err (expired 2 3))
     × (revisions (since 4 six_writes config_maps 3 9) ≡ Ok (4 ∷ 5 ∷ 6 ∷ 7 ∷ []))
-    × (revisions (since_kept window_of_four 7 config_maps 3 9) ≡ Ok (4 ∷ 5 ∷ 6 ∷ 7 ∷ []))
+    × (revisions (recorded_since window_of_four 7 config_maps 3 9) ≡ Ok (4 ∷ 5 ∷ 6 ∷ 7 ∷ []))
     × (revisions (since 4 six_writes config_maps 3 1) ≡ Ok (4 ∷ []))
     × (revisions (since 4 six_writes config_maps 5 9) ≡ Ok (6 ∷ 7 ∷ []))
     × (revisions (since 4 six_writes config_maps 7 9) ≡ Ok [])
@@ -86,7 +86,7 @@ WatchesReachBack =
 abbrev pub ListsReachBack : Type 0
 ListsReachBack =
     (list_within 4 six_writes config_maps 5 ≡ Ok at_five)
-    × (list_kept window_of_four 7 (list six_writes config_maps 7) config_maps 5 ≡ Ok at_five)
-    × (list_kept window_of_four 7 (list six_writes config_maps 7) config_maps 3 ≡ Ok at_three)
+    × (recorded_list window_of_four 7 (list six_writes config_maps 7) config_maps 5 ≡ Ok at_five)
+    × (recorded_list window_of_four 7 (list six_writes config_maps 7) config_maps 3 ≡ Ok at_three)
     × (list_within 4 six_writes config_maps 2 ≡ Err (expired 2 3))
     × (list_within 4 six_writes config_maps 8 ≡ Err (too_new 8 7))

@@ -9,12 +9,12 @@ use Rattle.std.specs.BTreeMap.{BTreeMap, is_at}
 use Rattle.std.specs.Map.{lookup, KeepsOthers}
 use Rattle.std.specs.FinMap as map_of
 use Rattle.std.specs.FinMap.{get-insert, same_map}
-use Rattle.definitions.specs.Names.{Name, name_cmp, is_named}
+use Rattle.definitions.specs.Keys.{Key as Name, key_cmp as name_cmp, is_same_key}
 use Rattle.controllers.specs.Expectations as spec
 use Rattle.controllers.specs.Expectations.{Owner, owner_cmp, Table, change, is_met, satisfied, forgotten}
 use Rattle.controllers.proofs.TaskOrder.{name_total, name_tells}
 use Rattle.controllers.proofs.Expected.{owner_total, owner_tells}
-use Rattle.meta.specs.Keys.{name_of}
+use Rattle.meta.specs.Keys.{key_of}
 use Rattle.meta.specs.declared.keys.Key.{Key}
 use Rattle.meta.specs.contracts.keys.KeyOrd.TheImpl as key_ord
 use Rattle.meta.proofs.KeyOrder.{key_cmp-name_cmp}
@@ -57,15 +57,15 @@ key_cmp = (key_ord.ghosts).cmp
 abbrev pub Keyed : Type 0
 Keyed = List (Key × BTreeMap (String Global) Expectation)
 
-get-key : (es : Keyed) (k : Key) → map_of.get (nested_of es) (name_of k) ≡ option_map owners_of (lookup (is_at (key_cmp k)) es)
-get-key = maps.get-seen name_cmp name_total name_tells name_of key_cmp key_cmp-name_cmp owners_of
+get-key : (es : Keyed) (k : Key) → map_of.get (nested_of es) (key_of k) ≡ option_map owners_of (lookup (is_at (key_cmp k)) es)
+get-key = maps.get-seen name_cmp name_total name_tells key_of key_cmp key_cmp-name_cmp owners_of
 
 update-key : (k : Key) (old new : Keyed) (w : Option (BTreeMap (String Global) Expectation)) → lookup (is_at (key_cmp k)) new ≡ w → KeepsOthers (eq_by_cmp key_cmp) (is_at (key_cmp k)) old new
-    → (q : Name) → map_of.get (nested_of new) q ≡ cond (is_named q (name_of k)) (option_map owners_of w) (map_of.get (nested_of old) q)
-update-key k = maps.update-by name_cmp name_total name_tells name_of key_cmp key_cmp-name_cmp owners_of (key_cmp k) (name_of k) (λ a. key_cmp-name_cmp k a)
+    → (q : Name) → map_of.get (nested_of new) q ≡ cond (is_same_key q (key_of k)) (option_map owners_of w) (map_of.get (nested_of old) q)
+update-key k = maps.update-by name_cmp name_total name_tells key_of key_cmp key_cmp-name_cmp owners_of (key_cmp k) (key_of k) (λ a. key_cmp-name_cmp k a)
 
 abbrev pub owner : Key → List ℕ → Owner
-owner k uid = record { key = name_of k; uid = uid }
+owner k uid = record { key = key_of k; uid = uid }
 
 abbrev pub table_of : Keyed → Table
 table_of es = flat (nested_of es)
@@ -74,7 +74,7 @@ pub changed_key : (f : spec.Expectation → spec.Expectation) (k : Key) (uid : L
     → KeepsOthers (eq_by_cmp key_cmp) (is_at (key_cmp k)) es es' → owners_of m' ≡ changed_at f uid (owners_of m) → table_of es' ≡ change (map_of.get (table_of es) (owner k uid)) f (owner k uid) (table_of es)
 changed_key f k uid es es' m m' was is keeps e =
     flat_change (nested_of es) (nested_of es') (owner k uid) (owners_of m) f (get-key es k ∙ ap (option_map owners_of) (sym was))
-    (λ q. update-key k es es' (Some m') is keeps q ∙ ap (λ x. cond (is_named q (name_of k)) (Some x) (map_of.get (nested_of es) q)) e)
+    (λ q. update-key k es es' (Some m') is keeps q ∙ ap (λ x. cond (is_same_key q (key_of k)) (Some x) (map_of.get (nested_of es) q)) e)
 
 pub unchanged_key : (f : spec.Expectation → spec.Expectation) (k : Key) (uid : List ℕ) (es : Keyed) → None ≡ lookup (is_at (key_cmp k)) es → table_of es ≡ change (map_of.get (table_of es) (owner k uid)) f (owner k uid) (table_of es)
 unchanged_key f k uid es e = flat_absent (nested_of es) (owner k uid) f (get-key es k ∙ ap (option_map owners_of) (sym e))
@@ -85,8 +85,8 @@ satisfied_where now k uid es m e = ap (is_met now) (ap (λ o. within uid (option
 pub satisfied_without : (now : ℕ) (k : Key) (uid : List ℕ) (es : Keyed) → None ≡ lookup (is_at (key_cmp k)) es → true ≡ satisfied (owner k uid) now (table_of es)
 satisfied_without now k uid es e = ap (λ o. is_met now (within uid (option_map owners_of o))) e ∙ ap (is_met now) (ap (within uid) (sym (get-key es k)) ∙ sym (get-flat (nested_of es) (owner k uid)))
 
-pub forgot : (k : Key) (es es' : Keyed) → lookup (is_at (key_cmp k)) es' ≡ None → KeepsOthers (eq_by_cmp key_cmp) (is_at (key_cmp k)) es es' → table_of es' ≡ forgotten (name_of k) (table_of es)
-forgot k es es' gone keeps = flat_forgotten (nested_of es) (nested_of es') (name_of k) (update-key k es es' None gone keeps)
+pub forgot : (k : Key) (es es' : Keyed) → lookup (is_at (key_cmp k)) es' ≡ None → KeepsOthers (eq_by_cmp key_cmp) (is_at (key_cmp k)) es es' → table_of es' ≡ forgotten (key_of k) (table_of es)
+forgot k es es' gone keeps = flat_forgotten (nested_of es) (nested_of es') (key_of k) (update-key k es es' None gone keeps)
 
 -- what is set stands in its place, where the key was there
 pub expected_there : (k : Key) (uid : List ℕ) (e : spec.Expectation) (es es' : Keyed) (m m' : BTreeMap (String Global) Expectation) → Some m ≡ lookup (is_at (key_cmp k)) es → lookup (is_at (key_cmp k)) es' ≡ Some m'
@@ -96,11 +96,11 @@ expected_there k uid e es es' m m' was is keeps put =
     (λ u. ap (λ x. map_of.get x u) put ∙ get-insert uid_total (owners_of m) uid e u ∙ ap (λ o. cond (eq_by_cmp uid_cmp u uid) (Some e) (within u o)) (ap (option_map owners_of) was ∙ sym (get-key es k)))
 
 -- and where it was not
-pub expected_new : (k copy : Key) (uid : List ℕ) (e : spec.Expectation) (es es' : Keyed) (m m' : BTreeMap (String Global) Expectation) → name_of copy ≡ name_of k → m.entries ≡ [] → None ≡ lookup (is_at (key_cmp k)) es → lookup (is_at (key_cmp copy)) es' ≡ Some m'
+pub expected_new : (k copy : Key) (uid : List ℕ) (e : spec.Expectation) (es es' : Keyed) (m m' : BTreeMap (String Global) Expectation) → key_of copy ≡ key_of k → m.entries ≡ [] → None ≡ lookup (is_at (key_cmp k)) es → lookup (is_at (key_cmp copy)) es' ≡ Some m'
     → KeepsOthers (eq_by_cmp key_cmp) (is_at (key_cmp copy)) es es' → owners_of m' ≡ map_of.insert (owners_of m) uid e → table_of es' ≡ map_of.insert (table_of es) (owner k uid) e
 expected_new k copy uid e es es' m m' same none was is keeps put =
     flat_put (nested_of es) (nested_of es') (owner k uid) (owners_of m') e
-    (λ q. update-key copy es es' (Some m') is keeps q ∙ ap (λ n. cond (is_named q n) (Some (owners_of m')) (map_of.get (nested_of es) q)) same)
+    (λ q. update-key copy es es' (Some m') is keeps q ∙ ap (λ n. cond (is_same_key q n) (Some (owners_of m')) (map_of.get (nested_of es) q)) same)
     (λ u. ap (λ x. map_of.get x u) put
     ∙ get-insert uid_total (owners_of m) uid e u
     ∙ ap (cond (eq_by_cmp uid_cmp u uid) (Some e)) (ap (λ es. map_of.get (by_text es) u) none ∙ map_of.get-empty uid_cmp u)
@@ -111,8 +111,8 @@ pub same_key : (k : Key) (es es' : Keyed) (m m' : BTreeMap (String Global) Expec
     → table_of es' ≡ table_of es
 same_key k es es' m m' was is keeps e =
     ap flat
-    (put_back (nested_of es) (nested_of es') (name_of k) (owners_of m) (get-key es k ∙ ap (option_map owners_of) (sym was))
-    (λ q. update-key k es es' (Some m') is keeps q ∙ ap (λ x. cond (is_named q (name_of k)) (Some x) (map_of.get (nested_of es) q)) e))
+    (put_back (nested_of es) (nested_of es') (key_of k) (owners_of m) (get-key es k ∙ ap (option_map owners_of) (sym was))
+    (λ q. update-key k es es' (Some m') is keeps q ∙ ap (λ x. cond (is_same_key q (key_of k)) (Some x) (map_of.get (nested_of es) q)) e))
 
 -- no keys, no expectations
 pub none_at_all : (es : Keyed) → es ≡ [] → table_of es ≡ map_of.empty

@@ -8,12 +8,12 @@ use Rattle.std.specs.Cmp.Lexicographic.{slice_cmp}
 use Rattle.std.specs.BTreeMap.{BTreeMap}
 use Rattle.std.specs.FinMap as map_of
 use Rattle.std.specs.FinSet as set
-use Rattle.codes.specs.HistoryCodes.{coded_name}
-use Rattle.definitions.specs.Names.{Name, name_cmp}
+use Rattle.codes.specs.HistoryCodes.{coded_key}
+use Rattle.definitions.specs.Keys.{Key as Name, key_cmp}
 use Rattle.controllers.specs.Expectations as spec
 use Rattle.controllers.specs.Expectations.{Owner, owner_cmp, Table, Uids}
 use Rattle.expectations.specs.declared.expectation.Expectation.{Expectation}
-use Rattle.meta.specs.Keys.{name_of}
+use Rattle.meta.specs.Keys.{key_of}
 use Rattle.meta.specs.declared.keys.Key.{Key}
 use Rattle.work_keys.specs.Seen.{seen_map, seen_set}
 
@@ -40,10 +40,10 @@ changed_at f uid m = changed_from (map_of.get m uid) f uid m
 
 -- those of every key
 abbrev pub Nested : Type 0
-Nested = map_of.FinMap name_cmp Owners
+Nested = map_of.FinMap key_cmp Owners
 
 abbrev pub nested_of : List (Key × BTreeMap (String Global) Expectation) → Nested
-nested_of es = seen_map name_cmp name_of owners_of es
+nested_of es = seen_map key_cmp key_of owners_of es
 
 -- all in one table, by key and uid
 abbrev pub inside : Name → List (List ℕ × spec.Expectation) → List (Owner × spec.Expectation)
@@ -58,7 +58,7 @@ flat n = map_of.from_entries (flattened (map_of.entries n))
 
 -- the code by which a model may hold it
 abbrev pub owner_code : Coded Owner
-owner_code = code_by (Name × List ℕ) (coded× coded_name (coded_list coded_ℕ)) (λ o. (o.key, o.uid)) (λ p. record { key = p.0; uid = p.1 }) (λ _. refl)
+owner_code = code_by (Name × List ℕ) (coded× coded_key (coded_list coded_ℕ)) (λ o. (o.key, o.uid)) (λ p. record { key = p.0; uid = p.1 }) (λ _. refl)
 
 abbrev pub uids_code : Coded Uids
 uids_code = set.code (coded_list coded_ℕ)

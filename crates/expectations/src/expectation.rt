@@ -29,14 +29,14 @@ impl Expectation {
         self.deletions.remove(pod);
     }
 
-    /// Whether nothing is left, or five minutes have passed.
+    /// Returns whether nothing is left, or five minutes have passed.
     pub fn is_met(&self, now: u64) -> bool
         ensures { result ≡ is_met now (Some (expectation_of self.now)) }
     {
         self.is_over() || now.saturating_sub(self.since) > 300_000
     }
 
-    /// Whether nothing is left.
+    /// Returns whether nothing is left.
     fn is_over(&self) -> bool
         ensures { result ≡ (((expectation_of self.now).creations == 0) && (set.len (expectation_of self.now).deletions == 0)) }
     {

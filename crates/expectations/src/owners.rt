@@ -40,7 +40,7 @@ pub fn see_deleted(owners: &mut BTreeMap<String, Expectation>, uid: &str, pod: &
     }
 }
 
-/// Whether a ReplicaSet waits for nothing.
+/// Returns whether a ReplicaSet waits for nothing.
 pub fn is_satisfied(owners: &BTreeMap<String, Expectation>, uid: &str, now: u64) -> bool
     ensures { result ≡ is_met now (map.get (owners_of owners.now) uid.now) }
 {

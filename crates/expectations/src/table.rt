@@ -2,7 +2,7 @@
 ghost use Rattle.std.specs.Prelude.{◌≡◌, OnOk, OnErr, string_bytes, map as list_map};
 ghost use Rattle.std.specs.FinMap as map;
 ghost use Rattle.controllers.specs.Expectations.{creations_expected, deletions_expected, created, deleted, satisfied, forgotten};
-ghost use Rattle.meta.specs.Keys.{name_of};
+ghost use Rattle.meta.specs.Keys.{key_of};
 ghost use Rattle.std.specs.Prelude.{IfOk};
 ghost use Rattle.std.specs.FinSet as set;
 ghost use Rattle.expectations.specs.Seen.{expectation_of, uid_cmp};
@@ -44,8 +44,8 @@ impl Table {
         }
     }
 
-    /// Sets that a ReplicaSet waits for so many pods to be seen created, from `now` on, and for nothing else.
-    /// The error is want of memory, and then nothing has changed.
+    /// Sets that a ReplicaSet waits for so many pods to be seen created, from `now` on, and for nothing else. The error is
+    /// running out of memory, and then nothing has changed.
     pub fn expect_creations(
         &mut self,
         key: &Key,
@@ -53,7 +53,7 @@ impl Table {
         creations: u32,
         now: u64,
     ) -> Result<(), AllocError>
-        ensures ok { OnOk result (self.new ≡ creations_expected (record { key = name_of key.now; uid = uid.now }) creations now self.old) }
+        ensures ok { OnOk result (self.new ≡ creations_expected (record { key = key_of key.now; uid = uid.now }) creations now self.old) }
         ensures err { OnErr result (self.new ≡ self.old) }
     {
         let expectation = Expectation {
@@ -64,8 +64,8 @@ impl Table {
         self.expect(key, uid, expectation)
     }
 
-    /// Sets that a ReplicaSet waits for the pods of these uids to be seen deleted, from `now` on, and for nothing else.
-    /// The error is want of memory, and then nothing has changed.
+    /// Sets that a ReplicaSet waits for the pods of these uids to be seen deleted, from `now` on, and for nothing else. The
+    /// error is running out of memory, and then nothing has changed.
     pub fn expect_deletions(
         &mut self,
         key: &Key,
@@ -73,7 +73,7 @@ impl Table {
         pods: Vec<String>,
         now: u64,
     ) -> Result<(), AllocError>
-        ensures ok { OnOk result (self.new ≡ deletions_expected (record { key = name_of key.now; uid = uid.now }) (list_map string_bytes pods.items) now self.old) }
+        ensures ok { OnOk result (self.new ≡ deletions_expected (record { key = key_of key.now; uid = uid.now }) (list_map string_bytes pods.items) now self.old) }
         ensures err { OnErr result (self.new ≡ self.old) }
     {
         let expectation = Expectation {
@@ -86,7 +86,7 @@ impl Table {
 
     /// Sets what a ReplicaSet waits for.
     fn expect(&mut self, key: &Key, uid: &str, expectation: Expectation) -> Result<(), AllocError>
-        ensures ok { OnOk result (self.new ≡ map.insert self.old (record { key = name_of key.now; uid = uid.now }) (expectation_of expectation)) }
+        ensures ok { OnOk result (self.new ≡ map.insert self.old (record { key = key_of key.now; uid = uid.now }) (expectation_of expectation)) }
         ensures err { OnErr result (self.new ≡ self.old) }
     {
         let uid = String::from_str(self.alloc, uid)?;
@@ -101,7 +101,7 @@ impl Table {
 
     /// A pod of a ReplicaSet was seen created.
     pub fn created(&mut self, key: &Key, uid: &str)
-        ensures { self.new ≡ created (record { key = name_of key.now; uid = uid.now }) self.old }
+        ensures { self.new ≡ created (record { key = key_of key.now; uid = uid.now }) self.old }
     {
         if let Some(owners) = self.by_key.get_mut(key) {
             owners::see_created(owners, uid);
@@ -110,23 +110,23 @@ impl Table {
 
     /// The create of a pod was refused, or not sent: it is waited for no longer.
     pub fn create_failed(&mut self, key: &Key, uid: &str)
-        ensures { self.new ≡ created (record { key = name_of key.now; uid = uid.now }) self.old }
+        ensures { self.new ≡ created (record { key = key_of key.now; uid = uid.now }) self.old }
     {
         self.created(key, uid);
     }
 
     /// A pod of a ReplicaSet was seen deleted, or its delete was refused or not sent.
     pub fn deleted(&mut self, key: &Key, uid: &str, pod: &str)
-        ensures { self.new ≡ deleted (record { key = name_of key.now; uid = uid.now }) pod.now self.old }
+        ensures { self.new ≡ deleted (record { key = key_of key.now; uid = uid.now }) pod.now self.old }
     {
         if let Some(owners) = self.by_key.get_mut(key) {
             owners::see_deleted(owners, uid, pod);
         }
     }
 
-    /// Whether a ReplicaSet waits for nothing: nothing was set, nothing is left, or more than five minutes have passed.
+    /// Returns whether a ReplicaSet waits for nothing: nothing was set, nothing is left, or more than five minutes have passed.
     pub fn satisfied(&self, key: &Key, uid: &str, now: u64) -> bool
-        ensures { result ≡ satisfied (record { key = name_of key.now; uid = uid.now }) now self.now }
+        ensures { result ≡ satisfied (record { key = key_of key.now; uid = uid.now }) now self.now }
     {
         match self.by_key.get(key) {
             Some(owners) => owners::is_satisfied(owners, uid, now),
@@ -136,13 +136,13 @@ impl Table {
 
     /// Forgets what every ReplicaSet of this key waits for, whatever its uid.
     pub fn forget(&mut self, key: &Key)
-        ensures { self.new ≡ forgotten (name_of key.now) self.old }
+        ensures { self.new ≡ forgotten (key_of key.now) self.old }
     {
         self.by_key.remove(key);
     }
 }
 
-/// The set of some texts.
+/// Returns the set of some texts.
 fn set_of(alloc: Global, texts: Vec<String>) -> Result<BTreeSet<String>, AllocError>
     ensures { IfOk result (λ s. seen_set uid_cmp string_bytes s.keys ≡ set.from_list (list_map string_bytes texts.items)) }
 {

@@ -8,7 +8,7 @@ use Rattle.serde_json.specs.Written.{compact_text}
 use Rattle.serde_json.proofs.OnLiterals.{serde_json_on_literals}
 use Rattle.definitions.specs.declared.kinds.Kind.{Kind}
 use Rattle.definitions.specs.declared.kinds.Kind.TheVariants.{ConfigMap, Pod, ReplicaSet, Deployment}
-use Rattle.definitions.specs.Frames.{kind_text, frame_data, bookmark_data, bookmark_event}
+use Rattle.definitions.specs.Frames.{kind_text, frame_data, bookmark_data, bookmark_frame}
 use Rattle.definitions.proofs.EscapedTexts.{length-escape}
 use Rattle.framing.specs.Texts.{IsWithin, framed_text}
 use Rattle.definitions.specs.declared.frames.FrameKind.TheVariants.{Bookmark}
@@ -67,11 +67,11 @@ length-text k b r h =
 length-framed : (t : List ℕ) → length (framed_text (kind_text Bookmark) t) ≤ length t + 40
 length-framed t = omega (arith, length-append t (codes ",\"type\":\"BOOKMARK\"}\n"))
 
-nests : (k : Kind) (b : Bool) (r : ℕ) → depth (frame_data (bookmark_event k b r)) ≤ max_depth
+nests : (k : Kind) (b : Bool) (r : ℕ) → depth (frame_data (bookmark_frame k b r)) ≤ max_depth
 nests k true r = omega arith
 nests k false r = omega arith
 
-pub IsWithin-bookmark : (k : Kind) (b : Bool) (r : ℕ) → r < 2 ^ 64 → IsWithin (bookmark_event k b r)
+pub IsWithin-bookmark : (k : Kind) (b : Bool) (r : ℕ) → r < 2 ^ 64 → IsWithin (bookmark_frame k b r)
 IsWithin-bookmark k b r h =
     let text = compact_text (bookmark_data k b r) in
     record {

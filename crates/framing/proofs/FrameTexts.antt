@@ -17,8 +17,8 @@ use Rattle.serde_json.specs.Read.{read, of_json, max_depth}
 use Rattle.serde_json.specs.Written.{compact_text, outline, items_outline, members_outline, has_float, IsInOrder}
 use Rattle.serde_json.proofs.Texts.{tokens_from_order, print-outline}
 use Rattle.serde_json.proofs.OnLiterals.{serde_json_on_literals}
-use Rattle.definitions.specs.Frames.{Event, frame_data, frame_text, kind_text}
-use Rattle.controllers.specs.ReadFrames.{event_in, line_read, reading, next, longest_frame}
+use Rattle.definitions.specs.Frames.{Frame, frame_data, frame_text, kind_text}
+use Rattle.controllers.specs.ReadFrames.{frame_in, line_read, reading, next, longest_frame}
 use Rattle.framing.specs.Texts.{framed_text, IsWithin, ReadsAs}
 use Rattle.definitions.specs.declared.frames.FrameKind.{FrameKind}
 use Rattle.definitions.specs.declared.frames.FrameKind.TheVariants.{Added, Modified, Deleted, Bookmark, Error}
@@ -66,11 +66,11 @@ unfolding frame_outline
 whole_numbered j s h = (h, (tt, tt))
 
 -- the whole is read back, as its object is
-pub frame_read_back : (kind : FrameKind) (d : Data) (text : List ℕ) → (let e : Event = record { kind = kind; object = d } in
+pub frame_read_back : (kind : FrameKind) (d : Data) (text : List ℕ) → (let e : Frame = record { kind = kind; object = d } in
     IsInOrder text d → has_float d ≡ false → read text ≡ Some d → depth (frame_data e) ≤ max_depth → read (compact_text (frame_data e)) ≡ Some (frame_data e))
 unfolding frame_outline
 frame_read_back kind d text order clean back nests =
-    let e : Event = record { kind = kind; object = d } in
+    let e : Frame = record { kind = kind; object = d } in
     let j = frame_outline (outline d) (kind_text kind) in
     let same = tokens_from_order text d order clean in
     let shallow : tree.depth (outline d) ≤ max_depth = omega (arith, nests, depth-outline d) in
@@ -81,7 +81,7 @@ frame_read_back kind d text order clean back nests =
 
 -- ---- the event in it
 
-event_is : (kind : FrameKind) (d : Data) → IsSome (as_object d) → Some (record { kind = kind; object = d }) ≡ event_in (frame_data (record { kind = kind; object = d }))
+event_is : (kind : FrameKind) (d : Data) → IsSome (as_object d) → Some (record { kind = kind; object = d }) ≡ frame_in (frame_data (record { kind = kind; object = d }))
 event_is Added (object ms) h = refl
 event_is Modified (object ms) h = refl
 event_is Deleted (object ms) h = refl
@@ -135,14 +135,14 @@ frame_bytes kind d =
 pub reads_as : (kind : FrameKind) (d : Data) (text : List ℕ) → IsInOrder text d → has_float d ≡ false → read text ≡ Some d → text ≡ compact_text d → IsUtf8 text
     → IsWithin (record { kind = kind; object = d }) → ReadsAs (frame_text (record { kind = kind; object = d })) (record { kind = kind; object = d })
 reads_as kind d text order clean back is utf8 within more =
-    let e : Event = record { kind = kind; object = d } in
+    let e : Frame = record { kind = kind; object = d } in
     let line = compact_text (frame_data e) in
     let short : length line < longest_frame = omega (arith, within.fits, length-append line (10 ∷ [])) in
     let says : Ok e ≡ line_read line =
     line_read_is line (frame_data e) (Some e) short (frame_is_utf8 kind d (subst IsUtf8 is utf8)) (frame_read_back kind d text order clean back within.nests) (event_is kind d within.is_object) in
     ap reading (append_assoc line (10 ∷ []) more) ∙ reading-line line more (IsPartial-from_flat line (flat-compact_text (frame_data e))) ∙ ap (λ o. next o (reading more)) (sym says)
 
-pub object_nests : (e : Event) → IsWithin e → depth e.object ≤ max_depth
+pub object_nests : (e : Frame) → IsWithin e → depth e.object ≤ max_depth
 object_nests e w = omega (arith, w.nests)
 
 -- ---- a line that was made of the text of its object
@@ -154,5 +154,5 @@ pub line_reads : (k kind : FrameKind) (d : Data) (text line : List ℕ) → k �
     → IsInOrder text d → has_float d ≡ false → (depth d ≤ max_depth → read text ≡ Some d) → IsUtf8 text
     → IsWithin (record { kind = kind; object = d }) → ReadsAs line (record { kind = kind; object = d })
 line_reads k kind d text line same made is order clean back utf8 within =
-    let e : Event = record { kind = kind; object = d } in
+    let e : Frame = record { kind = kind; object = d } in
     subst (λ t. ReadsAs t e) (sym (line_is k kind d text line same made is)) (reads_as kind d text order clean (back (object_nests e within)) is utf8 within)

@@ -6,18 +6,18 @@ use Rattle.std.proofs.lemmas.List.{drop-drop, drop_all, map-append}
 use Rattle.serde_json.specs.Data.{Data}
 use Rattle.serde_json.specs.Read.{read}
 use Rattle.framing.specs.Lines.{IsPartial}
-use Rattle.definitions.specs.Frames.{Event}
-use Rattle.controllers.specs.ReadFrames.{event_in, event_of_line, line_read, event_or_fault, longest_frame, reading, onto, next}
+use Rattle.definitions.specs.Frames.{Frame as Event}
+use Rattle.controllers.specs.ReadFrames.{frame_in, frame_of_line, line_read, frame_or_fault, longest_frame, reading, onto, next}
 use Rattle.framing.specs.Decoders.{given, event_of, events_of}
 use Rattle.framing.specs.declared.frames.Frame.{Frame}
 use Rattle.controllers.specs.declared.frame_fault.FrameFault.{FrameFault}
 use Rattle.controllers.specs.declared.frame_fault.FrameFault.TheVariants.{NotAFrame, TooLong}
 use Rattle.framing.proofs.Reading.{reading-line, reading-short, reading-long}
 
-pub line_read_is : (l : List ℕ) (d : Data) (o : Option Event) → length l < longest_frame → IsUtf8 l → read l ≡ Some d → o ≡ event_in d → event_or_fault o ≡ line_read l
+pub line_read_is : (l : List ℕ) (d : Data) (o : Option Event) → length l < longest_frame → IsUtf8 l → read l ≡ Some d → o ≡ frame_in d → frame_or_fault o ≡ line_read l
 line_read_is l d o k u r e = let b : nat_lt (length l) longest_frame ≡ true = grind arith in rw (b, is_utf8-from_IsUtf8 l u, r, e) refl
 
-none_at : (l : List ℕ) (b : Bool) → is_utf8 l ≡ b → (IsUtf8 l → read l ≡ None) → event_of_line l ≡ None
+none_at : (l : List ℕ) (b : Bool) → is_utf8 l ≡ b → (IsUtf8 l → read l ≡ None) → frame_of_line l ≡ None
 none_at l true e h = rw (e, h (IsUtf8-from_is_utf8 l e)) refl
 none_at l false e h = rw e refl
 

@@ -2,7 +2,7 @@
 use Rattle.std.proofs.Common.{◌≡◌, ◌<◌, ◌≤◌, ◌↔◌, ℕ, List, [], ◌∷◌, ◌++◌, length, flat_map, nat_lt, Bool, true, false, cond, Some, None, Result, Ok, Err, IsOk, refl, sym, ap, ◌∙◌, append_assoc, append-nil, arith, length-append}
 use Rattle.std.specs.List.{AllByRecursion}
 use Rattle.framing.specs.Lines.{IsPartial}
-use Rattle.definitions.specs.Frames.{Event, frame_text}
+use Rattle.definitions.specs.Frames.{Frame, frame_text}
 use Rattle.controllers.specs.ReadFrames.{Read, lines, rest, reading, read_lines, line_read, holding, failed, onto, next, longest_frame}
 use Rattle.framing.specs.Texts.{ReadsAs, ReadsAll}
 use Rattle.framing.specs.Decoders.{fed, opened, left, all_fed}
@@ -46,7 +46,7 @@ limited_more : (ps : List (List ℕ)) → Goes ps → (q : List ℕ) (b : Bool) 
 limited_more ps ih q true h e = ih q h (grind arith)
 limited_more ps ih q false h e = ended TooLong ps ∙ sym (too_long q (flat ps) h (grind arith))
 
-next_more : (ps : List (List ℕ)) (r s : Read) (o : Result Event FrameFault) → onto r.events (all_fed (left r) ps) ≡ s
+next_more : (ps : List (List ℕ)) (r s : Read) (o : Result Frame FrameFault) → onto r.events (all_fed (left r) ps) ≡ s
     → (let t = next o r in onto t.events (all_fed (left t) ps)) ≡ next o s
 next_more ps r s (Ok e) h = ap (λ t. onto (e ∷ []) t) h
 next_more ps r s (Err f) h = ended f ps
@@ -70,13 +70,13 @@ pub no_cutting : (ps : List (List ℕ)) → all_fed opened ps ≡ reading (flat_
 no_cutting ps = goes ps [] tt (omega arith)
 
 -- what was given stays the beginning
-pub begun : (a b : List ℕ) → (later : List Event) × ((reading (a ++ b)).events ≡ (reading a).events ++ later)
+pub begun : (a b : List ℕ) → (later : List Frame) × ((reading (a ++ b)).events ≡ (reading a).events ++ later)
 begun a b =
     let h = fed (left (reading a)) b in
     (h.events ++ [], sym (ap (λ z. (reading (a ++ z)).events) (append-nil b)) ∙ sym (ap (λ r. r.events) (no_cutting (a ∷ b ∷ []))))
 
 -- lines of events in a row
-pub all_read : (es : List Event) → AllByRecursion (λ e. ReadsAs (frame_text e) e) es → ReadsAll (flat_map frame_text es) es
+pub all_read : (es : List Frame) → AllByRecursion (λ e. ReadsAs (frame_text e) e) es → ReadsAll (flat_map frame_text es) es
 all_read [] h more = refl
 all_read (e ∷ es) h more =
     ap reading (append_assoc (frame_text e) (flat_map frame_text es) more) ∙ h.0 (flat_map frame_text es ++ more) ∙ ap (onto (e ∷ [])) (all_read es h.1 more)
@@ -89,7 +89,7 @@ limited_fault : (q : List ℕ) (b : Bool) → nat_lt (length q) longest_frame �
 limited_fault q true e = (λ h. (tt, grind arith), λ h. refl)
 limited_fault q false e = (λ h. cc, λ h. let k = h.1 in absurd (grind arith))
 
-next_fault : (ls : List (List ℕ)) (q : List ℕ) (r : Read) (o : Result Event FrameFault) → (r.fault ≡ None) ↔ AreFrames ls q
+next_fault : (ls : List (List ℕ)) (q : List ℕ) (r : Read) (o : Result Frame FrameFault) → (r.fault ≡ None) ↔ AreFrames ls q
     → ((next o r).fault ≡ None) ↔ ((IsOk o × AllByRecursion (λ l. IsOk (line_read l)) ls) × (length q < longest_frame))
 next_fault ls q r (Ok e) h = (λ k. let p = h.0 k in ((refl, p.0), p.1), λ k. h.1 (k.0.1, k.1))
 next_fault ls q r (Err f) h = (λ k. cc, λ k. cc)

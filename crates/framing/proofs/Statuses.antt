@@ -4,7 +4,7 @@ use Rattle.serde_json.specs.Data.{number, unsigned, string, object, no_members, 
 use Rattle.serde_json.specs.Written.{has_float}
 use Rattle.definitions.specs.declared.kinds.Kind.{Kind}
 use Rattle.definitions.specs.declared.kinds.Kind.TheVariants.{ConfigMap, Pod, ReplicaSet, Deployment}
-use Rattle.definitions.specs.Names.{Name}
+use Rattle.definitions.specs.Keys.{Key}
 use Rattle.definitions.specs.Refusals.{Refusal, code, message, told, details, with_optional, status_body}
 
 details_clean : (kind : Kind) (ns name : List ℕ) → has_float (details (record { kind = kind; namespace = ns; name = name }) no_members) ≡ false
@@ -13,7 +13,7 @@ details_clean Pod ns name = refl
 details_clean ReplicaSet ns name = refl
 details_clean Deployment ns name = refl
 
-clean : (n : ℕ) (said why : List ℕ) (o : Option Name)
+clean : (n : ℕ) (said why : List ℕ) (o : Option Key)
     → has_float
     (object
     (member (codes "apiVersion") (string (codes "v1"))

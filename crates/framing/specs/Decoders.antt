@@ -3,7 +3,7 @@ use Rattle.std.specs.Prelude.{ℕ, List, [], ◌∷◌, ◌++◌, map, Option, S
 use Rattle.std.specs.Coded.{Coded, code_by, coded×, coded_option}
 use Rattle.serde_json.specs.View.{view}
 use Rattle.codes.specs.Codes.{coded_text}
-use Rattle.definitions.specs.Frames.{Event}
+use Rattle.definitions.specs.Frames.{Frame as Event}
 use Rattle.controllers.specs.ReadFrames.{Read, reading, failed, onto}
 use Rattle.controllers.specs.declared.frame_fault.FrameFault.{FrameFault}
 use Rattle.controllers.specs.contracts.frame_fault.FrameFault as fault

@@ -1,7 +1,7 @@
 -- Laws of lines and frames.
 use Rattle.std.specs.Prelude.{◌++◌, ◌≡◌, ◌<◌, ◌↔◌, ℕ, List, flat_map, length, None, IsOk}
 use Rattle.std.specs.List.{AllByRecursion}
-use Rattle.definitions.specs.Frames.{Event, frame_text}
+use Rattle.definitions.specs.Frames.{Frame, frame_text}
 use Rattle.controllers.specs.ReadFrames.{lines, rest, reading, line_read, longest_frame}
 use Rattle.framing.specs.Lines.{Splits}
 use Rattle.framing.specs.Texts.{ReadsAs, ReadsAll}
@@ -23,8 +23,8 @@ FaultsAreLines =
 
 -- the lines of events that can be read are read as these events, whatever follows
 abbrev pub LinesAreRead : Type 0
-LinesAreRead = (es : List Event) → AllByRecursion (λ e. ReadsAs (frame_text e) e) es → ReadsAll (flat_map frame_text es) es
+LinesAreRead = (es : List Frame) → AllByRecursion (λ e. ReadsAs (frame_text e) e) es → ReadsAll (flat_map frame_text es) es
 
 -- a stream that is cut gave a beginning of what the whole would have given
 abbrev pub CutsAreBeginnings : Type 0
-CutsAreBeginnings = (bytes more : List ℕ) → (later : List Event) × ((reading (bytes ++ more)).events ≡ (reading bytes).events ++ later)
+CutsAreBeginnings = (bytes more : List ℕ) → (later : List Frame) × ((reading (bytes ++ more)).events ≡ (reading bytes).events ++ later)

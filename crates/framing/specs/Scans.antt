@@ -1,6 +1,6 @@
 -- What one line was read as.
 use Rattle.std.specs.Prelude.{◌≡◌, Result, Ok, Err}
-use Rattle.definitions.specs.Frames.{Event}
+use Rattle.definitions.specs.Frames.{Frame as Event}
 use Rattle.controllers.specs.declared.frame_fault.FrameFault.{FrameFault}
 use Rattle.framing.specs.Decoders.{event_of}
 use Rattle.framing.specs.declared.frames.Frame.{Frame}

@@ -3,7 +3,7 @@ use Rattle.std.specs.Prelude.{◌≡◌, ◌≤◌, ℕ, List, [], ◌∷◌, �
 use Rattle.serde_json.specs.Data.{depth}
 use Rattle.serde_json.specs.Find.{as_object}
 use Rattle.serde_json.specs.Read.{max_depth}
-use Rattle.definitions.specs.Frames.{Event, frame_data, frame_text}
+use Rattle.definitions.specs.Frames.{Frame, frame_data, frame_text}
 use Rattle.controllers.specs.ReadFrames.{longest_frame, reading, onto}
 
 -- the line of a frame, from the texts of its kind and its object
@@ -11,15 +11,15 @@ abbrev pub framed_text : List ℕ → List ℕ → List ℕ
 framed_text kind text = codes "{\"object\":" ++ (text ++ (codes ",\"type\":\"" ++ (kind ++ codes "\"}\n")))
 
 -- an event that a line can hold
-pub record IsWithin (e : Event) : Type 0 where
+pub record IsWithin (e : Frame) : Type 0 where
   pub is_object : IsSome (as_object e.object)
   pub nests : depth (frame_data e) ≤ max_depth
   pub fits : length (frame_text e) ≤ longest_frame
 
 -- the text is read as these events, whatever follows it
-abbrev pub ReadsAll : List ℕ → List Event → Type 0
+abbrev pub ReadsAll : List ℕ → List Frame → Type 0
 ReadsAll text es = (more : List ℕ) → reading (text ++ more) ≡ onto es (reading more)
 
 -- the text is read as this event, whatever follows it
-abbrev pub ReadsAs : List ℕ → Event → Type 0
+abbrev pub ReadsAs : List ℕ → Frame → Type 0
 ReadsAs text e = ReadsAll text (e ∷ [])

@@ -3,7 +3,7 @@ ghost use Rattle.std.specs.Prelude.{◌≡◌, ◌≤◌, ◌<◌, ◌+◌, ◌+
 ghost use Rattle.serde_json.specs.View.{view};
 ghost use Rattle.serde_json.specs.Find.{get};
 ghost use Rattle.framing.specs.Lines.{IsPartial};
-ghost use Rattle.controllers.specs.ReadFrames.{object_at, event_in, line_read};
+ghost use Rattle.controllers.specs.ReadFrames.{object_at, frame_in, line_read};
 ghost use Rattle.framing.specs.Decoders.{event_of};
 ghost use Rattle.framing.specs.Scans.{IsRead};
 
@@ -18,7 +18,7 @@ use std::alloc::Global;
 /// The most bytes of a frame, its newline counted.
 pub const LONGEST_FRAME: usize = 2_097_152;
 
-/// The place of the first newline, where the first `known` bytes hold none.
+/// Returns the place of the first newline, where the first `known` bytes hold none.
 pub fn first_newline(bytes: &[u8], known: usize) -> Option<usize>
     requires within { known ≤ length bytes.now }
     requires partial { IsPartial (take known bytes.now) }
@@ -29,9 +29,9 @@ pub fn first_newline(bytes: &[u8], known: usize) -> Option<usize>
     Some(known + at)
 }
 
-/// The frame that a value is.
+/// Returns the frame that a value is.
 fn frame_of(value: Value) -> Option<Frame>
-    ensures { option_map event_of result ≡ event_in (view value) }
+    ensures { option_map event_of result ≡ frame_in (view value) }
 {
     let kind = FrameKind::named(value.get("type")?.as_str()?)?;
     let object = object_at(value, "object")?;
@@ -63,7 +63,7 @@ fn object_at(value: Value, name: &str) -> Option<Value>
     }
 }
 
-/// The frame of a line, its newline left out.
+/// Returns the frame of a line, its newline left out.
 pub fn read_line(alloc: Global, line: &[u8]) -> Result<Result<Frame, FrameFault>, Want>
     ensures { IfOk result (λ r. IsRead r (line_read line.now)) }
 {

@@ -3,7 +3,7 @@ ghost use Rattle.std.specs.Prelude.{◌≡◌, IfOk, false, string_bytes};
 ghost use Rattle.serde_json.specs.View.{view};
 ghost use Rattle.serde_json.specs.Data.{object};
 ghost use Rattle.serde_json.specs.Written.{has_float};
-ghost use Rattle.definitions.specs.Frames.{kind_text, frame_text, bookmark_metadata, bookmark_data, bookmark_event, error_event};
+ghost use Rattle.definitions.specs.Frames.{kind_text, frame_text, bookmark_metadata, bookmark_data, bookmark_frame, error_frame};
 ghost use Rattle.definitions.specs.declared.frames.FrameKind.TheVariants.{Added};
 ghost use Rattle.meta.specs.Faults.{refusal_of};
 ghost use Rattle.framing.specs.Events.{event_seen};
@@ -16,7 +16,7 @@ use revisions::Event;
 use serde_json::{Value, json};
 use std::alloc::{AllocError, Global};
 
-/// The line of a frame whose object has this text.
+/// Returns the line of a frame whose object has this text.
 fn framed(alloc: Global, kind: FrameKind, object: &str) -> Result<String, AllocError>
     ensures { IfOk result (λ t. string_bytes t ≡ framed_text (kind_text kind) object.now) }
 {
@@ -29,7 +29,7 @@ fn framed(alloc: Global, kind: FrameKind, object: &str) -> Result<String, AllocE
     Ok(line)
 }
 
-/// The line of a frame with this object.
+/// Returns the line of a frame with this object.
 fn line_of(alloc: Global, kind: FrameKind, object: &Value) -> Result<String, AllocError>
     requires { has_float (view object.now) ≡ false }
     ensures text { IfOk result (λ t. string_bytes t ≡ frame_text (record { kind = kind; object = view object.now })) }
@@ -41,7 +41,7 @@ fn line_of(alloc: Global, kind: FrameKind, object: &Value) -> Result<String, All
     Ok(line)
 }
 
-/// The line of a frame with an object that is kept.
+/// Returns the line of a frame with an object that is kept.
 fn object_text(alloc: Global, kind: FrameKind, object: &StoredObject) -> Result<String, AllocError>
     ensures text { IfOk result (λ t. string_bytes t ≡ frame_text (record { kind = kind; object = object.now.value })) }
     ensures reads_back { IfOk result (λ t. IsWithin (record { kind = kind; object = object.now.value })
@@ -51,7 +51,7 @@ fn object_text(alloc: Global, kind: FrameKind, object: &StoredObject) -> Result<
     Ok(line)
 }
 
-/// The line of a change: ADDED, MODIFIED or DELETED, and an object. The error is want of memory.
+/// Returns the line of a change: ADDED, MODIFIED or DELETED, and an object. The error is running out of memory.
 pub fn frame_text(alloc: Global, event: &Event) -> Result<String, AllocError>
     ensures text { IfOk result (λ t. string_bytes t ≡ frame_text (event_seen event.now)) }
     ensures reads_back { IfOk result (λ t. IsWithin (event_seen event.now)
@@ -60,7 +60,7 @@ pub fn frame_text(alloc: Global, event: &Event) -> Result<String, AllocError>
     object_text(alloc, event.kind.frame_kind(), &event.object)
 }
 
-/// The line of an object that is there when a watch begins: ADDED, and the object. The error is want of memory.
+/// Returns the line of an object that is there when a watch begins: ADDED, and the object. The error is running out of memory.
 pub fn added_text(alloc: Global, object: &StoredObject) -> Result<String, AllocError>
     ensures text { IfOk result (λ t. string_bytes t ≡ frame_text (record { kind = Added; object = object.now.value })) }
     ensures reads_back { IfOk result (λ t. IsWithin (record { kind = Added; object = object.now.value })
@@ -69,7 +69,7 @@ pub fn added_text(alloc: Global, object: &StoredObject) -> Result<String, AllocE
     object_text(alloc, FrameKind::Added, object)
 }
 
-/// The metadata of a bookmark.
+/// Returns the metadata of a bookmark.
 fn bookmark_metadata(alloc: Global, closing: bool, revision: u64) -> Result<Value, AllocError>
     ensures { IfOk result (λ v. view v ≡ object (bookmark_metadata closing revision)) }
 {
@@ -84,7 +84,7 @@ fn bookmark_metadata(alloc: Global, closing: bool, revision: u64) -> Result<Valu
     }
 }
 
-/// The object of a bookmark.
+/// Returns the object of a bookmark.
 fn bookmark(alloc: Global, kind: Kind, closing: bool, revision: u64) -> Result<Value, AllocError>
     ensures { IfOk result (λ v. view v ≡ bookmark_data kind closing revision) }
 {
@@ -94,27 +94,27 @@ fn bookmark(alloc: Global, kind: Kind, closing: bool, revision: u64) -> Result<V
     json!(in alloc; {"apiVersion": version, "kind": name, "metadata": metadata})
 }
 
-/// The line of a bookmark; the one that closes the initial events has an annotation that says so. The error is want of
-/// memory.
+/// Returns the line of a bookmark; the one that closes the initial events has an annotation that says so. The error is running
+/// out of memory.
 pub fn bookmark_text(
     alloc: Global,
     kind: Kind,
     closing: bool,
     revision: u64,
 ) -> Result<String, AllocError>
-    ensures text { IfOk result (λ t. string_bytes t ≡ frame_text (bookmark_event kind closing revision)) }
-    ensures reads_back { IfOk result (λ t. ReadsAs (string_bytes t) (bookmark_event kind closing revision)) }
+    ensures text { IfOk result (λ t. string_bytes t ≡ frame_text (bookmark_frame kind closing revision)) }
+    ensures reads_back { IfOk result (λ t. ReadsAs (string_bytes t) (bookmark_frame kind closing revision)) }
 {
     let object = bookmark(alloc, kind, closing, revision)?;
     let line = line_of(alloc, FrameKind::Bookmark, &object)?;
     Ok(line)
 }
 
-/// The line of an error, whose object is the fault's Status. The error is want of memory.
+/// Returns the line of an error, whose object is the fault's Status. The error is running out of memory.
 pub fn error_text(alloc: Global, fault: &Fault) -> Result<String, AllocError>
-    ensures text { IfOk result (λ t. string_bytes t ≡ frame_text (error_event (refusal_of fault.now))) }
-    ensures reads_back { IfOk result (λ t. IsWithin (error_event (refusal_of fault.now))
-        → ReadsAs (string_bytes t) (error_event (refusal_of fault.now))) }
+    ensures text { IfOk result (λ t. string_bytes t ≡ frame_text (error_frame (refusal_of fault.now))) }
+    ensures reads_back { IfOk result (λ t. IsWithin (error_frame (refusal_of fault.now))
+        → ReadsAs (string_bytes t) (error_frame (refusal_of fault.now))) }
 {
     let status = reply::body(alloc, fault)?;
     let line = line_of(alloc, FrameKind::Error, &status)?;

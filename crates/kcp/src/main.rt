@@ -57,7 +57,7 @@ pub fn replay<R: BufRead, W: Write>(
     replay_with(alloc, DEFAULT_WINDOW, reader, writer)
 }
 
-/// Whether the word after the program's name, with no more after it, asks for a replay.
+/// Returns whether the word after the program's name, with no more after it, asks for a replay.
 fn asks_replay(word: Option<String>, more: Option<String>) -> bool
     ensures { result ≡ asks_replay (option_map string_bytes word) (option_map string_bytes more) }
 {
@@ -67,7 +67,7 @@ fn asks_replay(word: Option<String>, more: Option<String>) -> bool
     }
 }
 
-/// Whether the program is called as `kcp replay`.
+/// Returns whether the program is called as `kcp replay`.
 fn is_replay(rt: &HostRuntime) -> io::Result<bool> {
     let mut words = env::args(rt)?;
     let _program = words.next();
@@ -86,7 +86,7 @@ fn replay_standard_input(rt: &HostRuntime) -> Result<(), RunFault> {
     replay(rt.alloc(), &mut reader, &mut writer)
 }
 
-/// What a fault is called on standard error.
+/// Returns what a fault is called on standard error.
 fn fault_name(fault: RunFault) -> &'static str
     ensures { result.now ≡ fault_text fault }
 {

@@ -13,7 +13,7 @@ use Rattle.std.specs.FinMap.{get-insert, get-retain_keys, get_tied}
 use Rattle.std.specs.FinSet as set
 use Rattle.std.specs.FinSet.{contains-empty, contains-from_list, contains-remove, empty_of_len, len-empty, same_set, nat_cmp-IsAntisymmetric, slice_cmp-IsAntisymmetric}
 use Rattle.laws.specs.AwaitedLaws.{deletions_of, is_awaited, all_deleted, is_among, are_among, SeenIsAwaitedNoMore, StrangersChangeNothing, WaitsForEach, DeletionsOnlyFall}
-use Rattle.definitions.specs.Names.{is_named}
+use Rattle.definitions.specs.Keys.{is_same_key}
 use Rattle.controllers.specs.Expectations.{Owner, owner_cmp, Expectation, Table, Uids, change, deleted, deletions_expected, is_met, satisfied}
 use Rattle.laws.specs.ExpectationLaws.{Change, expect_creations, expect_deletions, see_created, see_deleted, forget, after, after_all, sets, sets_none}
 use Rattle.controllers.proofs.Expected.{owner_total, keys_tied, get_put}
@@ -215,8 +215,8 @@ step o t (see_created p) h = changed (λ e. record e { creations = e.creations -
 step o t (see_deleted p u) h = changed (λ e. record e { deletions = set.remove e.deletions u }) (λ e. one_less e u) t o p
 step o t (forget k) h =
     subst (λ x. AtMost x (map.get t o))
-    (sym (get-retain_keys t (λ p. not (is_named k p.key)) o (λ x e. ap (λ n. not (is_named k n)) (sym (keys_tied o x e)))))
-    (by (not (is_named k o.key)))
+    (sym (get-retain_keys t (λ p. not (is_same_key k p.key)) o (λ x e. ap (λ n. not (is_same_key k n)) (sym (keys_tied o x e)))))
+    (by (not (is_same_key k o.key)))
   where
     by : (b : Bool) → AtMost (cond b (map.get t o) None) (map.get t o)
     by true = as_before (map.get t o)

@@ -7,28 +7,28 @@ use Rattle.std.specs.Ordering.{eq_by_cmp}
 use Rattle.std.specs.FinSet as set
 use Rattle.std.specs.FinSet.{contains_tied, contains-insert, contains-remove, contains-empty}
 use Rattle.std.proofs.lemmas.Map.Keys.{IsDistinct-push, IsDistinct-head, IsDistinct-tail}
-use Rattle.controllers.specs.WorkQueues.{Task, task_cmp, Tasks, Work, idle, added, got_from, done, Call, add, get, finish, shut_down, after, after_all, front}
-use Rattle.laws.specs.BoardLaws.{is_key, hands_out, was_handed}
+use Rattle.controllers.specs.WorkQueues.{WorkKey, work_key_cmp, WorkKeys, WorkQueue, idle, added, got_from, done, Call, add, get, finish, shut_down, after, after_all, front}
+use Rattle.laws.specs.WorkQueueLaws.{is_key, hands_out, was_handed}
 use Rattle.controllers.proofs.TaskOrder.{task_total}
 
-abbrev pub same : Task → Task → Bool
-same = eq_by_cmp task_cmp
+abbrev pub same : WorkKey → WorkKey → Bool
+same = eq_by_cmp work_key_cmp
 
 -- a queued key wants a look and is in no hands; another that wants one is in a worker's hands
 abbrev pub fits : Bool → Bool → Bool → Bool
 fits true dirty processing = dirty && not processing
 fits false dirty processing = not dirty || processing
 
-abbrev pub Standing : List Task → Tasks → Tasks → Type 0
-Standing queue dirty processing = (k : Task) → fits (list_any (same k) queue) (set.contains dirty k) (set.contains processing k) ≡ true
+abbrev pub Standing : List WorkKey → WorkKeys → WorkKeys → Type 0
+Standing queue dirty processing = (k : WorkKey) → fits (list_any (same k) queue) (set.contains dirty k) (set.contains processing k) ≡ true
 
-abbrev pub IsSound : Work → Type 0
+abbrev pub IsSound : WorkQueue → Type 0
 IsSound w = IsDistinct same w.queue × Standing w.queue w.dirty w.processing
 
 same_laws : IsEquivalence same
 same_laws = eq_by_cmp_equiv task_total
 
-any_pushed : (p : Task → Bool) (ks : List Task) (k : Task) → list_any p (ks ++ k ∷ []) ≡ (p k || list_any p ks)
+any_pushed : (p : WorkKey → Bool) (ks : List WorkKey) (k : WorkKey) → list_any p (ks ++ k ∷ []) ≡ (p k || list_any p ks)
 any_pushed p [] k = refl
 any_pushed p (x ∷ ks) k = ap (λ b. p x || b) (any_pushed p ks k) ∙ swapped (p x) (p k) _
   where
@@ -37,16 +37,16 @@ any_pushed p (x ∷ ks) k = ap (λ b. p x || b) (any_pushed p ks k) ∙ swapped 
     swapped true false c = refl
     swapped false b c = refl
 
-absent : (k : Task) (ks : List Task) → AllByRecursion (λ y. same k y ≡ false) ks → list_any (same k) ks ≡ false
+absent : (k : WorkKey) (ks : List WorkKey) → AllByRecursion (λ y. same k y ≡ false) ks → list_any (same k) ks ≡ false
 absent k [] h = refl
 absent k (x ∷ ks) h = ap (λ b. b || list_any (same k) ks) h.0 ∙ absent k ks h.1
 
-any_alike : (q k : Task) → same q k ≡ true → (ks : List Task) → list_any (same q) ks ≡ list_any (same k) ks
+any_alike : (q k : WorkKey) → same q k ≡ true → (ks : List WorkKey) → list_any (same q) ks ≡ list_any (same k) ks
 any_alike q k t [] = refl
 any_alike q k t (x ∷ ks) = λ i. same_laws.congr q k x t i || any_alike q k t ks i
 
-set_alike : (q k : Task) → same q k ≡ true → (s : Tasks) → set.contains s q ≡ set.contains s k
-set_alike q k t s = sym (contains_tied task_total s q k ((Equal-is (task_cmp q k)).0 t))
+set_alike : (q k : WorkKey) → same q k ≡ true → (s : WorkKeys) → set.contains s q ≡ set.contains s k
+set_alike q k t s = sym (contains_tied task_total s q k ((Equal-is (work_key_cmp q k)).0 t))
 
 -- the four ways, call by call
 add_held : (e a d p : Bool) → (e ≡ true → d ≡ false) → (e ≡ true → p ≡ true) → fits a d p ≡ true → fits a (e || d) p ≡ true
@@ -82,7 +82,7 @@ held_is_absent false d p hp h = refl
 held_is_absent true true p hp h = absurd (true≢false (sym h ∙ ap not hp))
 held_is_absent true false p hp h = absurd (true≢false (sym h))
 
-added-sound : (k : Task) (w : Work) → IsSound w → IsSound (added k w)
+added-sound : (k : WorkKey) (w : WorkQueue) → IsSound w → IsSound (added k w)
 added-sound k w h = by (w.is_shut || set.contains w.dirty k) refl
   where
     clean : (a b : Bool) → (a || b) ≡ false → b ≡ false
@@ -105,7 +105,7 @@ added-sound k w h = by (w.is_shut || set.contains w.dirty k) refl
     by true e = h
     by false e = placed (set.contains w.processing k) refl (clean w.is_shut (set.contains w.dirty k) e)
 
-got-sound : (queue : List Task) (w : Work) → IsDistinct same queue → Standing queue w.dirty w.processing → w.queue ≡ queue → IsSound w → IsSound (got_from queue w)
+got-sound : (queue : List WorkKey) (w : WorkQueue) → IsDistinct same queue → Standing queue w.dirty w.processing → w.queue ≡ queue → IsSound w → IsSound (got_from queue w)
 got-sound [] w once stand e h = h
 got-sound (k ∷ ks) w once stand e h = (
   IsDistinct-tail same k ks once,
@@ -113,7 +113,7 @@ got-sound (k ∷ ks) w once stand e h = (
       ∙ take_next (same q k) _ _ _ (λ t. any_alike q k t ks ∙ absent k ks (IsDistinct-head same k ks once)) (stand q),
 )
 
-done-sound : (k : Task) (w : Work) → IsSound w → IsSound (done k w)
+done-sound : (k : WorkKey) (w : WorkQueue) → IsSound w → IsSound (done k w)
 done-sound k w h = by (set.contains w.processing k) refl
   where
     placed : (d : Bool) → set.contains w.dirty k ≡ d → set.contains w.processing k ≡ true → IsSound (record w { queue = if d then w.queue ++ k ∷ [] else w.queue; processing = set.remove w.processing k })
@@ -132,19 +132,19 @@ done-sound k w h = by (set.contains w.processing k) refl
     by true e = placed (set.contains w.dirty k) refl e
     by false e = h
 
-pub after-sound : (w : Work) (c : Call) → IsSound w → IsSound (after w c)
+pub after-sound : (w : WorkQueue) (c : Call) → IsSound w → IsSound (after w c)
 after-sound w (add k) h = added-sound k w h
 after-sound w get h = got-sound w.queue w h.0 h.1 refl h
 after-sound w (finish k) h = done-sound k w h
 after-sound w shut_down h = h
 
-pub runs_are_sound : (w : Work) (cs : List Call) → IsSound w → IsSound (after_all w cs)
+pub runs_are_sound : (w : WorkQueue) (cs : List Call) → IsSound w → IsSound (after_all w cs)
 runs_are_sound w [] h = h
 runs_are_sound w (c ∷ cs) h = runs_are_sound (after w c) cs (after-sound w c h)
 
 pub idle-sound : IsSound idle
 unfolding IsDistinct
-idle-sound = (tt, λ k i. fits false (contains-empty task_cmp k i) (contains-empty task_cmp k i))
+idle-sound = (tt, λ k i. fits false (contains-empty work_key_cmp k i) (contains-empty work_key_cmp k i))
 
 pub sound : (cs : List Call) → IsSound (after_all idle cs)
 sound cs = runs_are_sound idle cs idle-sound
@@ -166,15 +166,15 @@ wanted_is_somewhere true d p h e = refl
 wanted_is_somewhere false true p h e = h
 wanted_is_somewhere false false p h e = absurd (true≢false (sym e))
 
-pub front_is_queued : (ks : List Task) (k : Task) → front ks ≡ Some k → list_any (same k) ks ≡ true
+pub front_is_queued : (ks : List WorkKey) (k : WorkKey) → front ks ≡ Some k → list_any (same k) ks ≡ true
 front_is_queued [] k e = cc
 front_is_queued (x ∷ ks) k e = ap (λ b. b || list_any (same k) ks) (same_front x k e)
   where
-    same_front : (x k : Task) → Some x ≡ Some k → same k x ≡ true
+    same_front : (x k : WorkKey) → Some x ≡ Some k → same k x ≡ true
     same_front x k e = let is : x ≡ k = cc in ap (same k) is ∙ same_laws.refl k
 
 -- a key that wants a look wants it after a call, or the call hands it out
-after-wanted : (k : Task) (w : Work) (c : Call) → set.contains w.dirty k ≡ true → (set.contains (after w c).dirty k || hands_out k w c) ≡ true
+after-wanted : (k : WorkKey) (w : WorkQueue) (c : Call) → set.contains w.dirty k ≡ true → (set.contains (after w c).dirty k || hands_out k w c) ≡ true
 after-wanted k w (add j) d = by (w.is_shut || set.contains w.dirty j)
   where
     some : (a b : Bool) → b ≡ true → ((a || b) || false) ≡ true
@@ -190,7 +190,7 @@ after-wanted k w get d = by w.queue
     one_or_other true b e = refl
     one_or_other false b e = ap (λ b. b || false) e
 
-    by : (ks : List Task) → (set.contains (got_from ks w).dirty k || is_key k (front ks)) ≡ true
+    by : (ks : List WorkKey) → (set.contains (got_from ks w).dirty k || is_key k (front ks)) ≡ true
     by [] = ap (λ b. b || false) d
     by (j ∷ ks) = ap (λ b. b || same k j) (contains-remove task_total w.dirty j k) ∙ one_or_other (same k j) _ d
 after-wanted k w (finish j) d = by (set.contains w.processing j)
@@ -200,7 +200,7 @@ after-wanted k w (finish j) d = by (set.contains w.processing j)
     by false = ap (λ b. b || false) d
 after-wanted k w shut_down d = ap (λ b. b || false) d
 
-pub wanted_is_served : (k : Task) (w : Work) (cs : List Call) → set.contains w.dirty k ≡ true → (set.contains (after_all w cs).dirty k || was_handed k w cs) ≡ true
+pub wanted_is_served : (k : WorkKey) (w : WorkQueue) (cs : List Call) → set.contains w.dirty k ≡ true → (set.contains (after_all w cs).dirty k || was_handed k w cs) ≡ true
 wanted_is_served k w [] d = ap (λ b. b || false) d
 wanted_is_served k w (c ∷ cs) d = by (set.contains (after w c).dirty k) (hands_out k w c) refl (after-wanted k w c d) (wanted_is_served k (after w c) cs)
   where
@@ -215,7 +215,7 @@ wanted_is_served k w (c ∷ cs) d = by (set.contains (after w c).dirty k) (hands
     by false true e o rest = or_true _
     by false false e o rest = absurd (true≢false (sym o))
 
-pub added-wanted : (k : Task) (w : Work) → w.is_shut ≡ false → set.contains (added k w).dirty k ≡ true
+pub added-wanted : (k : WorkKey) (w : WorkQueue) → w.is_shut ≡ false → set.contains (added k w).dirty k ≡ true
 added-wanted k w open_still = by (set.contains w.dirty k) refl
   where
     by : (d : Bool) → set.contains w.dirty k ≡ d → set.contains (added k w).dirty k ≡ true
@@ -229,7 +229,7 @@ added-wanted k w open_still = by (set.contains w.dirty k) refl
         ∙ contains-insert task_total w.dirty k k ∙ ap (λ b. b || set.contains w.dirty k) (same_laws.refl k)
 
 -- after the shut-down a call makes no key want a look
-after-shut : (k : Task) (w : Work) (c : Call) → w.is_shut ≡ true → ((after w c).is_shut ≡ true) × (set.contains (after w c).dirty k ≡ true → set.contains w.dirty k ≡ true)
+after-shut : (k : WorkKey) (w : WorkQueue) (c : Call) → w.is_shut ≡ true → ((after w c).is_shut ≡ true) × (set.contains (after w c).dirty k ≡ true → set.contains w.dirty k ≡ true)
 after-shut k w (add j) e = by (w.is_shut || set.contains w.dirty j) (ap (λ b. b || set.contains w.dirty j) e)
   where
     by : (b : Bool) → b ≡ true
@@ -243,7 +243,7 @@ after-shut k w get e = by w.queue
     both true b h = absurd (true≢false (sym h))
     both false b h = h
 
-    by : (ks : List Task) → ((got_from ks w).is_shut ≡ true) × (set.contains (got_from ks w).dirty k ≡ true → set.contains w.dirty k ≡ true)
+    by : (ks : List WorkKey) → ((got_from ks w).is_shut ≡ true) × (set.contains (got_from ks w).dirty k ≡ true → set.contains w.dirty k ≡ true)
     by [] = (e, λ d. d)
     by (j ∷ ks) = (e, λ d. both (same k j) _ (sym (contains-remove task_total w.dirty j k) ∙ d))
 after-shut k w (finish j) e = by (set.contains w.processing j)
@@ -255,6 +255,6 @@ after-shut k w (finish j) e = by (set.contains w.processing j)
     by false = (e, λ d. d)
 after-shut k w shut_down e = (refl, λ d. d)
 
-pub shut-wanted : (k : Task) (w : Work) (cs : List Call) → w.is_shut ≡ true → set.contains (after_all w cs).dirty k ≡ true → set.contains w.dirty k ≡ true
+pub shut-wanted : (k : WorkKey) (w : WorkQueue) (cs : List Call) → w.is_shut ≡ true → set.contains (after_all w cs).dirty k ≡ true → set.contains w.dirty k ≡ true
 shut-wanted k w [] e d = d
 shut-wanted k w (c ∷ cs) e d = let step = after-shut k w c e in step.1 (shut-wanted k (after w c) cs step.0 d)

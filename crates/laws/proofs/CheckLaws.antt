@@ -15,13 +15,13 @@ use Rattle.laws.specs.CheckLaws.{HasTemplate, SelectsItsTemplate, CreatedSelectT
 use Rattle.definitions.specs.Checks.{is_generating_byte, Check, first_fault, checks, checks_of, in_spec, requirements, is_selected, is_template_valid, are_labels, are_labels_valid, is_selector_valid, adds_no_finalizer, is_selector_kept, is_known_uid, is_not_empty, is_owner, are_owners_valid, controllers, generate_name, is_name_valid, generates, passes_if_there, is_generate_name_valid, are_finalizers_valid, is_finalizer, text_is, is_not_negative, counts, is_strategy}
 use Rattle.definitions.specs.Metadata.{labels_of, Owner, metadata, metadata_of, name, owners, owners_in}
 use Rattle.definitions.specs.Selectors.{Requirement, meets_all}
-use Rattle.definitions.specs.SelectorValues.{all_items, items_in, passes, said_by_value}
+use Rattle.definitions.specs.SelectorValues.{all_items, items_in, passes, selector_of_value}
 use Rattle.definitions.specs.Uids.{uid_text, uid_revision, cluster_word}
 use Rattle.definitions.specs.Values.{inner_of, members_of, without}
 use Rattle.definitions.specs.NewObjects.{created, first_status, new_metadata, with_first_status, with_generation, with_status}
 use Rattle.definitions.specs.Defaults.{whole}
 use Rattle.definitions.specs.Kinds.{has_generation}
-use Rattle.definitions.specs.Names.{is_subdomain}
+use Rattle.definitions.specs.Keys.{is_subdomain}
 use Rattle.laws.proofs.HeldMembers.{text-at_revision, name-new_metadata}
 use Rattle.definitions.proofs.JsonMembers.{apart, get_member-without_other, metadata_of-with, text_in}
 use Rattle.definitions.proofs.FirstStatus.{get-first, metadata_of-first}
@@ -59,7 +59,7 @@ and-second false v h = cc
 
 selects : (d : Data) → is_template_valid d ≡ true → SelectsItsTemplate d
 selects d h s t rs selector template said =
-    let reads : requirements d ≡ Some rs = ap (option_and_then (λ x. result_ok (said_by_value x))) selector ∙ ap result_ok said in
+    let reads : requirements d ≡ Some rs = ap (option_and_then (λ x. result_ok (selector_of_value x))) selector ∙ ap result_ok said in
     let both : passes (is_selected rs) (Some t) ≡ true = sym (ap (λ o. passes (λ (rs : List Requirement). passes (is_selected rs) (in_spec (codes "template") d)) o) reads ∙ ap (passes (is_selected rs)) template) ∙ h in
     and-second (are_labels_valid t) (meets_all rs (labels_of t)) both
 
@@ -199,7 +199,7 @@ module _ (k : Kind) (r : ℕ) (ns under moment : List ℕ) (d : Data) where
   in_spec_same q = ap (option_and_then (get q)) (same_part (codes "spec") refl refl)
 
   said_same : requirements made_of ≡ requirements first
-  said_same = ap (option_and_then (λ s. result_ok (said_by_value s))) (in_spec_same (codes "selector"))
+  said_same = ap (option_and_then (λ s. result_ok (selector_of_value s))) (in_spec_same (codes "selector"))
 
   selector : (is_selector_valid made_of && true) ≡ (is_selector_valid first && true)
   selector = ap (λ (o : Option (List Requirement)). passes (λ (rs : List Requirement). nat_lt 0 (length rs)) o && true) said_same

@@ -147,9 +147,9 @@ changed_at : (n : ℕ) (p q : Schema) (k : List ℕ) (change : Data → Data) (o
     → (ns : Members) × (with_found k change o (object ms) ≡ object ns) × Parts (suc n) p ns
 changed_at n p q k change None ms at keeps f g = (ms, refl, g)
 changed_at n p q k change (Some e) ms at keeps f g =
-    let held = from_part n p q k e at f in
-    let made = keeps held.0 held.2 in
-    let is : change e ≡ object made.0 = ap change held.1 ∙ made.1 in
+    let existing = from_part n p q k e at f in
+    let made = keeps existing.0 existing.2 in
+    let is : change e ≡ object made.0 = ap change existing.1 ∙ made.1 in
     (put k (object made.0) ms, ap (λ x. object (put k x ms)) is, Parts-put (suc n) p k (object made.0) ms (as_part n p q k made.0 at made.2) g)
 
 keeps_changed : (n : ℕ) (p q : Schema) (k : List ℕ) (change : Data → Data) → IsObjectAt p k q → Keeps n q change → Keeps (suc n) p (with_changed k change)

@@ -13,7 +13,7 @@ use Rattle.std.specs.FinSet.{contains-from_list, same_set}
 use Rattle.std.specs.List.{filter, list_any, AllByRecursion}
 use Rattle.std.specs.List.Sorted.{IsStrictlySortedBy}
 use Rattle.std.specs.Ordering.{eq_by_cmp, is_eq, is_lt, ordering_reverse}
-use Rattle.controllers.specs.WorkQueues.{Task, task_cmp}
+use Rattle.controllers.specs.WorkQueues.{WorkKey, work_key_cmp}
 use Rattle.controllers.specs.Delays.{Delays, Alarm, alarm_cmp, alarms, due, has_come}
 use Rattle.laws.specs.DueLaws.{IsDue, alarm_at, AreInTurn, DueHaveCome, DueAreInTurn, DueAreTheOnlyList, StillDelayedAreLater}
 use Rattle.controllers.proofs.Alarms.{alarm_total, alarm_tells, alarm_of, contains-alarms, moment_of, find_mark, marked_entries, mark, is_moment, same_at_itself}
@@ -47,7 +47,7 @@ is_some-mark true = refl
 is_some-mark false = refl
 
 abbrev entries_of : Delays → List (Alarm × Unit {0})
-entries_of m = map (λ (e : Task × ℕ). (alarm_of e, tt)) (map_of.entries m)
+entries_of m = map (λ (e : WorkKey × ℕ). (alarm_of e, tt)) (map_of.entries m)
 
 pub are_alarms : (m : Delays) → AreAlarms m (alarms m)
 are_alarms m =
@@ -77,14 +77,14 @@ own_moment m a h = moment_of m a (ap (λ s. set.contains s a) (sym ((are_alarms 
 abbrev comes : ℕ → Alarm → Bool
 comes now a = nat_le a.at now
 
-abbrev task_of : Alarm → Task
+abbrev task_of : Alarm → WorkKey
 task_of a = a.task
 
 equal : (o : Ordering) → is_eq o ≡ true → o ≡ Equal
 equal o h = (Equal-is o).0 h
 
-same_task : (k j : Task) → eq_by_cmp task_cmp k j ≡ true → k ≡ j
-same_task k j h = task_tells k j (equal (task_cmp k j) h)
+same_task : (k j : WorkKey) → eq_by_cmp work_key_cmp k j ≡ true → k ≡ j
+same_task k j h = task_tells k j (equal (work_key_cmp k j) h)
 
 same_alarm : (a b : Alarm) → same a b ≡ true → a ≡ b
 same_alarm a b h = alarm_tells a b (equal (alarm_cmp a b) h)
@@ -101,45 +101,45 @@ or_second true b h = refl
 or_second false b h = h
 
 -- an alarm of a key that comes up among these
-abbrev Found : ℕ → Task → List Alarm → Type 0
+abbrev Found : ℕ → WorkKey → List Alarm → Type 0
 Found now k ks = (at : ℕ) × (list_any (same (alarm_of (k, at))) ks ≡ true) × (nat_le at now ≡ true)
 
-later_found : (now : ℕ) (k : Task) (a : Alarm) (ks : List Alarm) → Found now k ks → Found now k (a ∷ ks)
+later_found : (now : ℕ) (k : WorkKey) (a : Alarm) (ks : List Alarm) → Found now k ks → Found now k (a ∷ ks)
 later_found now k a ks f = (f.0, or_second (same (alarm_of (k, f.0)) a) (list_any (same (alarm_of (k, f.0))) ks) f.1, f.2)
 
-found_here : (now : ℕ) (k : Task) (a : Alarm) (ks : List Alarm) → nat_le a.at now ≡ true → (b : Bool) → eq_by_cmp task_cmp k a.task ≡ b
-    → (b || list_any (eq_by_cmp task_cmp k) (map task_of (filter (comes now) ks))) ≡ true
-    → (list_any (eq_by_cmp task_cmp k) (map task_of (filter (comes now) ks)) ≡ true → Found now k ks) → Found now k (a ∷ ks)
+found_here : (now : ℕ) (k : WorkKey) (a : Alarm) (ks : List Alarm) → nat_le a.at now ≡ true → (b : Bool) → eq_by_cmp work_key_cmp k a.task ≡ b
+    → (b || list_any (eq_by_cmp work_key_cmp k) (map task_of (filter (comes now) ks))) ≡ true
+    → (list_any (eq_by_cmp work_key_cmp k) (map task_of (filter (comes now) ks)) ≡ true → Found now k ks) → Found now k (a ∷ ks)
 found_here now k a ks come true is h later =
     let alike : same (alarm_of (k, a.at)) a ≡ true = ap (λ t. same (alarm_of (t, a.at)) a) (same_task k a.task is) ∙ itself a in
     (a.at, or_first (same (alarm_of (k, a.at)) a) (list_any (same (alarm_of (k, a.at))) ks) alike, come)
 found_here now k a ks come false is h later = later_found now k a ks (later h)
 
-found_at : (now : ℕ) (k : Task) (a : Alarm) (ks : List Alarm) (b : Bool) → nat_le a.at now ≡ b → list_any (eq_by_cmp task_cmp k) (map task_of (cond b (a ∷ filter (comes now) ks) (filter (comes now) ks))) ≡ true
-    → (list_any (eq_by_cmp task_cmp k) (map task_of (filter (comes now) ks)) ≡ true → Found now k ks) → Found now k (a ∷ ks)
-found_at now k a ks true come h later = found_here now k a ks come (eq_by_cmp task_cmp k a.task) refl h later
+found_at : (now : ℕ) (k : WorkKey) (a : Alarm) (ks : List Alarm) (b : Bool) → nat_le a.at now ≡ b → list_any (eq_by_cmp work_key_cmp k) (map task_of (cond b (a ∷ filter (comes now) ks) (filter (comes now) ks))) ≡ true
+    → (list_any (eq_by_cmp work_key_cmp k) (map task_of (filter (comes now) ks)) ≡ true → Found now k ks) → Found now k (a ∷ ks)
+found_at now k a ks true come h later = found_here now k a ks come (eq_by_cmp work_key_cmp k a.task) refl h later
 found_at now k a ks false come h later = later_found now k a ks (later h)
 
-found : (now : ℕ) (k : Task) (ks : List Alarm) → list_any (eq_by_cmp task_cmp k) (map task_of (filter (comes now) ks)) ≡ true → Found now k ks
+found : (now : ℕ) (k : WorkKey) (ks : List Alarm) → list_any (eq_by_cmp work_key_cmp k) (map task_of (filter (comes now) ks)) ≡ true → Found now k ks
 found now k [] h = absurd (true≢false (sym h))
 found now k (a ∷ ks) h = found_at now k a ks (nat_le a.at now) refl h (found now k ks)
 
-handed_at : (now at : ℕ) (k : Task) (a : Alarm) (ks : List Alarm) (b : Bool) → same (alarm_of (k, at)) a ≡ b → nat_le at now ≡ true → (b || list_any (same (alarm_of (k, at))) ks) ≡ true
-    → (list_any (same (alarm_of (k, at))) ks ≡ true → list_any (eq_by_cmp task_cmp k) (map task_of (filter (comes now) ks)) ≡ true)
-    → list_any (eq_by_cmp task_cmp k) (map task_of (filter (comes now) (a ∷ ks))) ≡ true
+handed_at : (now at : ℕ) (k : WorkKey) (a : Alarm) (ks : List Alarm) (b : Bool) → same (alarm_of (k, at)) a ≡ b → nat_le at now ≡ true → (b || list_any (same (alarm_of (k, at))) ks) ≡ true
+    → (list_any (same (alarm_of (k, at))) ks ≡ true → list_any (eq_by_cmp work_key_cmp k) (map task_of (filter (comes now) ks)) ≡ true)
+    → list_any (eq_by_cmp work_key_cmp k) (map task_of (filter (comes now) (a ∷ ks))) ≡ true
 handed_at now at k a ks true is come h later =
     let one = same_alarm (alarm_of (k, at)) a is in
     let here : nat_le a.at now ≡ true = ap (λ (b : Alarm). nat_le b.at now) (sym one) ∙ come in
-    let alike : eq_by_cmp task_cmp k a.task ≡ true = ap (λ (b : Alarm). eq_by_cmp task_cmp k b.task) (sym one) ∙ ap is_eq (tied_itself task_total k) in
-    ap (λ b. list_any (eq_by_cmp task_cmp k) (map task_of (cond b (a ∷ filter (comes now) ks) (filter (comes now) ks)))) here
-    ∙ or_first (eq_by_cmp task_cmp k a.task) (list_any (eq_by_cmp task_cmp k) (map task_of (filter (comes now) ks))) alike
+    let alike : eq_by_cmp work_key_cmp k a.task ≡ true = ap (λ (b : Alarm). eq_by_cmp work_key_cmp k b.task) (sym one) ∙ ap is_eq (tied_itself task_total k) in
+    ap (λ b. list_any (eq_by_cmp work_key_cmp k) (map task_of (cond b (a ∷ filter (comes now) ks) (filter (comes now) ks)))) here
+    ∙ or_first (eq_by_cmp work_key_cmp k a.task) (list_any (eq_by_cmp work_key_cmp k) (map task_of (filter (comes now) ks))) alike
 handed_at now at k a ks false is come h later = by (nat_le a.at now)
   where
-    by : (b : Bool) → list_any (eq_by_cmp task_cmp k) (map task_of (cond b (a ∷ filter (comes now) ks) (filter (comes now) ks))) ≡ true
-    by true = or_second (eq_by_cmp task_cmp k a.task) (list_any (eq_by_cmp task_cmp k) (map task_of (filter (comes now) ks))) (later h)
+    by : (b : Bool) → list_any (eq_by_cmp work_key_cmp k) (map task_of (cond b (a ∷ filter (comes now) ks) (filter (comes now) ks))) ≡ true
+    by true = or_second (eq_by_cmp work_key_cmp k a.task) (list_any (eq_by_cmp work_key_cmp k) (map task_of (filter (comes now) ks))) (later h)
     by false = later h
 
-handed : (now at : ℕ) (k : Task) (ks : List Alarm) → nat_le at now ≡ true → list_any (same (alarm_of (k, at))) ks ≡ true → list_any (eq_by_cmp task_cmp k) (map task_of (filter (comes now) ks)) ≡ true
+handed : (now at : ℕ) (k : WorkKey) (ks : List Alarm) → nat_le at now ≡ true → list_any (same (alarm_of (k, at))) ks ≡ true → list_any (eq_by_cmp work_key_cmp k) (map task_of (filter (comes now) ks)) ≡ true
 handed now at k [] come h = absurd (true≢false (sym h))
 handed now at k (a ∷ ks) come h = handed_at now at k a ks (same (alarm_of (k, at)) a) refl come h (handed now at k ks come)
 
@@ -149,16 +149,16 @@ at_most a b h = grind (arith, nat_tests)
 at_most_back : (a b : ℕ) → a ≤ b → nat_le a b ≡ true
 at_most_back a b h = grind (arith, nat_tests)
 
-due_from : (now : ℕ) (m : Delays) (k : Task) → list_any (eq_by_cmp task_cmp k) (due now m) ≡ true → IsDue now m k
+due_from : (now : ℕ) (m : Delays) (k : WorkKey) → list_any (eq_by_cmp work_key_cmp k) (due now m) ≡ true → IsDue now m k
 due_from now m k h = let f = found now k (alarms m) h in (f.0, own_moment m (alarm_of (k, f.0)) f.1, at_most f.0 now f.2)
 
-from_due : (now : ℕ) (m : Delays) (k : Task) → IsDue now m k → list_any (eq_by_cmp task_cmp k) (due now m) ≡ true
+from_due : (now : ℕ) (m : Delays) (k : WorkKey) → IsDue now m k → list_any (eq_by_cmp work_key_cmp k) (due now m) ≡ true
 from_due now m k d = handed now d.0 k (alarms m) (at_most_back d.0 now d.2) (there m (alarm_of (k, d.0)) ∙ ap (λ o. is_moment o d.0) d.1 ∙ same_at_itself d.0)
 
-any_task : (k : Task) (ks : List Task) → Contains ks k → list_any (eq_by_cmp task_cmp k) ks ≡ true
+any_task : (k : WorkKey) (ks : List WorkKey) → Contains ks k → list_any (eq_by_cmp work_key_cmp k) ks ≡ true
 any_task k ks = list_any-from_Contains (eq_by_cmp_equiv task_total) k ks
 
-task_from_any : (k : Task) (ks : List Task) → list_any (eq_by_cmp task_cmp k) ks ≡ true → Contains ks k
+task_from_any : (k : WorkKey) (ks : List WorkKey) → list_any (eq_by_cmp work_key_cmp k) ks ≡ true → Contains ks k
 task_from_any k ks = Contains-from_any same_task k ks
 
 pub have_come : DueHaveCome
@@ -184,7 +184,7 @@ all_filter P p (a ∷ ks) h = by (p a) (all_filter P p ks h.1)
     by true rest = (h.0, rest)
     by false rest = rest
 
-abbrev turn_cmp : Delays → Task → Task → Ordering
+abbrev turn_cmp : Delays → WorkKey → WorkKey → Ordering
 turn_cmp m j k = alarm_cmp (alarm_at m j) (alarm_at m k)
 
 below_tasks : (m : Delays) (a : Alarm) (ks : List Alarm) → IsOwn m a → AllByRecursion (IsOwn m) ks → AllByRecursion (λ y. alarm_cmp a y ≡ Less) ks → AllByRecursion (λ k. turn_cmp m a.task k ≡ Less) (map task_of ks)
@@ -254,7 +254,7 @@ module _ (m : Delays) where
   turn_tells : IsAntisymmetric (turn_cmp m)
   turn_tells j k h = ap task_of (alarm_tells (alarm_at m j) (alarm_at m k) h)
 
-  same_turn : (j k : Task) → eq_by_cmp (turn_cmp m) j k ≡ true → j ≡ k
+  same_turn : (j k : WorkKey) → eq_by_cmp (turn_cmp m) j k ≡ true → j ≡ k
   same_turn j k h = turn_tells j k (equal (turn_cmp m j k) h)
 
 both_or_neither : (a b : Bool) → (a ≡ true → b ≡ true) → (b ≡ true → a ≡ true) → a ≡ b

@@ -6,13 +6,13 @@ use Rattle.std.specs.Map.{remove_entry}
 use Rattle.std.specs.Ordering.{match_ordering}
 use Rattle.serde_json.specs.Data.{Data}
 use Rattle.definitions.specs.History.{History, Write, View, Members, write, writes, state, last_of, up_to, after_all, put_or_remove, in_view, viewed, list}
-use Rattle.definitions.specs.Names.{Name, name_cmp, is_named}
+use Rattle.definitions.specs.Keys.{Key, key_cmp, is_same_key}
 use Rattle.definitions.specs.Verbs.{with_write}
 use Rattle.definitions.proofs.PutLaws.{same_name}
 use Rattle.laws.proofs.Past.{writes-append}
 
 -- a property of an object under its name
-module _ (P : Name → Data → Type 0) where
+module _ (P : Key → Data → Type 0) where
   -- of each object that was put
   abbrev pub AllPut : List Write → Type 0
   AllPut [] = Unit {0}
@@ -33,41 +33,41 @@ module _ (P : Name → Data → Type 0) where
 
   -- ---- what is there
 
-  last_at : (b : Bool) (k : Name) (w : Write) (before : Option Data) → is_named k w.key ≡ b → IfSome before (P k) → IfSome w.put (P w.key) → IfSome (cond b w.put before) (P k)
+  last_at : (b : Bool) (k : Key) (w : Write) (before : Option Data) → is_same_key k w.key ≡ b → IfSome before (P k) → IfSome w.put (P w.key) → IfSome (cond b w.put before) (P k)
   last_at true k w before is h a = subst (λ l. IfSome w.put (P l)) (sym (same_name k w.key is)) a
   last_at false k w before is h a = h
 
-  pub last_put : (k : Name) (ws : List Write) (before : Option Data) → IfSome before (P k) → AllPut ws → IfSome (last_of before k ws) (P k)
+  pub last_put : (k : Key) (ws : List Write) (before : Option Data) → IfSome before (P k) → AllPut ws → IfSome (last_of before k ws) (P k)
   last_put k [] before h a = h
-  last_put k (w ∷ ws) before h a = last_put k ws (cond (is_named k w.key) w.put before) (last_at (is_named k w.key) k w before refl h a.0) a.1
+  last_put k (w ∷ ws) before h a = last_put k ws (cond (is_same_key k w.key) w.put before) (last_at (is_same_key k w.key) k w before refl h a.0) a.1
 
-  pub there_put : (h : History) (r : ℕ) (k : Name) (d : Data) → AllPut (writes h) → state h r k ≡ Some d → P k d
+  pub there_put : (h : History) (r : ℕ) (k : Key) (d : Data) → AllPut (writes h) → state h r k ≡ Some d → P k d
   there_put h r k d a is = subst (λ o. IfSome o (P k)) is (last_put k (up_to r h) None tt (put_first (r - 1) (writes h) a))
 
   -- ---- what is listed
 
   abbrev pub Held : Members → Type 0
-  Held ms = AllByRecursion (λ (m : Name × Data). P m.0 m.1) ms
+  Held ms = AllByRecursion (λ (m : Key × Data). P m.0 m.1) ms
 
-  insert_at : (o : Ordering) (n : Name) (d : Data) (m : Name × Data) (ms : Members) → name_cmp n m.0 ≡ o → P n d → Held (m ∷ ms) → Held (insert_entry name_cmp ms n d)
-      → Held (match_ordering o ((n, d) ∷ m ∷ ms) ((m.0, d) ∷ ms) (m ∷ insert_entry name_cmp ms n d))
+  insert_at : (o : Ordering) (n : Key) (d : Data) (m : Key × Data) (ms : Members) → key_cmp n m.0 ≡ o → P n d → Held (m ∷ ms) → Held (insert_entry key_cmp ms n d)
+      → Held (match_ordering o ((n, d) ∷ m ∷ ms) ((m.0, d) ∷ ms) (m ∷ insert_entry key_cmp ms n d))
   insert_at Less n d m ms is h a later = (h, a)
   insert_at Equal n d m ms is h a later = (subst (λ x. P x d) (same_name n m.0 (ap is_eq is)) h, a.1)
   insert_at Greater n d m ms is h a later = (a.0, later)
 
-  held_insert : (n : Name) (d : Data) (ms : Members) → P n d → Held ms → Held (insert_entry name_cmp ms n d)
+  held_insert : (n : Key) (d : Data) (ms : Members) → P n d → Held ms → Held (insert_entry key_cmp ms n d)
   held_insert n d [] h a = (h, tt)
-  held_insert n d (m ∷ ms) h a = insert_at (name_cmp n m.0) n d m ms refl h a (held_insert n d ms h a.1)
+  held_insert n d (m ∷ ms) h a = insert_at (key_cmp n m.0) n d m ms refl h a (held_insert n d ms h a.1)
 
-  remove_at : (b : Bool) (m : Name × Data) (ms left : Members) → Held (m ∷ ms) → Held left → Held (cond b ms (m ∷ left))
+  remove_at : (b : Bool) (m : Key × Data) (ms left : Members) → Held (m ∷ ms) → Held left → Held (cond b ms (m ∷ left))
   remove_at true m ms left a later = a.1
   remove_at false m ms left a later = (a.0, later)
 
-  held_remove : (n : Name) (ms : Members) → Held ms → Held (remove_entry (is_at (name_cmp n)) ms)
+  held_remove : (n : Key) (ms : Members) → Held ms → Held (remove_entry (is_at (key_cmp n)) ms)
   held_remove n [] a = tt
-  held_remove n (m ∷ ms) a = remove_at (is_at (name_cmp n) m.0) m ms (remove_entry (is_at (name_cmp n)) ms) a (held_remove n ms a.1)
+  held_remove n (m ∷ ms) a = remove_at (is_at (key_cmp n) m.0) m ms (remove_entry (is_at (key_cmp n)) ms) a (held_remove n ms a.1)
 
-  held_after : (n : Name) (o : Option Data) (ms : Members) → IfSome o (P n) → Held ms → Held (put_or_remove ms n o)
+  held_after : (n : Key) (o : Option Data) (ms : Members) → IfSome o (P n) → Held ms → Held (put_or_remove ms n o)
   held_after n None ms h a = held_remove n ms a
   held_after n (Some d) ms h a = held_insert n d ms h a
 
@@ -75,7 +75,7 @@ module _ (P : Name → Data → Type 0) where
   held_all [] ms s a = a
   held_all (w ∷ ws) ms s a = held_all ws (put_or_remove ms w.key w.put) s.1 (held_after w.key w.put ms s.0 a)
 
-  seen_if : (b : Bool) (m : Name × Data) (ms : Members) → P m.0 m.1 → Held ms → Held (cond b (m ∷ ms) ms)
+  seen_if : (b : Bool) (m : Key × Data) (ms : Members) → P m.0 m.1 → Held ms → Held (cond b (m ∷ ms) ms)
   seen_if true m ms h a = (h, a)
   seen_if false m ms h a = a
 

@@ -9,7 +9,7 @@ use Rattle.std.specs.FinMap as map
 use Rattle.std.specs.FinMap.{get-insert, get-retain_keys, get_tied, same_map}
 use Rattle.std.specs.FinSet as set
 use Rattle.std.specs.FinSet.{len-remove}
-use Rattle.definitions.specs.Names.{is_named}
+use Rattle.definitions.specs.Keys.{is_same_key}
 use Rattle.controllers.specs.Expectations.{Owner, owner_cmp, Expectation, Table, Uids, change, created, is_met, satisfied}
 use Rattle.laws.specs.ExpectationLaws.{Change, expect_creations, expect_deletions, see_created, see_deleted, forget, after, after_all, sets, sets_none, creations_of, creations_left}
 use Rattle.controllers.proofs.Expected.{owner_total, owner_tells, keys_tied}
@@ -90,8 +90,8 @@ step o t (see_created p) h = changed (λ e. record e { creations = e.creations -
 step o t (see_deleted p u) h = changed (λ e. record e { deletions = set.remove e.deletions u }) (λ e. within e _ (omega arith) (fewer_deletions e.deletions u) refl) t o p
 step o t (forget k) h =
     subst (λ x. Fewer x (map.get t o))
-    (sym (get-retain_keys t (λ p. not (is_named k p.key)) o (λ x e. ap (λ n. not (is_named k n)) (sym (keys_tied o x e)))))
-    (by (not (is_named k o.key)))
+    (sym (get-retain_keys t (λ p. not (is_same_key k p.key)) o (λ x e. ap (λ n. not (is_same_key k n)) (sym (keys_tied o x e)))))
+    (by (not (is_same_key k o.key)))
   where
     by : (b : Bool) → Fewer (cond b (map.get t o) None) (map.get t o)
     by true = as_before (map.get t o)

@@ -3,7 +3,7 @@ use Rattle.std.proofs.Common.{◌≡◌, ℕ, zero, suc, ◌+◌, ◌≤◌, ◌
 use Rattle.std.proofs.lemmas.Bool.Decides.{nat_tests}
 use Rattle.std.proofs.lemmas.List.{length-take, take-take}
 use Rattle.std.specs.Result.{result_map_both}
-use Rattle.definitions.specs.Changes.{Change, changes}
+use Rattle.definitions.specs.Events.{Event, events}
 use Rattle.definitions.specs.History.{present}
 use Rattle.definitions.specs.Refusals.{Refusal, expired, too_new}
 use Rattle.laws.specs.VersionLaws.{nth_revision, first_changes, WatchesGiveFirstChanges}
@@ -11,12 +11,12 @@ use Rattle.definitions.specs.Versions.{last_change, watched}
 use Rattle.definitions.specs.Windows.{floor, within}
 
 -- where there are n changes, a change that is found before says nothing of the start
-any_start : (a b n : ℕ) (cs : List Change) → n < length cs → unwrap_or (option_map (λ (c : Change). c.revision) (slice_get cs n)) a ≡ unwrap_or (option_map (λ (c : Change). c.revision) (slice_get cs n)) b
+any_start : (a b n : ℕ) (cs : List Event) → n < length cs → unwrap_or (option_map (λ (c : Event). c.revision) (slice_get cs n)) a ≡ unwrap_or (option_map (λ (c : Event). c.revision) (slice_get cs n)) b
 any_start a b n [] l = absurd (omega (arith, l))
 any_start a b zero (c ∷ cs) l = refl
 any_start a b (suc n) (c ∷ cs) l = any_start a b n cs (omega (arith, l))
 
-last_is_nth : (a n : ℕ) (cs : List Change) → n ≤ length cs → last_change a (take n cs) ≡ nth_revision a n cs
+last_is_nth : (a n : ℕ) (cs : List Event) → n ≤ length cs → last_change a (take n cs) ≡ nth_revision a n cs
 last_is_nth a zero cs l = refl
 last_is_nth a (suc n) [] l = absurd (omega (arith, l))
 last_is_nth a (suc zero) (c ∷ cs) l = refl
@@ -25,7 +25,7 @@ last_is_nth a (suc (suc n)) (c ∷ cs) l = last_is_nth c.revision (suc n) cs (om
 one_more_tells : (n l m : ℕ) → m ≡ min (n + 1) l → nat_le m n ≡ nat_le l n
 one_more_tells n l m is = grind (arith, nat_tests)
 
-stands_at : (now a n : ℕ) (all : List Change) → cond (nat_le (length all) n) now (last_change a (take n all)) ≡ cond (nat_le (length all) n) now (nth_revision a n all)
+stands_at : (now a n : ℕ) (all : List Event) → cond (nat_le (length all) n) now (last_change a (take n all)) ≡ cond (nat_le (length all) n) now (nth_revision a n all)
 stands_at now a n all = by (nat_le (length all) n) refl
   where
     more : (l : ℕ) → nat_le l n ≡ false → n ≤ l
@@ -35,12 +35,12 @@ stands_at now a n all = by (nat_le (length all) n) refl
     by true e = refl
     by false e = last_is_nth a n all (more (length all) e)
 
-watched_is : (now a n : ℕ) (all : List Change) → watched now a n (take (n + 1) all) ≡ first_changes now a n all
+watched_is : (now a n : ℕ) (all : List Event) → watched now a n (take (n + 1) all) ≡ first_changes now a n all
 watched_is now a n all =
     let firsts : take n (take (n + 1) all) ≡ take n all = take-take n (n + 1) all (omega arith) in
     let told : nat_le (length (take (n + 1) all)) n ≡ nat_le (length all) n = one_more_tells n (length all) (length (take (n + 1) all)) (length-take (n + 1) all) in
     let stands = ap₂ (λ b cs. cond b now (last_change a cs)) told firsts ∙ stands_at now a n all in
-    λ i. record { changes = firsts i; stands = stands i }
+    λ i. record { events = firsts i; stands = stands i }
 
 -- what is made of an answer within a window is answered within it
 over : {X Y : Type 0} (f : X → Y) (floor now a : ℕ) (x : X) → result_map_both f (λ (e : Refusal). e) (within floor now a x) ≡ within floor now a (f x)
@@ -53,5 +53,5 @@ over {X} {Y} f floor now a x = by (nat_lt a floor) (nat_lt now a) (expired a flo
 
 pub first_given : WatchesGiveFirstChanges
 first_given size h v a n =
-    let all = changes h v a (present h) in
+    let all = events h v a (present h) in
     over (watched (present h) a n) (floor v.kind size h) (present h) a (take (n + 1) all) ∙ ap (within (floor v.kind size h) (present h) a) (watched_is (present h) a n all)

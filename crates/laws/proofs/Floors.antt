@@ -4,7 +4,7 @@ use Rattle.std.specs.Prelude.{nat_lt}
 use Rattle.std.proofs.lemmas.Bool.{ltb-true, ltb-false, lt-ltb}
 use Rattle.laws.specs.FloorLaws.{NonePassed, IsRemembered, RememberedAreServed}
 use Rattle.definitions.specs.History.{History, write, compaction, View, writes, present}
-use Rattle.definitions.specs.Windows.{Kept, writes_of, all_but, last_revision, IsRising, compacted, floor}
+use Rattle.definitions.specs.Windows.{Change, changes_of, all_but, last_revision, IsRising, compacted, floor}
 use Rattle.server_state.specs.Recorded.{above}
 use Rattle.laws.proofs.KeptWrites.{rising, rising_least, rising_take, above_dropped}
 use Rattle.laws.proofs.ServedWindows.{revisions_served}
@@ -23,27 +23,27 @@ least_compacted (compaction c ∷ h) r n = let first = n.0 in let rest = least_c
 
 -- ---- writes above a revision
 
-one_counted : (b : Bool) (k : Kept) (xs ks : List Kept) → length xs ≤ length ks → length (cond b (k ∷ xs) xs) ≤ length (k ∷ ks)
+one_counted : (b : Bool) (k : Change) (xs ks : List Change) → length xs ≤ length ks → length (cond b (k ∷ xs) xs) ≤ length (k ∷ ks)
 one_counted true k xs ks l = omega (arith, l)
 one_counted false k xs ks l = omega (arith, l)
 
-no_more_above : (r : ℕ) (ks : List Kept) → length (above r ks) ≤ length ks
+no_more_above : (r : ℕ) (ks : List Change) → length (above r ks) ≤ length ks
 no_more_above r [] = omega arith
 no_more_above r (k ∷ ks) = one_counted (nat_lt r k.revision) k (above r ks) ks (no_more_above r ks)
 
-few_above : (n r : ℕ) (ks : List Kept) → IsRising 1 ks → last_revision 1 (take n ks) ≤ r → length (above r ks) ≤ length ks - n
+few_above : (n r : ℕ) (ks : List Change) → IsRising 1 ks → last_revision 1 (take n ks) ≤ r → length (above r ks) ≤ length ks - n
 few_above n r ks s l =
     let same = ap length (above_dropped n r ks s l) in
     let few = no_more_above r (drop n ks) in
     let left = length-drop n ks in omega (arith, same, few, left)
 
-all_above : (r lo : ℕ) (ks : List Kept) → IsRising lo ks → r ≤ lo → length (above r ks) ≡ length ks
+all_above : (r lo : ℕ) (ks : List Change) → IsRising lo ks → r ≤ lo → length (above r ks) ≡ length ks
 all_above r lo [] s l = refl
 all_above r lo (k ∷ ks) s l =
     let first = s.0 in
     rw (lt-ltb r k.revision (omega (arith, first, l))) (ap suc (all_above r k.revision ks s.1 (omega (arith, first, l))))
 
-above_first : (b : Bool) (n r lo : ℕ) (k : Kept) (ks : List Kept) → nat_lt r k.revision ≡ b → IsRising lo (k ∷ ks) → length (above r (k ∷ ks)) + suc n ≤ suc (length ks)
+above_first : (b : Bool) (n r lo : ℕ) (k : Change) (ks : List Change) → nat_lt r k.revision ≡ b → IsRising lo (k ∷ ks) → length (above r (k ∷ ks)) + suc n ≤ suc (length ks)
     → (k.revision ≤ r) × (length (above r ks) + n ≤ length ks)
 above_first true n r lo k ks is s l =
     let below = ltb-true r k.revision is in
@@ -55,7 +55,7 @@ above_first false n r lo k ks is s l =
     (ltb-false r k.revision is, omega (arith, same, l))
 
 -- where there is room for all that is above r, what there is no room for is not above r
-low_enough : (n r lo : ℕ) (ks : List Kept) → IsRising lo ks → lo ≤ r → length (above r ks) + n ≤ length ks → last_revision lo (take n ks) ≤ r
+low_enough : (n r lo : ℕ) (ks : List Change) → IsRising lo ks → lo ≤ r → length (above r ks) + n ≤ length ks → last_revision lo (take n ks) ≤ r
 low_enough zero r lo ks s l room = l
 low_enough (suc n) r lo [] s l room = l
 low_enough (suc n) r lo (k ∷ ks) s l room =
@@ -65,12 +65,12 @@ low_enough (suc n) r lo (k ∷ ks) s l room =
 -- ---- the floor
 
 module _ (size : ℕ) (h : History) (v : View) (r : ℕ) where
-  rises : IsRising 1 (writes_of v.kind h)
+  rises : IsRising 1 (changes_of v.kind h)
   rises = rising v.kind (writes h) [] 1 (omega arith)
 
   is_remembered : (floor v.kind size h ≤ r) × (r ≤ present h) → IsRemembered size h v r
   is_remembered p =
-      let ks = writes_of v.kind h in
+      let ks = changes_of v.kind h in
       let low = p.0 in
       let least = rising_least 1 (all_but size ks) (rising_take (length ks - size) 1 ks rises) in
       let kept : last_revision 1 (take (length ks - size) ks) ≤ r = omega (arith, low) in
@@ -84,7 +84,7 @@ module _ (size : ℕ) (h : History) (v : View) (r : ℕ) where
 
   is_reached : IsRemembered size h v r → (floor v.kind size h ≤ r) × (r ≤ present h)
   is_reached m =
-      let ks = writes_of v.kind h in
+      let ks = changes_of v.kind h in
       let room = m.has_room in
       let most = no_more_above r ks in
       let kept = low_enough (length ks - size) r 1 ks rises m.is_one (omega (arith, room, most)) in

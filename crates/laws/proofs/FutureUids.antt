@@ -7,7 +7,7 @@ use Rattle.laws.specs.UidLaws.{IsUidAbove, FutureUidsAreLater}
 use Rattle.definitions.specs.Uids.{uid_text, uid_revision, cluster_word}
 use Rattle.laws.proofs.SelectorForms.{first, second}
 use Rattle.laws.proofs.SelectorPlain.{and-true}
-use Rattle.definitions.proofs.Uids.{held}
+use Rattle.definitions.proofs.Uids.{existing}
 
 below : (a b : ℕ) → nat_lt a b ≡ true → a < b
 below a b h = grind (arith, nat_tests)
@@ -30,7 +30,7 @@ future_at present r t back above fits is =
     (and-true (bytes_eq t (uid_text cluster_word r)) (nat_lt r (2 ^ 62)) ((bytes_eq-Decides t (uid_text cluster_word r)).1 is) (below_back r (2 ^ 62) fits)) (below_back present r above))
 
 future_from : (present : ℕ) (t : List ℕ) → IsUidAbove present t → is_of_the_future present t ≡ true
-future_from present t u = future_at present u.0 t (subst (λ s. uid_revision s ≡ u.0) (sym u.3) (held cluster_word u.0 u.2)) u.1 u.2 u.3
+future_from present t u = future_at present u.0 t (subst (λ s. uid_revision s ≡ u.0) (sym u.3) (existing cluster_word u.0 u.2)) u.1 u.2 u.3
 
 pub future_uids : FutureUidsAreLater
 future_uids present t = (later_from present t, future_from present t)

@@ -2,7 +2,7 @@
 use Rattle.std.proofs.Common.{◌≡◌, Bool, true, false, cond, Option, Some, None, refl}
 use Rattle.serde_json.specs.Data.{Data}
 use Rattle.definitions.specs.declared.refusals.Field.{Field}
-use Rattle.definitions.specs.Names.{Name}
+use Rattle.definitions.specs.Keys.{Key}
 use Rattle.definitions.specs.Refusals.{Refusal, not_found, invalid}
 use Rattle.definitions.specs.Verbs.{Outcome, refused, refuse_if, refuse_field, or_absent}
 
@@ -11,11 +11,11 @@ module _ (P : Outcome → Type 0) (refusal : (f : Refusal) → P (refused f)) wh
   guard true f o next = refusal f
   guard false f o next = next refl
 
-  pub guard_field : (k : Name) (f : Option Field) (o : Outcome) → (f ≡ None → P o) → P (refuse_field k f o)
+  pub guard_field : (k : Key) (f : Option Field) (o : Outcome) → (f ≡ None → P o) → P (refuse_field k f o)
   guard_field k None o next = next refl
   guard_field k (Some f) o next = refusal (invalid k f)
 
-  pub there : (k : Name) (next : Data → Outcome) (now : Option Data) → ((d : Data) → now ≡ Some d → P (next d)) → P (or_absent k next now)
+  pub there : (k : Key) (next : Data → Outcome) (now : Option Data) → ((d : Data) → now ≡ Some d → P (next d)) → P (or_absent k next now)
   there k next None each = refusal (not_found k)
   there k next (Some d) each = each d refl
 

@@ -5,13 +5,13 @@ use Rattle.std.specs.Result.{result_map_both}
 use Rattle.std.proofs.lemmas.Bool.{le-ltb, ltb-false}
 use Rattle.definitions.specs.History.{History, View, Members, present, viewed, list}
 use Rattle.definitions.specs.Refusals.{Refusal}
-use Rattle.server_state.specs.Recorded.{list_kept, since_kept}
+use Rattle.server_state.specs.Recorded.{recorded_list, recorded_since}
 use Rattle.definitions.specs.Windows.{list_within, since}
 use Rattle.definitions.specs.declared.versions.At.{At}
 use Rattle.definitions.specs.declared.versions.At.TheVariants.{Present, NotOlder, Exact}
 use Rattle.definitions.specs.Versions.{listed_as, once_present, listed_at, watched, watched_from}
 use Rattle.definitions.specs.Lists.{list_answer}
-use Rattle.server_state.specs.Servers.{Server, window_of, watch_by, Holds}
+use Rattle.server_state.specs.Servers.{Server, window_of, watch_by, IsServerAfter}
 use Rattle.definitions.specs.WatchReplies.{told_lines, lines_by}
 use Rattle.definitions.specs.Streams.{added_lines}
 use Rattle.laws.specs.ServerLaws.{ServersList, ServersWatch, ServersAnswerLists, ServersShow, ListsAreServed}
@@ -24,16 +24,16 @@ earlier_same (Exact r) now ms f g same = ap (result_map_both (listed_as r) (λ e
 
 pub lists_held : ServersList
 lists_held size s h v at is =
-    let held = is.1 v.kind in
-    ap (λ z. listed_at z.revision (viewed v z.members) (list_kept (window_of v.kind s) z.revision (viewed v z.members) v) at) is.0
-    ∙ earlier_same at (present h) (list h v (present h)) (list_kept (window_of v.kind s) (present h) (list h v (present h)) v) (list_within size h v)
-    (λ r. list_undone (window_of v.kind s) h v r held.2 (sym held.0) ∙ ap (λ n. list_within n h v r) held.1)
+    let existing = is.1 v.kind in
+    ap (λ z. listed_at z.revision (viewed v z.members) (recorded_list (window_of v.kind s) z.revision (viewed v z.members) v) at) is.0
+    ∙ earlier_same at (present h) (list h v (present h)) (recorded_list (window_of v.kind s) (present h) (list h v (present h)) v) (list_within size h v)
+    (λ r. list_undone (window_of v.kind s) h v r existing.2 (sym existing.0) ∙ ap (λ n. list_within n h v r) existing.1)
 
 pub watches_held : ServersWatch
 watches_held size s h v a n is =
-    let held = is.1 v.kind in
-    ap (λ z. result_map_both (watched z.revision a n) (λ f. f) (since_kept (window_of v.kind s) z.revision v a (n + 1))) is.0
-    ∙ ap (result_map_both (watched (present h) a n) (λ f. f)) (watch_served (window_of v.kind s) h v a (n + 1) held.2 (sym held.0) ∙ ap (λ k. since k h v a (n + 1)) held.1)
+    let existing = is.1 v.kind in
+    ap (λ z. result_map_both (watched z.revision a n) (λ f. f) (recorded_since (window_of v.kind s) z.revision v a (n + 1))) is.0
+    ∙ ap (result_map_both (watched (present h) a n) (λ f. f)) (watch_served (window_of v.kind s) h v a (n + 1) existing.2 (sym existing.0) ∙ ap (λ k. since k h v a (n + 1)) existing.1)
 
 -- ---- where lists are answered
 
@@ -58,7 +58,7 @@ pub pages_held : ServersAnswerLists
 pages_held size s h v o is = ap (list_answer v o) (lists_held size s h v o.at is)
 
 -- by whether the watch begins with what is there
-shown_by : (size : ℕ) (s : Server) (h : History) (v : View) (bookmarks : Bool) (from : Option ℕ) → Holds size s h
+shown_by : (size : ℕ) (s : Server) (h : History) (v : View) (bookmarks : Bool) (from : Option ℕ) → IsServerAfter size s h
     → lines_by (viewed v s.snapshot.members) (λ a. watch_by s v a s.snapshot.revision) bookmarks from ≡ lines_by (list h v (present h)) (λ a. watched_from size h v a (present h)) bookmarks from
 shown_by size s h v bookmarks None is = ap (λ z. Ok (added_lines (viewed v z.members))) is.0
 shown_by size s h v bookmarks (Some a) is =

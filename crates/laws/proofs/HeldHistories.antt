@@ -11,9 +11,9 @@ use Rattle.laws.specs.Happening.{CanHappen}
 use Rattle.definitions.specs.Refusals.{too_new}
 use Rattle.definitions.specs.Verbs.{accept_at, accept, write_of, with_write}
 use Rattle.server_state.specs.Snapshots.{Snapshot, snapshot, written}
-use Rattle.definitions.specs.Windows.{Kept, is_of, kept_of}
+use Rattle.definitions.specs.Windows.{Change, is_of, change_of}
 use Rattle.server_state.specs.Recorded.{Window, recorded, compacted_to}
-use Rattle.server_state.specs.Servers.{Server, opened_server, window_of, with_window, kept_at, after_write, after_writing, after_compaction, after_entries, IsWindow, Holds}
+use Rattle.server_state.specs.Servers.{Server, opened_server, window_of, with_window, change_at, after_write, after_writing, after_compaction, after_entries, IsWindow, IsServerAfter}
 use Rattle.laws.specs.ServerLaws.{ServersOpen, ServersWrite, ServersFollow, HoldOrRefuse, ServersCompact, CompactionsHappen, ServersAccept}
 use Rattle.laws.proofs.Compacted.{snapshot-compaction, follows_compaction}
 use Rattle.laws.proofs.Past.{writes-append, whole}
@@ -40,10 +40,10 @@ snapshot_written h w =
     (ap (λ ms. after ms w) (members_now h) ∙ sym (after_all-last [] (writes h) w) ∙ ap (after_all []) (sym all) ∙ sym (members_now (h ++ write w ∷ [])))
     (ap (λ n. n + 1) (sym (length-append (writes h) (w ∷ []))) ∙ ap (λ ws. length ws + 1) (sym all))
 
-abbrev kept_with : Write → ℕ → Option Data → Kept
+abbrev kept_with : Write → ℕ → Option Data → Change
 kept_with w r o = record { revision = r; key = w.key; old = o; new = w.put }
 
-kept_now : (h : History) (w : Write) → kept_of (writes h) w ≡ kept_at (snapshot h) w
+kept_now : (h : History) (w : Write) → change_of (writes h) w ≡ change_at (snapshot h) w
 kept_now h w =
     ap₂ (kept_with w) (omega arith)
     (sym (found-after_all w.key [] (writes h) tt) ∙ ap (found w.key) (sym (members_now h)))
@@ -103,43 +103,43 @@ window_opened size Deployment = (refl, refl, follows_new Deployment size)
 pub opened_holds : ServersOpen
 opened_holds size = (refl, window_opened size)
 
-recorded_is : (b : Bool) (size : ℕ) (s : Server) (h : History) (w : Write) (k : Kind) → Holds size s h → is_of k w.key ≡ b → IsWindow size k (h ++ write w ∷ []) (window_of k (after_write s w))
+recorded_is : (b : Bool) (size : ℕ) (s : Server) (h : History) (w : Write) (k : Kind) → IsServerAfter size s h → is_of k w.key ≡ b → IsWindow size k (h ++ write w ∷ []) (window_of k (after_write s w))
 recorded_is true size s h w k is of =
     let same : k ≡ w.key.kind = same_kind k w.key.kind (rw of refl) in
-    let held = is.1 k in
-    let after : window_of k (after_write s w) ≡ recorded (window_of k s) (kept_of (writes h) w) =
-    ap (λ j. window_of k (with_window j (recorded (window_of j s) (kept_at s.snapshot w)) (record s { snapshot = written s.snapshot w }))) (sym same)
-    ∙ window_set k (recorded (window_of k s) (kept_at s.snapshot w)) (record s { snapshot = written s.snapshot w })
-    ∙ ap (recorded (window_of k s)) (ap (λ z. kept_at z w) is.0 ∙ sym (kept_now h w)) in
+    let existing = is.1 k in
+    let after : window_of k (after_write s w) ≡ recorded (window_of k s) (change_of (writes h) w) =
+    ap (λ j. window_of k (with_window j (recorded (window_of j s) (change_at s.snapshot w)) (record s { snapshot = written s.snapshot w }))) (sym same)
+    ∙ window_set k (recorded (window_of k s) (change_at s.snapshot w)) (record s { snapshot = written s.snapshot w })
+    ∙ ap (recorded (window_of k s)) (ap (λ z. change_at z w) is.0 ∙ sym (kept_now h w)) in
     subst (IsWindow size k (h ++ write w ∷ [])) (sym after)
-    (held.0, held.1, follows_recorded (window_of k s) h w held.2 (ap (λ j. is_of j w.key) held.0 ∙ of))
+    (existing.0, existing.1, follows_recorded (window_of k s) h w existing.2 (ap (λ j. is_of j w.key) existing.0 ∙ of))
 recorded_is false size s h w k is of =
-    let held = is.1 k in
+    let existing = is.1 k in
     let after : window_of k (after_write s w) ≡ window_of k s =
-    window_left k w.key.kind (recorded (window_of w.key.kind s) (kept_at s.snapshot w)) (record s { snapshot = written s.snapshot w }) of
+    window_left k w.key.kind (recorded (window_of w.key.kind s) (change_at s.snapshot w)) (record s { snapshot = written s.snapshot w }) of
     ∙ window_as_before k (written s.snapshot w) s in
-    subst (IsWindow size k (h ++ write w ∷ [])) (sym after) (held.0, held.1, follows_still (window_of k s) h w held.2 (ap (λ j. is_of j w.key) held.0 ∙ of))
+    subst (IsWindow size k (h ++ write w ∷ [])) (sym after) (existing.0, existing.1, follows_still (window_of k s) h w existing.2 (ap (λ j. is_of j w.key) existing.0 ∙ of))
 
 pub written_holds : ServersWrite
 written_holds size s h w is = (
-  snapshot_kept w.key.kind (recorded (window_of w.key.kind s) (kept_at s.snapshot w)) (record s { snapshot = written s.snapshot w })
+  snapshot_kept w.key.kind (recorded (window_of w.key.kind s) (change_at s.snapshot w)) (record s { snapshot = written s.snapshot w })
       ∙ ap (λ z. written z w) is.0 ∙ snapshot_written h w,
   λ k. recorded_is (is_of k w.key) size s h w k is refl,
 )
 
-compacted_holds : (size : ℕ) (s : Server) (h : History) (r : ℕ) → Holds size s h → Holds size (after_compaction s r) (h ++ compaction r ∷ [])
+compacted_holds : (size : ℕ) (s : Server) (h : History) (r : ℕ) → IsServerAfter size s h → IsServerAfter size (after_compaction s r) (h ++ compaction r ∷ [])
 compacted_holds size s h r is =
     (is.0 ∙ sym (snapshot-compaction h r), λ k. subst (IsWindow size k (h ++ compaction r ∷ [])) (sym (window_compacted k s r)) ((is.1 k).0, (is.1 k).1, follows_compacted (window_of k s) h r (is.1 k).2))
 
 pub entries_hold : ServersFollow
-entries_hold size s h [] is = subst (Holds size s) (sym (append-nil h)) is
+entries_hold size s h [] is = subst (IsServerAfter size s) (sym (append-nil h)) is
 entries_hold size s h (write w ∷ more) is =
-    subst (Holds size (after_entries (after_write s w) more)) (append_assoc h (write w ∷ []) more) (entries_hold size (after_write s w) (h ++ write w ∷ []) more (written_holds size s h w is))
+    subst (IsServerAfter size (after_entries (after_write s w) more)) (append_assoc h (write w ∷ []) more) (entries_hold size (after_write s w) (h ++ write w ∷ []) more (written_holds size s h w is))
 entries_hold size s h (compaction r ∷ more) is =
-    subst (Holds size (after_entries (after_compaction s r) more)) (append_assoc h (compaction r ∷ []) more)
+    subst (IsServerAfter size (after_entries (after_compaction s r) more)) (append_assoc h (compaction r ∷ []) more)
     (entries_hold size (after_compaction s r) (h ++ compaction r ∷ []) more (compacted_holds size s h r is))
 
-hold_or_refuse : (b : Bool) (size now r : ℕ) (s : Server) (h : History) → Holds size s h
+hold_or_refuse : (b : Bool) (size now r : ℕ) (s : Server) (h : History) → IsServerAfter size s h
     → HoldOrRefuse size (cond b (Err (too_new r now)) (Ok s)) (cond b (Err (too_new r now)) (Ok h))
 hold_or_refuse true size now r s h is = refl
 hold_or_refuse false size now r s h is = is
@@ -159,7 +159,7 @@ compaction_happens h more r is f =
 
 -- ---- requests
 
-writing_holds : (o : Option Write) (size : ℕ) (s : Server) (h : History) → Holds size s h → Holds size (after_writing s o) (with_write h o)
+writing_holds : (o : Option Write) (size : ℕ) (s : Server) (h : History) → IsServerAfter size s h → IsServerAfter size (after_writing s o) (with_write h o)
 writing_holds None size s h is = is
 writing_holds (Some w) size s h is = written_holds size s h w is
 

@@ -89,9 +89,9 @@ moved (Some t) a b is h = is ∙ h
 
 -- ---- of what stands in its place
 
-module _ (k : Kind) (held o : Data) where
+module _ (k : Kind) (existing o : Data) where
   abbrev from : Members
-  from = metadata_of held
+  from = metadata_of existing
 
   abbrev m1 : Members
   m1 = as_held (codes "namespace") (get_member (codes "namespace") from) (metadata_of o)
@@ -110,62 +110,62 @@ module _ (k : Kind) (held o : Data) where
 
   -- what stands after the time of creation leaves a text as it is
   after_creation : (q : List ℕ) → bytes_eq q (codes "resourceVersion") ≡ false → bytes_eq q (codes "generation") ≡ false → bytes_eq q (codes "deletionTimestamp") ≡ false
-      → metadata_text q (in_place k held o) ≡ text_in q m3
+      → metadata_text q (in_place k existing o) ≡ text_in q m3
   after_creation q a b c =
-      metadata_text-with q (keeping kept from (metadata_of o)) (object (keeping (kept_of k) (members_of held) (members_of o)))
+      metadata_text-with q (keeping kept from (metadata_of o)) (object (keeping (kept_of k) (members_of existing) (members_of o)))
       ∙ text-as_held_other q (codes "resourceVersion") (get_member (codes "resourceVersion") from) m5 a
       ∙ text-as_held_other q (codes "generation") (get_member (codes "generation") from) m4 b
       ∙ text-as_held_other q (codes "deletionTimestamp") (get_member (codes "deletionTimestamp") from) m3 c
 
-  pub name-in_place : name (in_place k held o) ≡ name o
+  pub name-in_place : name (in_place k existing o) ≡ name o
   name-in_place =
       after_creation (codes "name") refl refl refl
       ∙ text-as_held_other (codes "name") (codes "creationTimestamp") (get_member (codes "creationTimestamp") from) m2 refl
       ∙ text-as_held_other (codes "name") (codes "uid") (get_member (codes "uid") from) m1 refl
       ∙ text-as_held_other (codes "name") (codes "namespace") (get_member (codes "namespace") from) (metadata_of o) refl
 
-  pub namespace-in_place : IfSome (namespace held) (λ t. namespace (in_place k held o) ≡ Some t)
+  pub namespace-in_place : IfSome (namespace existing) (λ t. namespace (in_place k existing o) ≡ Some t)
   namespace-in_place =
-      moved (namespace held) (namespace (in_place k held o)) (text_in (codes "namespace") m1)
+      moved (namespace existing) (namespace (in_place k existing o)) (text_in (codes "namespace") m1)
       (after_creation (codes "namespace") refl refl refl
       ∙ text-as_held_other (codes "namespace") (codes "creationTimestamp") (get_member (codes "creationTimestamp") from) m2 refl
       ∙ text-as_held_other (codes "namespace") (codes "uid") (get_member (codes "uid") from) m1 refl)
       (held_text (codes "namespace") (get_member (codes "namespace") from) (metadata_of o))
 
-  pub uid-in_place : IfSome (uid held) (λ t. uid (in_place k held o) ≡ Some t)
+  pub uid-in_place : IfSome (uid existing) (λ t. uid (in_place k existing o) ≡ Some t)
   uid-in_place =
-      moved (uid held) (uid (in_place k held o)) (text_in (codes "uid") m2)
+      moved (uid existing) (uid (in_place k existing o)) (text_in (codes "uid") m2)
       (after_creation (codes "uid") refl refl refl ∙ text-as_held_other (codes "uid") (codes "creationTimestamp") (get_member (codes "creationTimestamp") from) m2 refl)
       (held_text (codes "uid") (get_member (codes "uid") from) m1)
 
-  pub creation-in_place : IfSome (metadata_text (codes "creationTimestamp") held) (λ t. metadata_text (codes "creationTimestamp") (in_place k held o) ≡ Some t)
+  pub creation-in_place : IfSome (metadata_text (codes "creationTimestamp") existing) (λ t. metadata_text (codes "creationTimestamp") (in_place k existing o) ≡ Some t)
   creation-in_place =
-      moved (metadata_text (codes "creationTimestamp") held) (metadata_text (codes "creationTimestamp") (in_place k held o)) (text_in (codes "creationTimestamp") m3)
+      moved (metadata_text (codes "creationTimestamp") existing) (metadata_text (codes "creationTimestamp") (in_place k existing o)) (text_in (codes "creationTimestamp") m3)
       (after_creation (codes "creationTimestamp") refl refl refl) (held_text (codes "creationTimestamp") (get_member (codes "creationTimestamp") from) m2)
 
-  pub deletion-in_place : IfSome (metadata_text (codes "deletionTimestamp") held) (λ t. metadata_text (codes "deletionTimestamp") (in_place k held o) ≡ Some t)
+  pub deletion-in_place : IfSome (metadata_text (codes "deletionTimestamp") existing) (λ t. metadata_text (codes "deletionTimestamp") (in_place k existing o) ≡ Some t)
   deletion-in_place =
-      moved (metadata_text (codes "deletionTimestamp") held) (metadata_text (codes "deletionTimestamp") (in_place k held o)) (text_in (codes "deletionTimestamp") m4)
-      (metadata_text-with (codes "deletionTimestamp") (keeping kept from (metadata_of o)) (object (keeping (kept_of k) (members_of held) (members_of o)))
+      moved (metadata_text (codes "deletionTimestamp") existing) (metadata_text (codes "deletionTimestamp") (in_place k existing o)) (text_in (codes "deletionTimestamp") m4)
+      (metadata_text-with (codes "deletionTimestamp") (keeping kept from (metadata_of o)) (object (keeping (kept_of k) (members_of existing) (members_of o)))
       ∙ text-as_held_other (codes "deletionTimestamp") (codes "resourceVersion") (get_member (codes "resourceVersion") from) m5 refl
       ∙ text-as_held_other (codes "deletionTimestamp") (codes "generation") (get_member (codes "generation") from) m4 refl)
       (held_text (codes "deletionTimestamp") (get_member (codes "deletionTimestamp") from) m3)
 
   -- what was there as the generation is there after
-  pub generation-in_place : is_some (metadata (codes "generation") held) ≡ true → metadata (codes "generation") (in_place k held o) ≡ metadata (codes "generation") held
+  pub generation-in_place : is_some (metadata (codes "generation") existing) ≡ true → metadata (codes "generation") (in_place k existing o) ≡ metadata (codes "generation") existing
   generation-in_place there =
-      ap (get_member (codes "generation")) (metadata_of-with (keeping kept from (metadata_of o)) (object (keeping (kept_of k) (members_of held) (members_of o))))
+      ap (get_member (codes "generation")) (metadata_of-with (keeping kept from (metadata_of o)) (object (keeping (kept_of k) (members_of existing) (members_of o))))
       ∙ member-as_held_other (codes "generation") (codes "resourceVersion") (get_member (codes "resourceVersion") from) m5 refl ∙ held_member (codes "generation") (get_member (codes "generation") from) m4 there
 
 -- the next generation leaves a text as it is
-pub text-with_next_generation : (q : List ℕ) (is_new : Bool) (held : Data) (meta : Members) → bytes_eq q (codes "generation") ≡ false
-    → text_in q (with_next_generation is_new held meta) ≡ text_in q meta
-text-with_next_generation q true held meta other = text_in-put_other q (codes "generation") (whole (next_generation (generation held))) meta other
-text-with_next_generation q false held meta other = refl
+pub text-with_next_generation : (q : List ℕ) (is_new : Bool) (existing : Data) (meta : Members) → bytes_eq q (codes "generation") ≡ false
+    → text_in q (with_next_generation is_new existing meta) ≡ text_in q meta
+text-with_next_generation q true existing meta other = text_in-put_other q (codes "generation") (whole (next_generation (generation existing))) meta other
+text-with_next_generation q false existing meta other = refl
 
 -- a text that an update leaves as its object has it
-pub text-updated : (k : Kind) (q : List ℕ) (r : ℕ) (held d : Data) → bytes_eq q (codes "resourceVersion") ≡ false → bytes_eq q (codes "generation") ≡ false
-    → metadata_text q (updated k r held d) ≡ metadata_text q d
-text-updated k q r held d a b =
-    text-at_revision q r (with_next_generation (is_new_generation k held d) held (metadata_of d)) d a
-    ∙ text-with_next_generation q (is_new_generation k held d) held (metadata_of d) b
+pub text-updated : (k : Kind) (q : List ℕ) (r : ℕ) (existing d : Data) → bytes_eq q (codes "resourceVersion") ≡ false → bytes_eq q (codes "generation") ≡ false
+    → metadata_text q (updated k r existing d) ≡ metadata_text q d
+text-updated k q r existing d a b =
+    text-at_revision q r (with_next_generation (is_new_generation k existing d) existing (metadata_of d)) d a
+    ∙ text-with_next_generation q (is_new_generation k existing d) existing (metadata_of d) b

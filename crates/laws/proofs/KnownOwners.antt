@@ -8,19 +8,19 @@ use Rattle.serde_json.specs.Find.{as_array, get_member}
 use Rattle.serde_json.proofs.Views.{get_member-put_other}
 use Rattle.definitions.specs.declared.kinds.Kind.{Kind}
 use Rattle.definitions.specs.Checks.{finalizers, generate_name, is_owner, is_of_the_future, is_known_uid, is_not_empty, are_owners_valid, controllers, checks, update_fault, adds_no_finalizer, is_selector_kept}
-use Rattle.definitions.specs.Deletion.{left_by, marked, with_deletion}
+use Rattle.definitions.specs.Deletion.{left_by, being_deleted, with_deletion}
 use Rattle.definitions.specs.GeneratedNames.{name_from}
 use Rattle.definitions.specs.History.{History, found, members, present, state, Write, write, writes}
 use Rattle.definitions.specs.Kinds.{has_generation}
 use Rattle.laws.specs.HistoryLaws.{OfStored}
 use Rattle.definitions.specs.Metadata.{Owner, owners, owners_in, metadata, metadata_of, name, at_revision, is_being_deleted}
-use Rattle.definitions.specs.Names.{Name, is_named}
+use Rattle.definitions.specs.Keys.{Key, is_same_key}
 use Rattle.definitions.specs.NewObjects.{created, with_first_status}
 use Rattle.definitions.specs.Reading.{reading}
-use Rattle.definitions.specs.Replacements.{in_place, updated, with_said_status, with_next_generation}
+use Rattle.definitions.specs.Replacements.{in_place, updated, with_status_in, with_next_generation}
 use Rattle.definitions.specs.SelectorValues.{passes}
 use Rattle.definitions.specs.Uids.{uid_text, uid_revision, cluster_word}
-use Rattle.definitions.specs.Verbs.{Outcome, accept, shown, said, new_name, is_free, with_write, write_of}
+use Rattle.definitions.specs.Verbs.{Outcome, accept, shown, object_in, new_name, is_free, with_write, write_of}
 use Rattle.definitions.specs.ObjectRequests.{Request, get_object, list_objects, create_object, update_object, update_status, patch_object, delete_object}
 use Rattle.laws.proofs.Cases.{of_create, of_delete, of_patch, of_status, of_update}
 use Rattle.laws.proofs.CheckLaws.{all_met, stored_pass}
@@ -41,10 +41,10 @@ abbrev pub Known : ℕ → Data → Type 0
 Known n d = Each (IsKnown n) (owners d)
 
 abbrev pub AllKnown : List Write → Type 0
-AllKnown ws = (r : ℕ) (k : Name) (d : Data) → r ≤ now ws → there ws r k ≡ Some d → Known (r - 1) d
+AllKnown ws = (r : ℕ) (k : Key) (d : Data) → r ≤ now ws → there ws r k ≡ Some d → Known (r - 1) d
 
 abbrev KnownNow : History → Type 0
-KnownNow h = (k : Name) (d : Data) → state h (present h) k ≡ Some d → Known (present h) d
+KnownNow h = (k : Key) (d : Data) → state h (present h) k ≡ Some d → Known (present h) d
 
 -- ---- later
 
@@ -106,31 +106,31 @@ owners_from o = owners_in (unwrap_or (option_and_then as_array o) no_items)
 same_known : (n : ℕ) (d was : Data) → metadata references d ≡ metadata references was → Known n was → Known n d
 same_known n d was is h = subst (Each (IsKnown n)) (ap owners_from (sym is)) h
 
-deletion_keeps : (b : Bool) (k : Kind) (moment : List ℕ) (held : Data)
-    → get_member references (cond b (metadata_of held) (put (codes "deletionTimestamp") (string moment) (with_next_generation (has_generation k) held (metadata_of held)))) ≡ metadata references held
-deletion_keeps true k moment held = refl
-deletion_keeps false k moment held =
-    get_member-put_other references (codes "deletionTimestamp") (string moment) (with_next_generation (has_generation k) held (metadata_of held)) (apart references (codes "deletionTimestamp") refl)
-    ∙ member-with_next_generation references (has_generation k) held (metadata_of held) refl
+deletion_keeps : (b : Bool) (k : Kind) (moment : List ℕ) (existing : Data)
+    → get_member references (cond b (metadata_of existing) (put (codes "deletionTimestamp") (string moment) (with_next_generation (has_generation k) existing (metadata_of existing)))) ≡ metadata references existing
+deletion_keeps true k moment existing = refl
+deletion_keeps false k moment existing =
+    get_member-put_other references (codes "deletionTimestamp") (string moment) (with_next_generation (has_generation k) existing (metadata_of existing)) (apart references (codes "deletionTimestamp") refl)
+    ∙ member-with_next_generation references (has_generation k) existing (metadata_of existing) refl
 
-marked_keeps : (k : Kind) (r : ℕ) (moment : List ℕ) (left : Items) (held : Data)
-    → metadata references (at_revision r (metadata_of (marked k moment left held)) (marked k moment left held)) ≡ metadata references held
-marked_keeps k r moment left held =
-    let d = marked k moment left held in
-    let meta = put (codes "finalizers") (array left) (with_deletion k moment held) in
-    member-at_revision references r (metadata_of d) d refl ∙ ap (get_member references) (metadata_of-with meta held)
-    ∙ get_member-put_other references (codes "finalizers") (array left) (with_deletion k moment held) (apart references (codes "finalizers") refl)
-    ∙ deletion_keeps (is_being_deleted held) k moment held
+marked_keeps : (k : Kind) (r : ℕ) (moment : List ℕ) (left : Items) (existing : Data)
+    → metadata references (at_revision r (metadata_of (being_deleted k moment left existing)) (being_deleted k moment left existing)) ≡ metadata references existing
+marked_keeps k r moment left existing =
+    let d = being_deleted k moment left existing in
+    let meta = put (codes "finalizers") (array left) (with_deletion k moment existing) in
+    member-at_revision references r (metadata_of d) d refl ∙ ap (get_member references) (metadata_of-with meta existing)
+    ∙ get_member-put_other references (codes "finalizers") (array left) (with_deletion k moment existing) (apart references (codes "finalizers") refl)
+    ∙ deletion_keeps (is_being_deleted existing) k moment existing
 
 name_is : (f : List ℕ → Bool) (x given : Option (List ℕ)) (r : ℕ) → IfSome x (λ n. n ≡ name_from f x given r)
 name_is f None given r = tt
 name_is f (Some n) given r = refl
 
-update_known : (k : Name) (r : ℕ) (held o : Data) → update_fault k.kind k.name r held (in_place k.kind held o) ≡ None → Known r (updated k.kind (r + 1) held (in_place k.kind held o))
-update_known k r held o valid =
-    let d = in_place k.kind held o in
-    let met = all_met (checks k.kind k.name r (adds_no_finalizer held d) (is_selector_kept held d) d) valid in
-    same_known r (updated k.kind (r + 1) held d) d (member-updated references k.kind (r + 1) held d refl refl) (valid_known r d met.1.1.1.1.0)
+update_known : (k : Key) (r : ℕ) (existing o : Data) → update_fault k.kind k.name r existing (in_place k.kind existing o) ≡ None → Known r (updated k.kind (r + 1) existing (in_place k.kind existing o))
+update_known k r existing o valid =
+    let d = in_place k.kind existing o in
+    let met = all_met (checks k.kind k.name r (adds_no_finalizer existing d) (is_selector_kept existing d) d) valid in
+    same_known r (updated k.kind (r + 1) existing d) d (member-updated references k.kind (r + 1) existing d refl refl) (valid_known r d met.1.1.1.1.0)
 
 module _ (h : History) (moment : List ℕ) (all : KnownNow h) where
   abbrev P : Outcome → Type 0
@@ -142,7 +142,7 @@ module _ (h : History) (moment : List ℕ) (all : KnownNow h) where
   known_by (create_object kind ns d) =
       let ms = members h (present h) in
       let r = present h in
-      of_create P (λ f. tt) kind ns (said kind d) ms r moment
+      of_create P (λ f. tt) kind ns (object_in kind d) ms r moment
       (λ o read valid fits free room.
       let k = new_name kind ns o ms r in
       let made = created kind (r + 1) ns k.name moment o in
@@ -151,21 +151,21 @@ module _ (h : History) (moment : List ℕ) (all : KnownNow h) where
       same_known r made first (ap (get_member references) (sym (metadata_of-first kind made)))
       (valid_known r first (all_met (checks kind k.name r true true first) passed).1.1.1.1.0))
   known_by (update_object k d) =
-      of_update P (λ f. tt) (λ d. tt) k (said k.kind d) (members h (present h)) (present h) (λ o held read at equal valid fits low. update_known k (present h) held o valid) (λ o held read at equal free low. tt)
+      of_update P (λ f. tt) (λ d. tt) k (object_in k.kind d) (members h (present h)) (present h) (λ o existing read at equal valid fits low. update_known k (present h) existing o valid) (λ o existing read at equal free low. tt)
   known_by (update_status k d) =
       of_status P (λ f. tt) (λ d. tt) k (reading k.kind d) (members h (present h)) (present h)
-      (λ o held read at equal fits low.
-      let made = with_said_status k.kind held o in
-      same_known (present h) (at_revision (present h + 1) (metadata_of made) made) held (member-restated references k.kind (present h + 1) held o refl) (all k held (sym (found-state h k) ∙ at)))
+      (λ o existing read at equal fits low.
+      let made = with_status_in k.kind existing o in
+      same_known (present h) (at_revision (present h + 1) (metadata_of made) made) existing (member-restated references k.kind (present h + 1) existing o refl) (all k existing (sym (found-state h k) ∙ at)))
   known_by (patch_object k d) =
-      of_patch P (λ f. tt) (λ d. tt) k d (members h (present h)) (present h) (λ o held read at equal valid fits low. update_known k (present h) held o valid) (λ o held read at equal free low. tt)
+      of_patch P (λ f. tt) (λ d. tt) k d (members h (present h)) (present h) (λ o existing read at equal valid fits low. update_known k (present h) existing o valid) (λ o existing read at equal free low. tt)
   known_by (delete_object k o) =
       of_delete P (λ f. tt) (λ code body. tt) k o (members h (present h)) (present h) moment
-      (λ held at same_uid equal low.
-      let left = left_by o.policy (finalizers held) in
-      same_known (present h) (at_revision (present h + 1) (metadata_of (marked k.kind moment left held)) (marked k.kind moment left held)) held (marked_keeps k.kind (present h + 1) moment left held)
-      (all k held (sym (found-state h k) ∙ at)))
-      (λ held at same_uid equal none low. tt)
+      (λ existing at same_uid equal low.
+      let left = left_by o.policy (finalizers existing) in
+      same_known (present h) (at_revision (present h + 1) (metadata_of (being_deleted k.kind moment left existing)) (being_deleted k.kind moment left existing)) existing (marked_keeps k.kind (present h + 1) moment left existing)
+      (all k existing (sym (found-state h k) ∙ at)))
+      (λ existing at same_uid equal none low. tt)
 
 -- ---- each write
 
@@ -185,7 +185,7 @@ known_write ws w all c r k d le at = by (nat_le r (now ws)) refl
         let far : now ws < r = leb-false r (now ws) t in
         let long : length (ws ++ w ∷ []) ≡ length ws + 1 = length-append ws (w ∷ []) in
         let is : r ≡ now ws + 1 = omega (arith, far, le, long) in
-        known_at (is_named k w.key) is (sym (there_after ws w r k is) ∙ at)
+        known_at (is_same_key k w.key) is (sym (there_after ws w r k is) ∙ at)
 
 known_outcome : (h : History) (o : Option Write) → IfSome o (λ w. IfSome w.put (Known (present h))) → AllKnown (writes h) → AllKnown (writes (with_write h o))
 known_outcome h None c all = all

@@ -6,7 +6,7 @@ use Rattle.std.specs.Map.{lookup, remove_entry}
 use Rattle.std.specs.BTreeMap.{insert_entry, is_at}
 use Rattle.serde_json.specs.Data.{Data}
 use Rattle.laws.specs.HistoryLaws.{BodiesFit, WritesHaveRoom}
-use Rattle.definitions.specs.Names.{Name, name_cmp}
+use Rattle.definitions.specs.Keys.{Key, key_cmp}
 use Rattle.definitions.specs.History.{History, Write, write, writes, up_to, Members, after, after_all, put_or_remove, members, found, present}
 use Rattle.definitions.specs.declared.methods.Method.{Method}
 use Rattle.definitions.specs.declared.refusals.Part.{Part}
@@ -89,13 +89,13 @@ members-write h w = now-write h w
 abbrev pub Within : History → Type 0
 Within h = (length (members h (present h)) ≤ 65536) × (present h ≤ 9007199254740991)
 
-no_more_at : (k : Name) (e : Name × Data) (es : Members) (b : Bool) → length (remove_entry (is_at (name_cmp k)) es) ≤ length es → length (cond b es (e ∷ remove_entry (is_at (name_cmp k)) es)) ≤ suc (length es)
+no_more_at : (k : Key) (e : Key × Data) (es : Members) (b : Bool) → length (remove_entry (is_at (key_cmp k)) es) ≤ length es → length (cond b es (e ∷ remove_entry (is_at (key_cmp k)) es)) ≤ suc (length es)
 no_more_at k e es true h = omega arith
 no_more_at k e es false h = omega (arith, h)
 
-no_more : (k : Name) (es : Members) → length (remove_entry (is_at (name_cmp k)) es) ≤ length es
+no_more : (k : Key) (es : Members) → length (remove_entry (is_at (key_cmp k)) es) ≤ length es
 no_more k [] = omega arith
-no_more k (e ∷ es) = no_more_at k e es (is_at (name_cmp k) e.0) (no_more k es)
+no_more k (e ∷ es) = no_more_at k e es (is_at (key_cmp k) e.0) (no_more k es)
 
 room_left : (n : ℕ) → (nat_le 65536 n && true) ≡ false → n + 1 ≤ 65536
 room_left n h = room_at (nat_le 65536 n) refl h
@@ -104,19 +104,19 @@ room_left n h = room_at (nat_le 65536 n) refl h
     room_at true is h = cc
     room_at false is h = grind arith
 
-few_at : (k : Name) (d : Data) (ms : Members) (o : Option Data) → found k ms ≡ o → IsAscending name_cmp ms → length ms ≤ 65536
-    → (nat_le 65536 (length ms) && true && not (is_some o)) ≡ false → length (insert_entry name_cmp ms k d) ≤ 65536
+few_at : (k : Key) (d : Data) (ms : Members) (o : Option Data) → found k ms ≡ o → IsAscending key_cmp ms → length ms ≤ 65536
+    → (nat_le 65536 (length ms) && true && not (is_some o)) ≡ false → length (insert_entry key_cmp ms k d) ≤ 65536
 few_at k d ms None is a few room =
     let left : length ms + 1 ≤ 65536 = room_left (length ms) (sym (and_true (nat_le 65536 (length ms) && true)) ∙ room) in
-    let more : length (insert_entry name_cmp ms k d) ≤ length ms + 1 = one_more name_cmp_total k d ms in
+    let more : length (insert_entry key_cmp ms k d) ≤ length ms + 1 = one_more name_cmp_total k d ms in
     omega (arith, left, more)
   where
     and_true : (b : Bool) → (b && true) ≡ b
     and_true true = refl
     and_true false = refl
-few_at k d ms (Some held) is a few room = subst (λ n. n ≤ 65536) (sym (as_many name_cmp_total k d ms held a is)) few
+few_at k d ms (Some existing) is a few room = subst (λ n. n ≤ 65536) (sym (as_many name_cmp_total k d ms existing a is)) few
 
-few_after : (k : Name) (o : Option Data) (ms : Members) → IsAscending name_cmp ms → length ms ≤ 65536
+few_after : (k : Key) (o : Option Data) (ms : Members) → IsAscending key_cmp ms → length ms ≤ 65536
     → (nat_le 65536 (length ms) && is_some o && not (is_some (found k ms))) ≡ false → length (put_or_remove ms k o) ≤ 65536
 few_after k None ms a few room = let less = no_more k ms in omega (arith, less, few)
 few_after k (Some d) ms a few room = few_at k d ms (found k ms) refl a few room
@@ -154,6 +154,6 @@ room q ms r moment =
     let full = nat_le most_objects (length ms) in
     let last = is_past_greatest (r + 1) in
     of_accept_at (λ o. IfSome (write_of o) (λ w. overflows ms r w ≡ false)) (λ f. tt) (λ code body. tt) q ms r moment
-    (λ kind ns d o read valid fits free left. room_of full last (is_some (found (new_name kind ns o ms r) ms)) left) (λ k o held at valid fits low. held_room (full && true) last (found k ms) held at low)
-    (λ k o held at free low. gone_room full last (not (is_some (found k ms))) low) (λ k o held at fits low. held_room (full && true) last (found k ms) held at low)
-    (λ k o held at low. held_room (full && true) last (found k ms) held at low) (λ k o held at none low. gone_room full last (not (is_some (found k ms))) low)
+    (λ kind ns d o read valid fits free left. room_of full last (is_some (found (new_name kind ns o ms r) ms)) left) (λ k o existing at valid fits low. held_room (full && true) last (found k ms) existing at low)
+    (λ k o existing at free low. gone_room full last (not (is_some (found k ms))) low) (λ k o existing at fits low. held_room (full && true) last (found k ms) existing at low)
+    (λ k o existing at low. held_room (full && true) last (found k ms) existing at low) (λ k o existing at none low. gone_room full last (not (is_some (found k ms))) low)

@@ -5,10 +5,10 @@ use Rattle.std.specs.Result.{result_map_both}
 use Rattle.std.proofs.lemmas.Bool.{ltb-false, le-leb}
 use Rattle.std.proofs.lemmas.List.{drop_all, length-take}
 use Rattle.definitions.specs.declared.frames.FrameKind.TheVariants.{Added}
-use Rattle.definitions.specs.Changes.{Change, changes, changes_after}
+use Rattle.definitions.specs.Events.{Event, events, changes_after}
 use Rattle.definitions.specs.History.{History, View, Members, up_to, present, writes, list}
 use Rattle.laws.specs.LookLaws.{Look, AreLooks, last_history, last_stand, look_lines, LooksAskForAnyNumber, LooksAreOneStream, WatchesBeginWithTheList}
-use Rattle.definitions.specs.Streams.{Line, change, bookmark, initial, initial_end, event_of, Goes, IsStream, play_lines, added_lines}
+use Rattle.definitions.specs.Streams.{Line, event, bookmark, initial, initial_end, frame_of, Goes, IsStream, applied_lines, added_lines}
 use Rattle.definitions.specs.Versions.{watched}
 use Rattle.definitions.specs.WatchReplies.{lines_from}
 use Rattle.laws.specs.WatchLaws.{AreBetween}
@@ -21,11 +21,11 @@ use Rattle.laws.proofs.Streamed.{stream_played, all_put, list_ascending}
 -- ---- two streams in a row
 
 -- a stream may be taken up earlier, where nothing is between
-goes_from : (ls : List Line) (at b c : ℕ) (cs : List Change) → at ≤ b → Goes b c cs ls → Goes at c cs ls
+goes_from : (ls : List Line) (at b c : ℕ) (cs : List Event) → at ≤ b → Goes b c cs ls → Goes at c cs ls
 goes_from [] at b c [] le g = tt
 goes_from [] at b c (d ∷ ds) le g = absurd g
-goes_from (change e ∷ ls) at b c [] le g = absurd g
-goes_from (change e ∷ ls) at b c (d ∷ ds) le g = g
+goes_from (event e ∷ ls) at b c [] le g = absurd g
+goes_from (event e ∷ ls) at b c (d ∷ ds) le g = g
 goes_from (bookmark r ∷ ls) at b c [] le g = let first = g.0 in (omega (arith, le, first), g.1, g.2)
 goes_from (bookmark r ∷ ls) at b c (d ∷ ds) le g = let first = g.0 in (omega (arith, le, first), g.1, g.2, g.3)
 goes_from (initial n d ∷ ls) at b c [] le g = absurd g
@@ -33,11 +33,11 @@ goes_from (initial n d ∷ ls) at b c (e ∷ es) le g = absurd g
 goes_from (initial_end r ∷ ls) at b c [] le g = absurd g
 goes_from (initial_end r ∷ ls) at b c (e ∷ es) le g = absurd g
 
-both_go : (ls ms : List Line) (at b c : ℕ) (cs ds : List Change) → at ≤ b → b ≤ c → AreBetween at b cs → AreBetween b c ds → Goes at b cs ls → Goes b c ds ms → Goes at c (cs ++ ds) (ls ++ ms)
+both_go : (ls ms : List Line) (at b c : ℕ) (cs ds : List Event) → at ≤ b → b ≤ c → AreBetween at b cs → AreBetween b c ds → Goes at b cs ls → Goes b c ds ms → Goes at c (cs ++ ds) (ls ++ ms)
 both_go [] ms at b c [] ds l k p q g n = goes_from ms at b c ds l n
 both_go [] ms at b c (d ∷ cs) ds l k p q g n = absurd g
-both_go (change e ∷ ls) ms at b c [] ds l k p q g n = absurd g
-both_go (change e ∷ ls) ms at b c (d ∷ cs) ds l k p q g n = (g.0, both_go ls ms d.revision b c cs ds p.1 k p.2 q g.1 n)
+both_go (event e ∷ ls) ms at b c [] ds l k p q g n = absurd g
+both_go (event e ∷ ls) ms at b c (d ∷ cs) ds l k p q g n = (g.0, both_go ls ms d.revision b c cs ds p.1 k p.2 q g.1 n)
 both_go (bookmark r ∷ ls) ms at b c [] [] l k p q g n = let last = g.1 in (g.0, omega (arith, last, k), both_go ls ms r b c [] [] g.1 k tt q g.2 n)
 both_go (bookmark r ∷ ls) ms at b c [] (d ∷ ds) l k p q g n =
     let last = g.1 in
@@ -54,10 +54,10 @@ both_go (initial_end r ∷ ls) ms at b c (e ∷ es) ds l k p q g n = absurd g
 streams_join : (h : History) (v : View) (a b c : ℕ) (ls ms : List Line) → a ≤ b → b ≤ c → IsStream h v a b ls → IsStream h v b c ms → IsStream h v a c (ls ++ ms)
 streams_join h v a b c ls ms l k s t =
     subst (λ cs. Goes a c cs (ls ++ ms)) (sym (goes_on h v a b c l k))
-    (both_go ls ms a b c (changes h v a b) (changes h v b c) l k (lie_between h v a b) (lie_between h v b c) s t)
+    (both_go ls ms a b c (events h v a b) (events h v b c) l k (lie_between h v a b) (lie_between h v b c) s t)
 
 -- from a revision to itself there is nothing
-none_at : (h : History) (v : View) (a : ℕ) → changes h v a a ≡ []
+none_at : (h : History) (v : View) (a : ℕ) → events h v a a ≡ []
 none_at h v a = let few = length-take (a - 1) (writes h) in ap (changes_after v (up_to a h)) (drop_all (a - 1) (up_to a h) (omega (arith, few)))
 
 -- ---- looks
@@ -95,16 +95,16 @@ looks_are_one_stream size h v a ls is =
 
 -- ---- any number
 
-few_left : (n : ℕ) (cs : List Change) → length (take n cs) < n → nat_le (length cs) n ≡ true
+few_left : (n : ℕ) (cs : List Event) → length (take n cs) < n → nat_le (length cs) n ≡ true
 few_left n cs few = let all = length-take n cs in le-leb (length cs) n (omega (arith, all, few))
 
-few_stand : (now a n : ℕ) (cs : List Change) → length (take n cs) < n → (watched now a n cs).stands ≡ now
+few_stand : (now a n : ℕ) (cs : List Event) → length (take n cs) < n → (watched now a n cs).stands ≡ now
 few_stand now a n cs few = rw (few_left n cs few) refl
 
-no_more : (n : ℕ) (cs : List Change) → length (take n cs) ≤ n
+no_more : (n : ℕ) (cs : List Event) → length (take n cs) ≤ n
 no_more n cs = let all = length-take n cs in omega (arith, all)
 
-mapped_served : (now a n floor : ℕ) (cs : List Change) (b c : Bool) → nat_lt a floor ≡ b → nat_lt now a ≡ c
+mapped_served : (now a n floor : ℕ) (cs : List Event) (b c : Bool) → nat_lt a floor ≡ b → nat_lt now a ≡ c
     → IsOk (result_map_both (watched now a n) (λ f. f) (within floor now a cs)) → (floor ≤ a) × (a ≤ now)
 mapped_served now a n floor cs true c l m ok = let none = rw l at ok in cc
 mapped_served now a n floor cs false true l m ok = let none = rw (l, m) at ok in cc
@@ -113,12 +113,12 @@ mapped_served now a n floor cs false false l m ok = (ltb-false a floor l, ltb-fa
 pub looks_ask_for_any_number : LooksAskForAnyNumber
 looks_ask_for_any_number size h v a n = (
   (
-    mapped_served (present h) a n (floor v.kind size h) (take (n + 1) (changes h v a (present h))) (nat_lt a (floor v.kind size h)) (nat_lt (present h) a) refl refl,
-    λ p. rw (within_is (floor v.kind size h) (present h) a (take (n + 1) (changes h v a (present h))) p.0 p.1) refl,
+    mapped_served (present h) a n (floor v.kind size h) (take (n + 1) (events h v a (present h))) (nat_lt a (floor v.kind size h)) (nat_lt (present h) a) refl refl,
+    λ p. rw (within_is (floor v.kind size h) (present h) a (take (n + 1) (events h v a (present h))) p.0 p.1) refl,
   ),
   λ w is.
       let given = given_stands size h v a n w is in
-      let cs = changes h v a (present h) in (
+      let cs = events h v a (present h) in (
         subst (λ z. length z.changes ≤ n) given.2 (no_more n cs),
         lines_stream h v a w given.3,
         subst (λ z. length z.changes < n → z.stands ≡ present h) given.2 (few_stand (present h) a n cs),
@@ -127,12 +127,12 @@ looks_ask_for_any_number size h v a n = (
 
 -- ---- the list first
 
-as_added : (v : View) (ms : Members) → map (event_of v.kind) (added_lines ms) ≡ map (λ m. record { kind = Added; object = m.1 }) ms
+as_added : (v : View) (ms : Members) → map (frame_of v.kind) (added_lines ms) ≡ map (λ m. record { kind = Added; object = m.1 }) ms
 as_added v [] = refl
 as_added v (m ∷ ms) = ap (λ z. record { kind = Added; object = m.1 } ∷ z) (as_added v ms)
 
-added_played : (h : History) (v : View) (r : ℕ) → play_lines [] (added_lines (list h v r)) ≡ list h v r
-added_played h v r = ap (play_lines []) (sym (append-nil (added_lines (list h v r)))) ∙ all_put (list h v r) [] [] (list_ascending h v r)
+added_played : (h : History) (v : View) (r : ℕ) → applied_lines [] (added_lines (list h v r)) ≡ list h v r
+added_played h v r = ap (applied_lines []) (sym (append-nil (added_lines (list h v r)))) ∙ all_put (list h v r) [] [] (list_ascending h v r)
 
 pub list_comes_first : WatchesBeginWithTheList
 list_comes_first size h v None bookmarks none = (added_lines (list h v (present h)), refl, as_added v (list h v (present h)), added_played h v (present h))

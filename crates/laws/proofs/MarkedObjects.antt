@@ -142,39 +142,39 @@ last_number (Some (object ms)) h = cc
 short_number : (n : ℕ) → nat_lt n greatest_revision ≡ true → length (decimal (n + 1)) ≤ 20
 short_number n h = let low : n < 9007199254740991 = grind arith in length-decimal-le 20 (n + 1) (omega arith) (omega arith) (omega arith)
 
-module _ (held : Data) (ordered : IsOrdered (metadata_of held)) (ds : Items) where
+module _ (existing : Data) (ordered : IsOrdered (metadata_of existing)) (ds : Items) where
   abbrev m : Members
-  m = metadata_of held
+  m = metadata_of existing
 
-  number_at : (b : Bool) → nat_lt (generation held) greatest_revision ≡ b
-      → size held (with_finalizers ds (put (codes "generation") (whole (cond b (generation held + 1) (generation held))) m)) ≤ size held (with_finalizers ds m) + 100
+  number_at : (b : Bool) → nat_lt (generation existing) greatest_revision ≡ b
+      → size existing (with_finalizers ds (put (codes "generation") (whole (cond b (generation existing + 1) (generation existing))) m)) ≤ size existing (with_finalizers ds m) + 100
   number_at true is =
-      let new = whole (generation held + 1) in
-      let apart_from : size held (with_finalizers ds (put (codes "generation") new m)) ≡ size held (put (codes "generation") new (with_finalizers ds m)) =
-      ap (size held) (put_both (codes "finalizers") (codes "generation") (array ds) new m refl) in
-      omega (arith, apart_from, size-put_new (codes "generation") new (with_finalizers ds m) held refl, length-quoted (codes "generation"), short_number (generation held) is)
+      let new = whole (generation existing + 1) in
+      let apart_from : size existing (with_finalizers ds (put (codes "generation") new m)) ≡ size existing (put (codes "generation") new (with_finalizers ds m)) =
+      ap (size existing) (put_both (codes "finalizers") (codes "generation") (array ds) new m refl) in
+      omega (arith, apart_from, size-put_new (codes "generation") new (with_finalizers ds m) existing refl, length-quoted (codes "generation"), short_number (generation existing) is)
   number_at false is =
-      let same : size held (with_finalizers ds (put (codes "generation") (whole (generation held)) m)) ≡ size held (with_finalizers ds m) =
-      ap (λ x. size held (with_finalizers ds x)) (put_same (codes "generation") (whole (generation held)) m ordered (last_number (get_member (codes "generation") m) is)) in
+      let same : size existing (with_finalizers ds (put (codes "generation") (whole (generation existing)) m)) ≡ size existing (with_finalizers ds m) =
+      ap (λ x. size existing (with_finalizers ds x)) (put_same (codes "generation") (whole (generation existing)) m ordered (last_number (get_member (codes "generation") m) is)) in
       omega (arith, same)
 
-  generation_at : (is_new : Bool) → size held (with_finalizers ds (with_next_generation is_new held m)) ≤ size held (with_finalizers ds m) + 100
-  generation_at true = number_at (nat_lt (generation held) greatest_revision) refl
+  generation_at : (is_new : Bool) → size existing (with_finalizers ds (with_next_generation is_new existing m)) ≤ size existing (with_finalizers ds m) + 100
+  generation_at true = number_at (nat_lt (generation existing) greatest_revision) refl
   generation_at false = omega arith
 
   -- the first mark makes an object longer by the moment and the generation
   deletion_at : (is_marked is_new : Bool) (moment : List ℕ) → length moment ≤ 20
-      → size held (with_finalizers ds (cond is_marked m (put (codes "deletionTimestamp") (string moment) (with_next_generation is_new held m))))
-      ≤ size held (with_finalizers ds m) + cond is_marked 0 400
+      → size existing (with_finalizers ds (cond is_marked m (put (codes "deletionTimestamp") (string moment) (with_next_generation is_new existing m))))
+      ≤ size existing (with_finalizers ds m) + cond is_marked 0 400
   deletion_at true is_new moment short = omega arith
   deletion_at false is_new moment short =
-      let counted = with_next_generation is_new held m in
-      let apart_from : size held (with_finalizers ds (put (codes "deletionTimestamp") (string moment) counted)) ≡ size held (put (codes "deletionTimestamp") (string moment) (with_finalizers ds counted)) =
-      ap (size held) (sym (put_both (codes "deletionTimestamp") (codes "finalizers") (string moment) (array ds) counted refl)) in
+      let counted = with_next_generation is_new existing m in
+      let apart_from : size existing (with_finalizers ds (put (codes "deletionTimestamp") (string moment) counted)) ≡ size existing (put (codes "deletionTimestamp") (string moment) (with_finalizers ds counted)) =
+      ap (size existing) (sym (put_both (codes "deletionTimestamp") (codes "finalizers") (string moment) (array ds) counted refl)) in
       omega (
         arith,
         apart_from,
-        size-put_new (codes "deletionTimestamp") (string moment) (with_finalizers ds counted) held refl,
+        size-put_new (codes "deletionTimestamp") (string moment) (with_finalizers ds counted) existing refl,
         generation_at is_new,
         length-quoted (codes "deletionTimestamp"),
         length-quoted moment,
@@ -187,32 +187,32 @@ whole_room : (b : Bool) → room b + cond b 0 400 ≡ 1573800
 whole_room true = refl
 whole_room false = refl
 
-module _ (k : Kind) (moment : List ℕ) (short : length moment ≤ 20) (held : Data) (ordered : IsOrdered (metadata_of held)) (has : HasRoom held) where
+module _ (k : Kind) (moment : List ℕ) (short : length moment ≤ 20) (existing : Data) (ordered : IsOrdered (metadata_of existing)) (has : HasRoom existing) where
   abbrev from : Members
-  from = with_deletion k moment held
+  from = with_deletion k moment existing
 
   abbrev Fits : Items → Type 0
-  Fits ds = (size held (with_finalizers ds from) ≤ 1573800) × (size held (with_finalizers (others ds) from) + 120 ≤ 1573800)
+  Fits ds = (size existing (with_finalizers ds from) ≤ 1573800) × (size existing (with_finalizers (others ds) from) + 120 ≤ 1573800)
 
-  grown : (ds : Items) → size held (with_finalizers ds from) ≤ size held (with_finalizers ds (metadata_of held)) + cond (is_being_deleted held) 0 400
-  grown ds = deletion_at held ordered ds (is_being_deleted held) (has_generation k) moment short
+  grown : (ds : Items) → size existing (with_finalizers ds from) ≤ size existing (with_finalizers ds (metadata_of existing)) + cond (is_being_deleted existing) 0 400
+  grown ds = deletion_at existing ordered ds (is_being_deleted existing) (has_generation k) moment short
 
-  fits_as_held : Fits (finalizers held)
+  fits_as_held : Fits (finalizers existing)
   fits_as_held =
-      let full = whole_room (is_being_deleted held) in
-      (omega (arith, grown (finalizers held), has.as_held, full), omega (arith, grown (others (finalizers held)), has.with_others, full))
+      let full = whole_room (is_being_deleted existing) in
+      (omega (arith, grown (finalizers existing), has.as_held, full), omega (arith, grown (others (finalizers existing)), has.with_others, full))
 
-  fits_with_policy : (p : Policy) → Fits (others_then (of_policy p) (finalizers held))
+  fits_with_policy : (p : Policy) → Fits (others_then (of_policy p) (finalizers existing))
   fits_with_policy p =
-      let ds = finalizers held in
+      let ds = finalizers existing in
       let new = others_then (of_policy p) ds in
-      let same : size held (with_finalizers (others new) from) ≡ size held (with_finalizers (others ds) from) = ap (λ x. size held (with_finalizers x from)) (others_with_policy p ds) in (
-        omega (arith, fits_as_held.1, size-put (codes "finalizers") (array new) (array (others ds)) from held refl, length-with_policy p ds),
+      let same : size existing (with_finalizers (others new) from) ≡ size existing (with_finalizers (others ds) from) = ap (λ x. size existing (with_finalizers x from)) (others_with_policy p ds) in (
+        omega (arith, fits_as_held.1, size-put (codes "finalizers") (array new) (array (others ds)) from existing refl, length-with_policy p ds),
         omega (arith, fits_as_held.1, same),
       )
 
-  fits_left : (o : Option Policy) → Fits (left_by o (finalizers held))
-  fits_left o = of_left Fits o (finalizers held) fits_as_held fits_with_policy
+  fits_left : (o : Option Policy) → Fits (left_by o (finalizers existing))
+  fits_left o = of_left Fits o (finalizers existing) fits_as_held fits_with_policy
 
   deleted_at : (is_marked : Bool) (meta : Members) → is_some (text_in (codes "deletionTimestamp") meta) ≡ is_marked → (more : Members)
       → is_some (text_in (codes "deletionTimestamp") (cond is_marked meta (put (codes "deletionTimestamp") (string moment) more))) ≡ true
@@ -224,13 +224,13 @@ module _ (k : Kind) (moment : List ℕ) (short : length moment ≤ 20) (held : D
     meta = with_finalizers ds from
 
     abbrev new : Data
-    new = at_revision r meta held
+    new = at_revision r meta existing
 
     abbrev version : Data
     version = string (decimal r)
 
     metadata_is : metadata_of new ≡ put (codes "resourceVersion") version meta
-    metadata_is = metadata_of-with (put (codes "resourceVersion") version meta) held
+    metadata_is = metadata_of-with (put (codes "resourceVersion") version meta) existing
 
     finalizers_are : finalizers new ≡ ds
     finalizers_are =
@@ -243,30 +243,30 @@ module _ (k : Kind) (moment : List ℕ) (short : length moment ≤ 20) (held : D
         ap is_some
         (ap (text_in (codes "deletionTimestamp")) metadata_is ∙ text_in-put_other (codes "deletionTimestamp") (codes "resourceVersion") version meta refl
         ∙ text_in-put_other (codes "deletionTimestamp") (codes "finalizers") (array ds) from refl)
-        ∙ deleted_at (is_being_deleted held) (metadata_of held) refl (with_next_generation (has_generation k) held (metadata_of held))
+        ∙ deleted_at (is_being_deleted existing) (metadata_of existing) refl (with_next_generation (has_generation k) existing (metadata_of existing))
 
     -- other finalizers in the place of those of a mark
-    size-marked : (es : Items) → size new (with_finalizers es (metadata_of new)) ≡ size held (with_finalizers es from)
+    size-marked : (es : Items) → size new (with_finalizers es (metadata_of new)) ≡ size existing (with_finalizers es from)
     size-marked es =
-        ap (λ x. size new (with_finalizers es x)) metadata_is ∙ size-at_revision r meta (with_finalizers es (put (codes "resourceVersion") version meta)) held
-        ∙ ap (size held) (put_both (codes "finalizers") (codes "resourceVersion") (array es) version meta refl) ∙ size-version r (with_finalizers es meta) held
-        ∙ ap (size held) (put_twice (codes "finalizers") (array ds) (array es) from)
+        ap (λ x. size new (with_finalizers es x)) metadata_is ∙ size-at_revision r meta (with_finalizers es (put (codes "resourceVersion") version meta)) existing
+        ∙ ap (size existing) (put_both (codes "finalizers") (codes "resourceVersion") (array es) version meta refl) ∙ size-version r (with_finalizers es meta) existing
+        ∙ ap (size existing) (put_twice (codes "finalizers") (array ds) (array es) from)
 
     room_with : Fits ds → HasRoom new
     room_with fit =
         let all : room (is_being_deleted new) ≡ 1573800 = ap room is_deleted in
-        let first : size new (with_finalizers (finalizers new) (metadata_of new)) ≡ size held (with_finalizers ds from) =
+        let first : size new (with_finalizers (finalizers new) (metadata_of new)) ≡ size existing (with_finalizers ds from) =
         ap (λ x. size new (with_finalizers x (metadata_of new))) finalizers_are ∙ size-marked ds in
-        let second : size new (with_finalizers (others (finalizers new)) (metadata_of new)) ≡ size held (with_finalizers (others ds) from) =
+        let second : size new (with_finalizers (others (finalizers new)) (metadata_of new)) ≡ size existing (with_finalizers (others ds) from) =
         ap (λ x. size new (with_finalizers (others x) (metadata_of new))) finalizers_are ∙ size-marked (others ds) in
         record { as_held = omega (arith, all, first, fit.0); with_others = omega (arith, all, second, fit.1) }
 
   abbrev after : ℕ → Option Policy → Data
-  after r o = at_revision r (with_finalizers (left_by o (finalizers held)) from) held
+  after r o = at_revision r (with_finalizers (left_by o (finalizers existing)) from) existing
 
   pub room_marked : (r : ℕ) (o : Option Policy) → HasRoom (after r o)
-  room_marked r o = room_with r (left_by o (finalizers held)) (fits_left o)
+  room_marked r o = room_with r (left_by o (finalizers existing)) (fits_left o)
 
   pub marked_fits : (r : ℕ) (o : Option Policy) → r ≤ 9007199254740991 → length (compact_text (after r o)) ≤ 1574400
   marked_fits r o low =
-      omega (arith, fits_at 1573800 r 0 (with_finalizers (left_by o (finalizers held)) from) held (fits_left o).0 low)
+      omega (arith, fits_at 1573800 r 0 (with_finalizers (left_by o (finalizers existing)) from) existing (fits_left o).0 low)

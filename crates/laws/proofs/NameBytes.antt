@@ -5,7 +5,7 @@ use Rattle.std.proofs.lemmas.Bool.Decides.{nat_tests}
 use Rattle.std.specs.List.{list_all}
 use Rattle.std.specs.Str.{IsUtf8}
 use Rattle.json.proofs.Printed.Utf8.{are_ascii, IsUtf8-are_ascii}
-use Rattle.definitions.specs.Names.{is_label, is_namespace, is_subdomain}
+use Rattle.definitions.specs.Keys.{is_label, is_namespace, is_subdomain}
 use Rattle.laws.proofs.SelectorForms.{first, second}
 use Rattle.laws.proofs.SelectorPlain.{is_plain, and-true, label-plain, subdomain-plain}
 

@@ -56,13 +56,13 @@ module _ (n : ℕ) (p : Schema) where
   Neat-get k no_members d h g = cc
   Neat-get k (member l e ms) d h g = get_at (slice_cmp nat_cmp k l) k l d e ms refl h g (λ later. Neat-get k ms d later g.1)
 
-  held_at : (k : List ℕ) (o : Option Data) (held ms : Members) → get_member k held ≡ o → Neat n p held → Neat n p ms → Neat n p (as_held k o ms)
-  held_at k None held ms is f g = Neat-without k ms g
-  held_at k (Some d) held ms is f g = Neat-put k d ms (Neat-get k held d is f) g
+  held_at : (k : List ℕ) (o : Option Data) (existing ms : Members) → get_member k existing ≡ o → Neat n p existing → Neat n p ms → Neat n p (as_held k o ms)
+  held_at k None existing ms is f g = Neat-without k ms g
+  held_at k (Some d) existing ms is f g = Neat-put k d ms (Neat-get k existing d is f) g
 
-  pub Neat-keeping : (ks : List (List ℕ)) (held ms : Members) → Neat n p held → Neat n p ms → Neat n p (keeping ks held ms)
-  Neat-keeping [] held ms f g = g
-  Neat-keeping (k ∷ ks) held ms f g = Neat-keeping ks held (as_held k (get_member k held) ms) f (held_at k (get_member k held) held ms refl f g)
+  pub Neat-keeping : (ks : List (List ℕ)) (existing ms : Members) → Neat n p existing → Neat n p ms → Neat n p (keeping ks existing ms)
+  Neat-keeping [] existing ms f g = g
+  Neat-keeping (k ∷ ks) existing ms f g = Neat-keeping ks existing (as_held k (get_member k existing) ms) f (held_at k (get_member k existing) existing ms refl f g)
 
   pub Neat-depth : (ms : Members) → Neat n p ms → members_depth ms ≤ n
   Neat-depth no_members g = omega arith

@@ -13,7 +13,7 @@ use Rattle.definitions.specs.Collections.{ListOptions, going_on}
 use Rattle.definitions.specs.History.{History, View, Members, present, viewed, list}
 use Rattle.definitions.specs.Lists.{list_answer, page_body, told_count, token_after}
 use Rattle.definitions.specs.Metadata.{metadata_text}
-use Rattle.definitions.specs.Names.{Name}
+use Rattle.definitions.specs.Keys.{Key}
 use Rattle.definitions.specs.Pages.{Place, Page, place_of, is_after, after_place, last_place, page_of}
 use Rattle.laws.specs.PageLaws.{ArePages, joined}
 use Rattle.definitions.specs.PageTokens.{Token, token_place, token_text, token_of}
@@ -103,16 +103,16 @@ says_revision (Some q) k r (Some c) items = refl
 
 -- names of which a token can be made
 abbrev HasTexts : Members → Type 0
-HasTexts ms = AllByRecursion (λ (m : Name × Data). IsUtf8 m.0.namespace × IsUtf8 m.0.name) ms
+HasTexts ms = AllByRecursion (λ (m : Key × Data). IsUtf8 m.0.namespace × IsUtf8 m.0.name) ms
 
-are_texts : (ms : Members) → AllByRecursion (λ (m : Name × Data). IsValid m.0) ms → HasTexts ms
+are_texts : (ms : Members) → AllByRecursion (λ (m : Key × Data). IsValid m.0) ms → HasTexts ms
 are_texts [] a = tt
 are_texts (m ∷ ms) a = ((namespace_text m.0.namespace a.0.0, name_text m.0.name a.0.1), are_texts ms a.1)
 
 listed_texts : (h : History) (v : View) (r : ℕ) → IsReached h → HasTexts (list h v r)
 listed_texts h v r reached = are_texts (list h v r) (listed_put IsValidAt h v r (all_valid h reached))
 
-texts_cond : (b : Bool) (m : Name × Data) (ms : Members) → IsUtf8 m.0.namespace × IsUtf8 m.0.name → HasTexts ms → HasTexts (cond b (m ∷ ms) ms)
+texts_cond : (b : Bool) (m : Key × Data) (ms : Members) → IsUtf8 m.0.namespace × IsUtf8 m.0.name → HasTexts ms → HasTexts (cond b (m ∷ ms) ms)
 texts_cond true m ms h t = (h, t)
 texts_cond false m ms h t = t
 

@@ -20,7 +20,7 @@ use Rattle.definitions.specs.Kinds.{api_version, kind_text}
 use Rattle.definitions.specs.Reading.{is_absent, schema_of, item_of, tidied, tidied_items, tidied_members, empty, reading}
 use Rattle.definitions.specs.Schemas.{member_at}
 use Rattle.definitions.specs.Values.{data_of, members_of, inner_of, without, found_or_null, is_null, merged, merged_members, with_member, with_default}
-use Rattle.definitions.specs.Verbs.{said}
+use Rattle.definitions.specs.Verbs.{object_in}
 use Rattle.definitions.proofs.VerbSteps.{with_defaults}
 use Rattle.laws.proofs.JsonOrder.{IsOrdered, IsOrdered-put, IsOrdered-without, IsOrdered-tidied, IsOrdered-filled}
 use Rattle.laws.proofs.NeatMembers.{opens}
@@ -228,7 +228,7 @@ said_as : (k : Kind) (d o : Data) (r : Result Data Part) → reading k d ≡ r �
 said_as k d o (Err p) is h a = cc
 said_as k d o (Ok e) is h a = let one : defaults.defaulted k e ≡ o = cc in subst IsParsed one (parsed_defaults k e (parsed_reading k d e is a))
 
-pub parsed_said : (k : Kind) (d o : Data) → said k d ≡ Ok o → IsParsed d → IsParsed o
+pub parsed_said : (k : Kind) (d o : Data) → object_in k d ≡ Ok o → IsParsed d → IsParsed o
 parsed_said k d o h a = said_as k d o (reading k d) refl h a
 
 -- ---- patches

@@ -8,7 +8,7 @@ use Rattle.definitions.specs.Checks.{in_spec}
 use Rattle.definitions.specs.Metadata.{metadata_of}
 use Rattle.definitions.specs.Reading.{empty}
 use Rattle.definitions.specs.Replacements.{as_held, keeping}
-use Rattle.definitions.specs.Names.{Name}
+use Rattle.definitions.specs.Keys.{Key}
 use Rattle.definitions.specs.Values.{members_of, inner_of, without}
 use Rattle.laws.proofs.EachWrite.{AllPut, there_put, listed_put}
 use Rattle.definitions.specs.Reached.{IsParsed, IsReached}
@@ -20,10 +20,10 @@ use Rattle.laws.proofs.Parsed.{Both, joined, inside, Both-put, Both-set, Both-wi
 
 -- ---- what is written
 
-abbrev IsParsedAt : Name → Data → Type 0
+abbrev IsParsedAt : Key → Data → Type 0
 IsParsedAt k d = IsParsed d
 
-one_parsed : (k : Name) (r : ℕ) (o : Option Data) → IfSome o (IsStored k r) → IfSome o IsParsed
+one_parsed : (k : Key) (r : ℕ) (o : Option Data) → IfSome o (IsStored k r) → IfSome o IsParsed
 one_parsed k r None a = tt
 one_parsed k r (Some d) a = a.parsed
 

@@ -23,7 +23,7 @@ use Rattle.definitions.specs.Deletion.{left_by, with_deletion, others_then, of_p
 use Rattle.definitions.specs.Kinds.{has_generation}
 use Rattle.definitions.specs.Metadata.{metadata, metadata_of, with_metadata, at_revision, is_being_deleted}
 use Rattle.definitions.specs.NewObjects.{new_metadata, first_status, with_status}
-use Rattle.definitions.specs.Replacements.{as_held, keeping, kept, kept_of, in_place, said_status, with_said_status, with_next_generation, next_generation, generation}
+use Rattle.definitions.specs.Replacements.{as_held, keeping, kept, kept_of, in_place, status_in, with_status_in, with_next_generation, next_generation, generation}
 use Rattle.definitions.specs.Uids.{hex, uid_text, cluster_word}
 use Rattle.definitions.specs.Values.{members_of, without}
 use Rattle.definitions.specs.Reached.{IsInRange, IsParsed, AreParsed}
@@ -91,11 +91,11 @@ pub held_put : (k : List ℕ) (o : Option Data) (ms : Members) → are_ascii k �
 held_put k None ms u h b = Both-without k ms b
 held_put k (Some d) ms u h b = Both-set k u d ms h b
 
-pub keeps : (ks : List (List ℕ)) (held ms : Members) → list_all are_ascii ks ≡ true → Both held → Both ms → Both (keeping ks held ms)
-keeps [] held ms u h b = b
-keeps (k ∷ ks) held ms u h b =
+pub keeps : (ks : List (List ℕ)) (existing ms : Members) → list_all are_ascii ks ≡ true → Both existing → Both ms → Both (keeping ks existing ms)
+keeps [] existing ms u h b = b
+keeps (k ∷ ks) existing ms u h b =
     let all = both_true (are_ascii k) (list_all are_ascii ks) u in
-    keeps ks held (as_held k (get_member k held) ms) all.1 h (held_put k (get_member k held) ms all.0 (found_in k held h) b)
+    keeps ks existing (as_held k (get_member k existing) ms) all.1 h (held_put k (get_member k existing) ms all.0 (found_in k existing h) b)
 
 kept_ascii : (k : Kind) → list_all are_ascii (kept_of k) ≡ true
 kept_ascii ConfigMap = refl
@@ -103,11 +103,11 @@ kept_ascii Pod = refl
 kept_ascii ReplicaSet = refl
 kept_ascii Deployment = refl
 
-pub placed : (k : Kind) (held o : Data) → IsParsed held → IsParsed o → IsParsed (in_place k held o)
-placed k held o h p =
-    let ms = keeping (kept_of k) (members_of held) (members_of o) in
-    with_meta (keeping kept (metadata_of held) (metadata_of o)) (object ms) (keeps kept (metadata_of held) (metadata_of o) refl (meta held h) (meta o p))
-    (joined ms (keeps (kept_of k) (members_of held) (members_of o) (kept_ascii k) (inside held h) (inside o p)))
+pub placed : (k : Kind) (existing o : Data) → IsParsed existing → IsParsed o → IsParsed (in_place k existing o)
+placed k existing o h p =
+    let ms = keeping (kept_of k) (members_of existing) (members_of o) in
+    with_meta (keeping kept (metadata_of existing) (metadata_of o)) (object ms) (keeps kept (metadata_of existing) (metadata_of o) refl (meta existing h) (meta o p))
+    (joined ms (keeps (kept_of k) (members_of existing) (members_of o) (kept_ascii k) (inside existing h) (inside o p)))
 
 -- ---- generations
 
@@ -135,25 +135,25 @@ word_next : (b : Bool) (n : ℕ) → nat_lt n 9007199254740991 ≡ b → IsWord 
 word_next true n is h = let low = ltb-true n 9007199254740991 is in omega (arith, low)
 word_next false n is h = h
 
-counts : (held : Data) → IsParsed held → IsWord (next_generation (generation held))
-counts held h =
-    word_next (nat_lt (generation held) 9007199254740991) (generation held) refl
-    (word_said (metadata (codes "generation") held) (found_in (codes "generation") (metadata_of held) (meta held h)))
+counts : (existing : Data) → IsParsed existing → IsWord (next_generation (generation existing))
+counts existing h =
+    word_next (nat_lt (generation existing) 9007199254740991) (generation existing) refl
+    (word_said (metadata (codes "generation") existing) (found_in (codes "generation") (metadata_of existing) (meta existing h)))
 
-pub counted : (b : Bool) (held : Data) (ms : Members) → IsParsed held → Both ms → Both (with_next_generation b held ms)
-counted b held ms h m =
-    both_if b (put (codes "generation") (whole (next_generation (generation held))) ms) ms (Both-set (codes "generation") refl (whole (next_generation (generation held))) ms (counts held h) m) m
+pub counted : (b : Bool) (existing : Data) (ms : Members) → IsParsed existing → Both ms → Both (with_next_generation b existing ms)
+counted b existing ms h m =
+    both_if b (put (codes "generation") (whole (next_generation (generation existing))) ms) ms (Both-set (codes "generation") refl (whole (next_generation (generation existing))) ms (counts existing h) m) m
 
 -- ---- statuses
 
-status_said : (k : Kind) (o : Option Data) → IfSome o IsParsed → IfSome (said_status k o) IsParsed
+status_said : (k : Kind) (o : Option Data) → IfSome o IsParsed → IfSome (status_in k o) IsParsed
 status_said k None h = first k
 status_said k (Some d) h = h
 
-pub restated : (k : Kind) (held o : Data) → IsParsed held → IsParsed o → IsParsed (with_said_status k held o)
-restated k held o h p =
-    let s = said_status k (get (codes "status") o) in
-    joined (with_status s (members_of held)) (status_put s (members_of held) (status_said k (get (codes "status") o) (found_at (codes "status") o p)) (inside held h))
+pub restated : (k : Kind) (existing o : Data) → IsParsed existing → IsParsed o → IsParsed (with_status_in k existing o)
+restated k existing o h p =
+    let s = status_in k (get (codes "status") o) in
+    joined (with_status s (members_of existing)) (status_put s (members_of existing) (status_said k (get (codes "status") o) (found_at (codes "status") o p)) (inside existing h))
 
 -- ---- marks
 
@@ -184,13 +184,13 @@ left_items None ds h = h
 left_items (Some p) ds h = items_if (are_of p ds) ds (others_then (of_policy p) ds) h (others (of_policy p) ds (policy_items p) h)
 
 -- the metadata of a mark
-pub marked_meta : (k : Kind) (moment : List ℕ) (o : Option Policy) (held : Data) → IsUtf8 moment → IsParsed held
-    → Both (put (codes "finalizers") (array (left_by o (finalizers held))) (with_deletion k moment held))
-marked_meta k moment o held now h =
-    let left = left_by o (finalizers held) in
-    let ds : AreParsed left = left_items o (finalizers held) (items_of_some (metadata (codes "finalizers") held) (found_in (codes "finalizers") (metadata_of held) (meta held h))) in
-    let rising = with_next_generation (has_generation k) held (metadata_of held) in
-    let deleted : Both (with_deletion k moment held) =
-    both_if (is_being_deleted held) (metadata_of held) (put (codes "deletionTimestamp") (string moment) rising) (meta held h)
-    (Both-set (codes "deletionTimestamp") refl (string moment) rising now (counted (has_generation k) held (metadata_of held) h (meta held h))) in
-    Both-set (codes "finalizers") refl (array left) (with_deletion k moment held) ds deleted
+pub marked_meta : (k : Kind) (moment : List ℕ) (o : Option Policy) (existing : Data) → IsUtf8 moment → IsParsed existing
+    → Both (put (codes "finalizers") (array (left_by o (finalizers existing))) (with_deletion k moment existing))
+marked_meta k moment o existing now h =
+    let left = left_by o (finalizers existing) in
+    let ds : AreParsed left = left_items o (finalizers existing) (items_of_some (metadata (codes "finalizers") existing) (found_in (codes "finalizers") (metadata_of existing) (meta existing h))) in
+    let rising = with_next_generation (has_generation k) existing (metadata_of existing) in
+    let deleted : Both (with_deletion k moment existing) =
+    both_if (is_being_deleted existing) (metadata_of existing) (put (codes "deletionTimestamp") (string moment) rising) (meta existing h)
+    (Both-set (codes "deletionTimestamp") refl (string moment) rising now (counted (has_generation k) existing (metadata_of existing) h (meta existing h))) in
+    Both-set (codes "finalizers") refl (array left) (with_deletion k moment existing) ds deleted

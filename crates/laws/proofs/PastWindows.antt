@@ -3,35 +3,35 @@ use Rattle.std.proofs.Common.{zero, suc, ◌≤◌, ℕ, ◌+◌, ◌-◌, List,
 use Rattle.definitions.specs.declared.kinds.Kind.{Kind}
 use Rattle.definitions.specs.History.{Write, writes, present}
 use Rattle.laws.specs.WindowLaws.{KeptWritesArePast}
-use Rattle.definitions.specs.Windows.{Kept, is_of, kept_of, kept_after, writes_of, last_revision}
+use Rattle.definitions.specs.Windows.{Change, is_of, change_of, changes_after, changes_of, last_revision}
 use Rattle.laws.proofs.KeptWrites.{pushed}
 
 -- each revision is at most m
-abbrev AreWithin : ℕ → List Kept → Type 0
+abbrev AreWithin : ℕ → List Change → Type 0
 AreWithin m [] = Unit {0}
 AreWithin m (k ∷ ks) = (k.revision ≤ m) × AreWithin m ks
 
-one_within : (b : Bool) (x : Kept) (m : ℕ) (ks : List Kept) → x.revision ≤ m → AreWithin m ks → AreWithin m (cond b (x ∷ []) [] ++ ks)
+one_within : (b : Bool) (x : Change) (m : ℕ) (ks : List Change) → x.revision ≤ m → AreWithin m ks → AreWithin m (cond b (x ∷ []) [] ++ ks)
 one_within true x m ks l later = (l, later)
 one_within false x m ks l later = later
 
-all_within : (kind : Kind) (ws before : List Write) (m : ℕ) → length before + 1 + length ws ≤ m → AreWithin m (kept_after kind before ws)
+all_within : (kind : Kind) (ws before : List Write) (m : ℕ) → length before + 1 + length ws ≤ m → AreWithin m (changes_after kind before ws)
 all_within kind [] before m l = tt
 all_within kind (w ∷ ws) before m l =
     let more = pushed before w in
-    one_within (is_of kind w.key) (kept_of before w) m (kept_after kind (before ++ w ∷ []) ws) (omega (arith, l)) (all_within kind ws (before ++ w ∷ []) m (omega (arith, more, l)))
+    one_within (is_of kind w.key) (change_of before w) m (changes_after kind (before ++ w ∷ []) ws) (omega (arith, l)) (all_within kind ws (before ++ w ∷ []) m (omega (arith, more, l)))
 
-dropped_within : (n m : ℕ) (ks : List Kept) → AreWithin m ks → AreWithin m (drop n ks)
+dropped_within : (n m : ℕ) (ks : List Change) → AreWithin m ks → AreWithin m (drop n ks)
 dropped_within zero m ks a = a
 dropped_within (suc n) m [] a = tt
 dropped_within (suc n) m (k ∷ ks) a = dropped_within n m ks a.1
 
-last_within : (m r : ℕ) (ks : List Kept) → r ≤ m → AreWithin m ks → last_revision r ks ≤ m
+last_within : (m r : ℕ) (ks : List Change) → r ≤ m → AreWithin m ks → last_revision r ks ≤ m
 last_within m r [] l a = l
 last_within m r (k ∷ ks) l a = last_within m k.revision ks a.0 a.1
 
 pub kept_past : KeptWritesArePast
 kept_past s h f =
     subst (λ ks. last_revision 0 ks ≤ present h) (sym f.0)
-    (last_within (present h) 0 (drop (length (writes_of s.kind h) - s.size) (writes_of s.kind h)) (omega arith)
-    (dropped_within (length (writes_of s.kind h) - s.size) (present h) (writes_of s.kind h) (all_within s.kind (writes h) [] (present h) (omega arith))))
+    (last_within (present h) 0 (drop (length (changes_of s.kind h) - s.size) (changes_of s.kind h)) (omega arith)
+    (dropped_within (length (changes_of s.kind h) - s.size) (present h) (changes_of s.kind h) (all_within s.kind (writes h) [] (present h) (omega arith))))

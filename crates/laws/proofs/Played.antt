@@ -7,11 +7,11 @@ use Rattle.std.specs.BTreeMap.{insert_entry, is_at}
 use Rattle.serde_json.specs.Data.{Data}
 use Rattle.std.proofs.lemmas.List.{take-take, take-append-drop, drop-append-le, drop_all, length-take}
 use Rattle.std.proofs.lemmas.Bool.{cases_lt}
-use Rattle.definitions.specs.Names.{Name, name_cmp}
+use Rattle.definitions.specs.Keys.{Key, key_cmp}
 use Rattle.definitions.specs.History.{History, Write, View, Members, up_to, writes, found, in_view, viewed, seen, last_of, after, after_all, put_or_remove, list}
 use Rattle.definitions.proofs.PutLaws.{name_cmp_total, same_name, IsAbove, IsAscending, IsAscending-after_all, IsAbove-filter, found-after_all}
 use Rattle.laws.specs.WatchLaws.{AreBetween}
-use Rattle.definitions.specs.Changes.{Change, change_of, write_change, changes_after, changes, play, play_one}
+use Rattle.definitions.specs.Events.{Event, event_of, write_change, changes_after, events, applied, apply}
 
 equal_from : (r : Ordering) → is_eq r ≡ true → r ≡ Equal
 equal_from Less h = cc
@@ -119,49 +119,49 @@ module _ {K X : Type 0} {R : K → K → Ordering} (o : IsTotalOrder R) (same : 
 
 -- ---- the changes of a view
 
-pub one_name : (a b : Name) → name_cmp a b ≡ Equal → a ≡ b
+pub one_name : (a b : Key) → key_cmp a b ≡ Equal → a ≡ b
 one_name a b h = same_name a b (ap is_eq h)
 
 module _ (v : View) where
-  nothing_shows : (k : Name) (o : Option Data) → seen v k o ≡ None → shows name_cmp_total one_name (in_view v) k o ≡ None
+  nothing_shows : (k : Key) (o : Option Data) → seen v k o ≡ None → shows name_cmp_total one_name (in_view v) k o ≡ None
   nothing_shows k None h = refl
   nothing_shows k (Some d) h = h
 
-  put_shown : (b : Bool) (k : Name) (d : Data) (was : Option Data) (r : ℕ) (ms : Members) → in_view v k d ≡ b → IsAscending name_cmp ms → seen v k (found k ms) ≡ was
-      → play (viewed v ms) (change_of r k was (cond b (Some d) None)) ≡ viewed v (insert_entry name_cmp ms k d)
+  put_shown : (b : Bool) (k : Key) (d : Data) (was : Option Data) (r : ℕ) (ms : Members) → in_view v k d ≡ b → IsAscending key_cmp ms → seen v k (found k ms) ≡ was
+      → applied (viewed v ms) (event_of r k was (cond b (Some d) None)) ≡ viewed v (insert_entry key_cmp ms k d)
   put_shown true k d None r ms y a w = sym (put_in name_cmp_total one_name (in_view v) k d ms y a)
   put_shown true k d (Some c) r ms y a w = sym (put_in name_cmp_total one_name (in_view v) k d ms y a)
   put_shown false k d None r ms y a w = unseen name_cmp_total one_name (in_view v) k ms a (nothing_shows k (found k ms) w) ∙ sym (put_out name_cmp_total one_name (in_view v) k d ms y a)
   put_shown false k d (Some c) r ms y a w = sym (put_out name_cmp_total one_name (in_view v) k d ms y a)
 
-  remove_shown : (k : Name) (was : Option Data) (r : ℕ) (ms : Members) → IsAscending name_cmp ms → seen v k (found k ms) ≡ was
-      → play (viewed v ms) (change_of r k was None) ≡ viewed v (remove_entry (is_at (name_cmp k)) ms)
+  remove_shown : (k : Key) (was : Option Data) (r : ℕ) (ms : Members) → IsAscending key_cmp ms → seen v k (found k ms) ≡ was
+      → applied (viewed v ms) (event_of r k was None) ≡ viewed v (remove_entry (is_at (key_cmp k)) ms)
   remove_shown k None r ms a w = unseen name_cmp_total one_name (in_view v) k ms a (nothing_shows k (found k ms) w) ∙ sym (removed name_cmp_total one_name (in_view v) k ms a)
   remove_shown k (Some c) r ms a w = sym (removed name_cmp_total one_name (in_view v) k ms a)
 
-  one_write : (k : Name) (put : Option Data) (r : ℕ) (ms : Members) → IsAscending name_cmp ms
-      → play (viewed v ms) (change_of r k (seen v k (found k ms)) (seen v k put)) ≡ viewed v (put_or_remove ms k put)
+  one_write : (k : Key) (put : Option Data) (r : ℕ) (ms : Members) → IsAscending key_cmp ms
+      → applied (viewed v ms) (event_of r k (seen v k (found k ms)) (seen v k put)) ≡ viewed v (put_or_remove ms k put)
   one_write k None r ms a = remove_shown k (seen v k (found k ms)) r ms a refl
   one_write k (Some d) r ms a = put_shown (in_view v k d) k d (seen v k (found k ms)) r ms refl a refl
 
-  play-append : (ms : Members) (cs ds : List Change) → play ms (cs ++ ds) ≡ play (play ms cs) ds
+  play-append : (ms : Members) (cs ds : List Event) → applied ms (cs ++ ds) ≡ applied (applied ms cs) ds
   play-append ms [] ds = refl
-  play-append ms (c ∷ cs) ds = play-append (play_one ms c) cs ds
+  play-append ms (c ∷ cs) ds = play-append (apply ms c) cs ds
 
   pub after_all-push : (ms : Members) (ws : List Write) (w : Write) → after_all ms (ws ++ w ∷ []) ≡ after (after_all ms ws) w
   after_all-push ms [] w = refl
   after_all-push ms (u ∷ ws) w = after_all-push (after ms u) ws w
 
-  pub one_more : (ws : List Write) (w : Write) → play (viewed v (after_all [] ws)) (write_change v ws w) ≡ viewed v (after_all [] (ws ++ w ∷ []))
+  pub one_more : (ws : List Write) (w : Write) → applied (viewed v (after_all [] ws)) (write_change v ws w) ≡ viewed v (after_all [] (ws ++ w ∷ []))
   one_more ws w =
-      ap (λ o. play (viewed v (after_all [] ws)) (change_of (length ws + 2) w.key (seen v w.key o) (seen v w.key w.put))) (sym (found-after_all w.key [] ws tt))
+      ap (λ o. applied (viewed v (after_all [] ws)) (event_of (length ws + 2) w.key (seen v w.key o) (seen v w.key w.put))) (sym (found-after_all w.key [] ws tt))
       ∙ one_write w.key w.put (length ws + 2) (after_all [] ws) (IsAscending-after_all [] ws tt) ∙ ap (viewed v) (sym (after_all-push [] ws w))
 
-  pub played : (before ws : List Write) → play (viewed v (after_all [] before)) (changes_after v before ws) ≡ viewed v (after_all [] (before ++ ws))
+  pub played : (before ws : List Write) → applied (viewed v (after_all [] before)) (changes_after v before ws) ≡ viewed v (after_all [] (before ++ ws))
   played before [] = ap (λ us. viewed v (after_all [] us)) (sym (append-nil before))
   played before (w ∷ ws) =
       play-append (viewed v (after_all [] before)) (write_change v before w) (changes_after v (before ++ w ∷ []) ws)
-      ∙ ap (λ ms. play ms (changes_after v (before ++ w ∷ []) ws)) (one_more before w) ∙ played (before ++ w ∷ []) ws
+      ∙ ap (λ ms. applied ms (changes_after v (before ++ w ∷ []) ws)) (one_more before w) ∙ played (before ++ w ∷ []) ws
       ∙ ap (λ us. viewed v (after_all [] us)) (append_assoc before (w ∷ []) ws)
 
   pub changes_after-append : (before us ws : List Write) → changes_after v before (us ++ ws) ≡ changes_after v before us ++ changes_after v (before ++ us) ws
@@ -175,7 +175,7 @@ module _ (v : View) where
 pub up_to-split : (h : History) (a b : ℕ) → a ≤ b → up_to a h ++ drop (a - 1) (up_to b h) ≡ up_to b h
 up_to-split h a b le = ap (λ ws. ws ++ drop (a - 1) (up_to b h)) (sym (take-take (a - 1) (b - 1) (writes h) (omega (arith, le)))) ∙ take-append-drop (a - 1) (up_to b h)
 
-pub list_played : (h : History) (v : View) (a b : ℕ) → a ≤ b → play (list h v a) (changes h v a b) ≡ list h v b
+pub list_played : (h : History) (v : View) (a b : ℕ) → a ≤ b → applied (list h v a) (events h v a b) ≡ list h v b
 list_played h v a b le = played v (up_to a h) (drop (a - 1) (up_to b h)) ∙ ap (λ ws. viewed v (after_all [] ws)) (up_to-split h a b le)
 
 between_cases : (h : History) (a b c : ℕ) → a ≤ b → b ≤ c → (length (up_to b h) < (a - 1)) ⊎ ((a - 1) ≤ length (up_to b h))
@@ -190,14 +190,14 @@ between_cases h a b c l k (inl m) =
 drop-between : (h : History) (a b c : ℕ) → a ≤ b → b ≤ c → drop (a - 1) (up_to c h) ≡ drop (a - 1) (up_to b h) ++ drop (b - 1) (up_to c h)
 drop-between h a b c l k = between_cases h a b c l k (cases_lt (length (up_to b h)) (a - 1))
 
-pub goes_on : (h : History) (v : View) (a b c : ℕ) → a ≤ b → b ≤ c → changes h v a c ≡ changes h v a b ++ changes h v b c
+pub goes_on : (h : History) (v : View) (a b c : ℕ) → a ≤ b → b ≤ c → events h v a c ≡ events h v a b ++ events h v b c
 goes_on h v a b c l k =
     ap (changes_after v (up_to a h)) (drop-between h a b c l k) ∙ changes_after-append v (up_to a h) (drop (a - 1) (up_to b h)) (drop (b - 1) (up_to c h))
-    ∙ ap (λ ws. changes h v a b ++ changes_after v ws (drop (b - 1) (up_to c h))) (up_to-split h a b l)
+    ∙ ap (λ ws. events h v a b ++ changes_after v ws (drop (b - 1) (up_to c h))) (up_to-split h a b l)
 
 -- ---- revisions
 
-one_between : (lo hi r : ℕ) (k : Name) (was now : Option Data) (cs : List Change) → lo < r → r ≤ hi → AreBetween r hi cs → AreBetween lo hi cs → AreBetween lo hi (change_of r k was now ++ cs)
+one_between : (lo hi r : ℕ) (k : Key) (was now : Option Data) (cs : List Event) → lo < r → r ≤ hi → AreBetween r hi cs → AreBetween lo hi cs → AreBetween lo hi (event_of r k was now ++ cs)
 one_between lo hi r k None None cs l h f g = g
 one_between lo hi r k None (Some d) cs l h f g = (l, h, f)
 one_between lo hi r k (Some c) (Some d) cs l h f g = (l, h, f)
@@ -219,5 +219,5 @@ between_at h v a b (w ∷ ws) is =
     let left = ap length (sym is) ∙ length-drop (a - 1) (up_to b h) in
     after_between v (w ∷ ws) (up_to a h) a b (omega (arith, first, all, left)) (omega (arith, first, all, left))
 
-pub lie_between : (h : History) (v : View) (a b : ℕ) → AreBetween a b (changes h v a b)
+pub lie_between : (h : History) (v : View) (a b : ℕ) → AreBetween a b (events h v a b)
 lie_between h v a b = between_at h v a b (drop (a - 1) (up_to b h)) refl

@@ -13,7 +13,7 @@ use Rattle.definitions.specs.Replies.{Session, start, reply_for, history_from, d
 use Rattle.line_protocol.specs.Lines.{history_of, Line, ask, at, compact, compact_at, unreadable, ask_if, cut, target_alone, target_and_body, line_from, line_of, session_after, next, after_lines}
 use Rattle.definitions.specs.Moments as moments
 use Rattle.definitions.specs.Moments.{has_form, is_day, is_digit, is_moment}
-use Rattle.definitions.specs.Names.{Name}
+use Rattle.definitions.specs.Keys.{Key}
 use Rattle.definitions.specs.Collections as collections
 use Rattle.definitions.specs.Collections.{Read}
 use Rattle.definitions.specs.Revisions.{revision_of}
@@ -58,7 +58,7 @@ well_with f (Ok d) each h = each d h
 well_body : (f : Data → Request) (text : List ℕ) → ((d : Data) → IsParsed d → IsAsked (f d)) → AsksWell (asks_with f (body_of text))
 well_body f text each = well_with f (body_of text) each (ordered_body text)
 
-well_deletes : (n : Name) (r : Result Options Refusal) → AsksWell (asks_with (delete_object n) r)
+well_deletes : (n : Key) (r : Result Options Refusal) → AsksWell (asks_with (delete_object n) r)
 well_deletes n (Err e) = tt
 well_deletes n (Ok o) = tt
 

@@ -10,18 +10,18 @@ use Rattle.definitions.specs.declared.kinds.Kind.{Kind}
 use Rattle.definitions.specs.declared.policies.Policy.{Policy}
 use Rattle.definitions.specs.Checks.{finalizers, has_text, text_is, checks, update_fault, adds_no_finalizer, is_selector_kept}
 use Rattle.definitions.specs.DeleteOptions.{Options}
-use Rattle.definitions.specs.Deletion.{left_by, marked, others_then, of_policy, are_of, is_of_policy, with_deletion}
+use Rattle.definitions.specs.Deletion.{left_by, being_deleted, others_then, of_policy, are_of, is_of_policy, with_deletion}
 use Rattle.definitions.specs.History.{History, found, members, present, state}
 use Rattle.laws.specs.HistoryLaws.{KeepsText, is_delete}
 use Rattle.laws.specs.LifecycleLaws.{OfReplaced, OfRemoved, all_of_policy, DeletesSpareFinalizers, LastFinalizersRemove, WritesKeepDeletions, NoFinalizerIsAdded}
 use Rattle.definitions.specs.Metadata.{metadata, metadata_of, metadata_text, at_revision, is_being_deleted}
-use Rattle.definitions.specs.Names.{Name}
+use Rattle.definitions.specs.Keys.{Key}
 use Rattle.definitions.specs.NewObjects.{created}
 use Rattle.definitions.specs.Reading.{reading}
-use Rattle.definitions.specs.Replacements.{in_place, is_let_go, is_new_generation, updated, with_next_generation, with_said_status, next_generation, generation}
+use Rattle.definitions.specs.Replacements.{in_place, is_finalized, is_new_generation, updated, with_next_generation, with_status_in, next_generation, generation}
 use Rattle.definitions.specs.Defaults.{whole}
 use Rattle.definitions.specs.SelectorValues.{all_items, items_in}
-use Rattle.definitions.specs.Verbs.{Outcome, shown, outcome_body, said, new_name}
+use Rattle.definitions.specs.Verbs.{Outcome, shown, outcome_body, object_in, new_name}
 use Rattle.definitions.specs.ObjectRequests.{Request, get_object, list_objects, create_object, update_object, update_status, patch_object, delete_object}
 use Rattle.laws.proofs.Cases.{of_accept, of_create, of_delete, of_patch, of_status, of_update}
 use Rattle.laws.proofs.CheckLaws.{all_met}
@@ -57,9 +57,9 @@ none_left (Some p) ds h = (none_cond (are_of p ds) (of_policy p) ds h, λ is. cc
 
 pub spared : DeletesSpareFinalizers
 spared k o h moment =
-    of_delete (λ u. OfRemoved h u (λ gone held. (gone ≡ k) × (all_of_policy (finalizers held) ≡ true) × (o.policy ≡ None → finalizers held ≡ no_items))) (λ f. tt) (λ code body. tt) k o
-    (members h (present h)) (present h) moment (λ held at same same_version low. tt)
-    (λ held at same same_version none low. let left = none_left o.policy (finalizers held) none in (held, sym (found-state h k) ∙ at, (refl, left.0, left.1)))
+    of_delete (λ u. OfRemoved h u (λ gone existing. (gone ≡ k) × (all_of_policy (finalizers existing) ≡ true) × (o.policy ≡ None → finalizers existing ≡ no_items))) (λ f. tt) (λ code body. tt) k o
+    (members h (present h)) (present h) moment (λ existing at same same_version low. tt)
+    (λ existing at same same_version none low. let left = none_left o.policy (finalizers existing) none in (existing, sym (found-state h k) ∙ at, (refl, left.0, left.1)))
 
 -- ---- what another request removes
 
@@ -68,27 +68,27 @@ not_there None h = refl
 not_there (Some d) h = cc
 
 abbrev TakesTheLast : History → Outcome → Type 0
-TakesTheLast h o = OfRemoved h o (λ k held. (is_being_deleted held ≡ true) × (metadata (codes "finalizers") (outcome_body o) ≡ None))
+TakesTheLast h o = OfRemoved h o (λ k existing. (is_being_deleted existing ≡ true) × (metadata (codes "finalizers") (outcome_body o) ≡ None))
 
-let_go_of : (h : History) (k : Name) (held new : Data) → found k (members h (present h)) ≡ Some held → is_let_go held new ≡ true
+let_go_of : (h : History) (k : Key) (existing new : Data) → found k (members h (present h)) ≡ Some existing → is_finalized existing new ≡ true
     → (was : Data) × (state h (present h) k ≡ Some was) × ((is_being_deleted was ≡ true) × (metadata (codes "finalizers") new ≡ None))
-let_go_of h k held new at free =
-    let parts = both_true (is_being_deleted held) (not (is_some (metadata (codes "finalizers") new))) free in
-    (held, sym (found-state h k) ∙ at, (parts.0, not_there (metadata (codes "finalizers") new) parts.1))
+let_go_of h k existing new at free =
+    let parts = both_true (is_being_deleted existing) (not (is_some (metadata (codes "finalizers") new))) free in
+    (existing, sym (found-state h k) ∙ at, (parts.0, not_there (metadata (codes "finalizers") new) parts.1))
 
 pub last_removes : LastFinalizersRemove
 last_removes (get_object k) h moment other = there (TakesTheLast h) (λ f. tt) k shown (found k (members h (present h))) (λ d is. tt)
 last_removes (list_objects v) h moment other = tt
 last_removes (create_object kind ns d) h moment other =
-    of_create (TakesTheLast h) (λ f. tt) kind ns (said kind d) (members h (present h)) (present h) moment (λ o read valid fits free room. tt)
+    of_create (TakesTheLast h) (λ f. tt) kind ns (object_in kind d) (members h (present h)) (present h) moment (λ o read valid fits free room. tt)
 last_removes (update_object k d) h moment other =
-    of_update (TakesTheLast h) (λ f. tt) (λ d. tt) k (said k.kind d) (members h (present h)) (present h) (λ o held read at equal valid fits low. tt)
-    (λ o held read at equal free low. let_go_of h k held (updated k.kind (present h + 1) held (in_place k.kind held o)) at free)
+    of_update (TakesTheLast h) (λ f. tt) (λ d. tt) k (object_in k.kind d) (members h (present h)) (present h) (λ o existing read at equal valid fits low. tt)
+    (λ o existing read at equal free low. let_go_of h k existing (updated k.kind (present h + 1) existing (in_place k.kind existing o)) at free)
 last_removes (update_status k d) h moment other =
-    of_status (TakesTheLast h) (λ f. tt) (λ d. tt) k (reading k.kind d) (members h (present h)) (present h) (λ o held read at equal fits low. tt)
+    of_status (TakesTheLast h) (λ f. tt) (λ d. tt) k (reading k.kind d) (members h (present h)) (present h) (λ o existing read at equal fits low. tt)
 last_removes (patch_object k d) h moment other =
-    of_patch (TakesTheLast h) (λ f. tt) (λ d. tt) k d (members h (present h)) (present h) (λ o held read at equal valid fits low. tt)
-    (λ o held read at equal free low. let_go_of h k held (updated k.kind (present h + 1) held (in_place k.kind held o)) at free)
+    of_patch (TakesTheLast h) (λ f. tt) (λ d. tt) k d (members h (present h)) (present h) (λ o existing read at equal valid fits low. tt)
+    (λ o existing read at equal free low. let_go_of h k existing (updated k.kind (present h + 1) existing (in_place k.kind existing o)) at free)
 last_removes (delete_object k o) h moment other = absurd (true≢false other)
 
 -- ---- since when an object is being deleted
@@ -100,37 +100,37 @@ since_cond : (o : Option (List ℕ)) (ms other : Members) → text_in since ms �
 since_cond None ms other is = tt
 since_cond (Some t) ms other is = is
 
-since_marked : (k : Kind) (r : ℕ) (moment : List ℕ) (left : Items) (held : Data) → KeepsText since held (at_revision r (metadata_of (marked k moment left held)) (marked k moment left held))
-since_marked k r moment left held =
-    let meta = put (codes "finalizers") (array left) (with_deletion k moment held) in
-    let d = marked k moment left held in
-    moved (metadata_text since held) (metadata_text since (at_revision r (metadata_of d) d)) (text_in since (with_deletion k moment held))
-    (text-at_revision since r (metadata_of d) d refl ∙ ap (text_in since) (metadata_of-with meta held) ∙ text_in-put_other since (codes "finalizers") (array left) (with_deletion k moment held) refl)
-    (since_cond (metadata_text since held) (metadata_of held) _ refl)
+since_marked : (k : Kind) (r : ℕ) (moment : List ℕ) (left : Items) (existing : Data) → KeepsText since existing (at_revision r (metadata_of (being_deleted k moment left existing)) (being_deleted k moment left existing))
+since_marked k r moment left existing =
+    let meta = put (codes "finalizers") (array left) (with_deletion k moment existing) in
+    let d = being_deleted k moment left existing in
+    moved (metadata_text since existing) (metadata_text since (at_revision r (metadata_of d) d)) (text_in since (with_deletion k moment existing))
+    (text-at_revision since r (metadata_of d) d refl ∙ ap (text_in since) (metadata_of-with meta existing) ∙ text_in-put_other since (codes "finalizers") (array left) (with_deletion k moment existing) refl)
+    (since_cond (metadata_text since existing) (metadata_of existing) _ refl)
 
-since_in_place : (k : Kind) (r : ℕ) (held o : Data) → KeepsText since held (updated k r held (in_place k held o))
-since_in_place k r held o =
-    let d = in_place k held o in
-    moved (metadata_text since held) (metadata_text since (updated k r held d)) (metadata_text since d) (text-updated k since r held d refl refl) (deletion-in_place k held o)
+since_in_place : (k : Kind) (r : ℕ) (existing o : Data) → KeepsText since existing (updated k r existing (in_place k existing o))
+since_in_place k r existing o =
+    let d = in_place k existing o in
+    moved (metadata_text since existing) (metadata_text since (updated k r existing d)) (metadata_text since d) (text-updated k since r existing d refl refl) (deletion-in_place k existing o)
 
 pub stand : WritesKeepDeletions
 stand q h moment =
     let r = present h + 1 in
-    of_accept (λ u. OfReplaced h u (λ k held new. KeepsText since held new)) (λ f. tt) (λ code body. tt) q h moment
+    of_accept (λ u. OfReplaced h u (λ k existing new. KeepsText since existing new)) (λ f. tt) (λ code body. tt) q h moment
     (λ kind ns d o read valid fits free room.
     let k = new_name kind ns o (members h (present h)) (present h) in
-    of_none (λ held. KeepsText since held (created kind r ns k.name moment o)) (state h (present h) k) (sym (found-state h k) ∙ none_from (found k (members h (present h))) free))
-    (λ k o held at valid fits low.
-    of_held (λ was. KeepsText since was (updated k.kind r held (in_place k.kind held o))) (state h (present h) k) held (sym (found-state h k) ∙ at) (since_in_place k.kind r held o))
-    (λ k o held at free low. tt)
-    (λ k o held at fits low.
-    let d = with_said_status k.kind held o in
-    of_held (λ was. KeepsText since was (at_revision r (metadata_of d) d)) (state h (present h) k) held (sym (found-state h k) ∙ at) (text-restated since k.kind r held o refl))
-    (λ k o held at low.
-    let d = marked k.kind moment (left_by o.policy (finalizers held)) held in
-    of_held (λ was. KeepsText since was (at_revision r (metadata_of d) d)) (state h (present h) k) held (sym (found-state h k) ∙ at)
-    (since_marked k.kind r moment (left_by o.policy (finalizers held)) held))
-    (λ k o held at none low. tt)
+    of_none (λ existing. KeepsText since existing (created kind r ns k.name moment o)) (state h (present h) k) (sym (found-state h k) ∙ none_from (found k (members h (present h))) free))
+    (λ k o existing at valid fits low.
+    of_held (λ was. KeepsText since was (updated k.kind r existing (in_place k.kind existing o))) (state h (present h) k) existing (sym (found-state h k) ∙ at) (since_in_place k.kind r existing o))
+    (λ k o existing at free low. tt)
+    (λ k o existing at fits low.
+    let d = with_status_in k.kind existing o in
+    of_held (λ was. KeepsText since was (at_revision r (metadata_of d) d)) (state h (present h) k) existing (sym (found-state h k) ∙ at) (text-restated since k.kind r existing o refl))
+    (λ k o existing at low.
+    let d = being_deleted k.kind moment (left_by o.policy (finalizers existing)) existing in
+    of_held (λ was. KeepsText since was (at_revision r (metadata_of d) d)) (state h (present h) k) existing (sym (found-state h k) ∙ at)
+    (since_marked k.kind r moment (left_by o.policy (finalizers existing)) existing))
+    (λ k o existing at none low. tt)
 
 -- ---- finalizers that are added
 
@@ -138,14 +138,14 @@ pub member-at_revision : (q : List ℕ) (r : ℕ) (meta : Members) (d : Data) �
 member-at_revision q r meta d other =
     ap (get_member q) (metadata_of-with (put (codes "resourceVersion") _ meta) d) ∙ get_member-put_other q (codes "resourceVersion") _ meta (apart q (codes "resourceVersion") other)
 
-pub member-with_next_generation : (q : List ℕ) (is_new : Bool) (held : Data) (meta : Members) → bytes_eq q (codes "generation") ≡ false
-    → get_member q (with_next_generation is_new held meta) ≡ get_member q meta
-member-with_next_generation q true held meta other = get_member-put_other q (codes "generation") (whole (next_generation (generation held))) meta (apart q (codes "generation") other)
-member-with_next_generation q false held meta other = refl
+pub member-with_next_generation : (q : List ℕ) (is_new : Bool) (existing : Data) (meta : Members) → bytes_eq q (codes "generation") ≡ false
+    → get_member q (with_next_generation is_new existing meta) ≡ get_member q meta
+member-with_next_generation q true existing meta other = get_member-put_other q (codes "generation") (whole (next_generation (generation existing))) meta (apart q (codes "generation") other)
+member-with_next_generation q false existing meta other = refl
 
-pub member-updated : (q : List ℕ) (k : Kind) (r : ℕ) (held d : Data) → bytes_eq q (codes "resourceVersion") ≡ false → bytes_eq q (codes "generation") ≡ false → metadata q (updated k r held d) ≡ metadata q d
-member-updated q k r held d a b =
-    member-at_revision q r (with_next_generation (is_new_generation k held d) held (metadata_of d)) d a ∙ member-with_next_generation q (is_new_generation k held d) held (metadata_of d) b
+pub member-updated : (q : List ℕ) (k : Kind) (r : ℕ) (existing d : Data) → bytes_eq q (codes "resourceVersion") ≡ false → bytes_eq q (codes "generation") ≡ false → metadata q (updated k r existing d) ≡ metadata q d
+member-updated q k r existing d a b =
+    member-at_revision q r (with_next_generation (is_new_generation k existing d) existing (metadata_of d)) d a ∙ member-with_next_generation q (is_new_generation k existing d) existing (metadata_of d) b
 
 text_held : (fs : Items) (t : List ℕ) (d : Data) → text_is (has_text fs) d ≡ true → text_is (bytes_eq t) d ≡ true → has_text fs t ≡ true
 text_held fs t null a b = cc
@@ -171,25 +171,25 @@ held_or : (b c : Bool) → b ≡ true → (not b || c) ≡ true → c ≡ true
 held_or true c is h = h
 held_or false c is h = cc
 
-adds_none : (k : Kind) (name : List ℕ) (present : ℕ) (held d : Data) → update_fault k name present held d ≡ None → is_being_deleted held ≡ true
-    → all_items (text_is (has_text (finalizers held))) (finalizers d) ≡ true
-adds_none k name present held d valid deleted =
-    let met = all_met (checks k name present (adds_no_finalizer held d) (is_selector_kept held d) d) valid in
-    held_or (is_being_deleted held) _ deleted (both_true _ (adds_no_finalizer held d) met.1.1.1.0).1
+adds_none : (k : Kind) (name : List ℕ) (present : ℕ) (existing d : Data) → update_fault k name present existing d ≡ None → is_being_deleted existing ≡ true
+    → all_items (text_is (has_text (finalizers existing))) (finalizers d) ≡ true
+adds_none k name present existing d valid deleted =
+    let met = all_met (checks k name present (adds_no_finalizer existing d) (is_selector_kept existing d) d) valid in
+    held_or (is_being_deleted existing) _ deleted (both_true _ (adds_no_finalizer existing d) met.1.1.1.0).1
 
 abbrev AddsNone : Data → Data → Type 0
-AddsNone held new = (t : List ℕ) → is_being_deleted held ≡ true → has_text (finalizers new) t ≡ true → has_text (finalizers held) t ≡ true
+AddsNone existing new = (t : List ℕ) → is_being_deleted existing ≡ true → has_text (finalizers new) t ≡ true → has_text (finalizers existing) t ≡ true
 
-update_adds : (k : Name) (r : ℕ) (held d : Data) → update_fault k.kind k.name r held d ≡ None → AddsNone held (updated k.kind (r + 1) held d)
-update_adds k r held d valid t deleted h =
-    held_text_of (finalizers d) (finalizers held) t (adds_none k.kind k.name r held d valid deleted)
-    (sym (ap (λ o. has_text (items_in o) t) (member-updated (codes "finalizers") k.kind (r + 1) held d refl refl)) ∙ h)
+update_adds : (k : Key) (r : ℕ) (existing d : Data) → update_fault k.kind k.name r existing d ≡ None → AddsNone existing (updated k.kind (r + 1) existing d)
+update_adds k r existing d valid t deleted h =
+    held_text_of (finalizers d) (finalizers existing) t (adds_none k.kind k.name r existing d valid deleted)
+    (sym (ap (λ o. has_text (items_in o) t) (member-updated (codes "finalizers") k.kind (r + 1) existing d refl refl)) ∙ h)
 
-pub member-restated : (q : List ℕ) (k : Kind) (r : ℕ) (held o : Data) → bytes_eq q (codes "resourceVersion") ≡ false
-    → metadata q (at_revision r (metadata_of (with_said_status k held o)) (with_said_status k held o)) ≡ metadata q held
-member-restated q k r held o other =
-    let d = with_said_status k held o in
-    member-at_revision q r (metadata_of d) d other ∙ ap (get_member q) (metadata_of-status _ held)
+pub member-restated : (q : List ℕ) (k : Kind) (r : ℕ) (existing o : Data) → bytes_eq q (codes "resourceVersion") ≡ false
+    → metadata q (at_revision r (metadata_of (with_status_in k existing o)) (with_status_in k existing o)) ≡ metadata q existing
+member-restated q k r existing o other =
+    let d = with_status_in k existing o in
+    member-at_revision q r (metadata_of d) d other ∙ ap (get_member q) (metadata_of-status _ existing)
 
 others_has : (last ds : Items) (t : List ℕ) → has_text (others_then last ds) t ≡ true → (has_text last t ≡ true) ⊎ (has_text ds t ≡ true)
 others_has last no_items t h = inl h
@@ -223,66 +223,66 @@ left_has (Some p) ds t h = named (left_cond (are_of p ds) (of_policy p) ds t h)
     named (inl a) = inl (p, a)
     named (inr a) = inr a
 
-pub finalizers-marked : (k : Kind) (r : ℕ) (moment : List ℕ) (left : Items) (held : Data) → finalizers (at_revision r (metadata_of (marked k moment left held)) (marked k moment left held)) ≡ left
-finalizers-marked k r moment left held =
-    let d = marked k moment left held in
-    let meta = put (codes "finalizers") (array left) (with_deletion k moment held) in
-    ap items_in (member-at_revision (codes "finalizers") r (metadata_of d) d refl ∙ ap (get_member (codes "finalizers")) (metadata_of-with meta held) ∙ get_member-put (codes "finalizers") (array left) (with_deletion k moment held))
+pub finalizers-marked : (k : Kind) (r : ℕ) (moment : List ℕ) (left : Items) (existing : Data) → finalizers (at_revision r (metadata_of (being_deleted k moment left existing)) (being_deleted k moment left existing)) ≡ left
+finalizers-marked k r moment left existing =
+    let d = being_deleted k moment left existing in
+    let meta = put (codes "finalizers") (array left) (with_deletion k moment existing) in
+    ap items_in (member-at_revision (codes "finalizers") r (metadata_of d) d refl ∙ ap (get_member (codes "finalizers")) (metadata_of-with meta existing) ∙ get_member-put (codes "finalizers") (array left) (with_deletion k moment existing))
 
 abbrev Added : Request → Data → Data → Type 0
-Added q held new =
-    (t : List ℕ) → is_being_deleted held ≡ true → has_text (finalizers new) t ≡ true → ((is_delete q ≡ true) × (policy : Policy) × (has_text (of_policy policy) t ≡ true)) ⊎ (has_text (finalizers held) t ≡ true)
+Added q existing new =
+    (t : List ℕ) → is_being_deleted existing ≡ true → has_text (finalizers new) t ≡ true → ((is_delete q ≡ true) × (policy : Policy) × (has_text (of_policy policy) t ≡ true)) ⊎ (has_text (finalizers existing) t ≡ true)
 
 abbrev AddedBy : Request → History → Outcome → Type 0
-AddedBy q h o = OfReplaced h o (λ k held new. Added q held new)
+AddedBy q h o = OfReplaced h o (λ k existing new. Added q existing new)
 
-added_none : (q : Request) (held new : Data) → AddsNone held new → Added q held new
-added_none q held new none t deleted h = inr (none t deleted h)
+added_none : (q : Request) (existing new : Data) → AddsNone existing new → Added q existing new
+added_none q existing new none t deleted h = inr (none t deleted h)
 
-added_marked : (k l : Name) (o : Options) (r : ℕ) (moment : List ℕ) (held : Data)
-    → Added (delete_object k o) held (at_revision r (metadata_of (marked l.kind moment (left_by o.policy (finalizers held)) held)) (marked l.kind moment (left_by o.policy (finalizers held)) held))
-added_marked k l o r moment held t deleted h =
-    by_policy (left_has o.policy (finalizers held) t (sym (ap (λ fs. has_text fs t) (finalizers-marked l.kind r moment (left_by o.policy (finalizers held)) held)) ∙ h))
+added_marked : (k l : Key) (o : Options) (r : ℕ) (moment : List ℕ) (existing : Data)
+    → Added (delete_object k o) existing (at_revision r (metadata_of (being_deleted l.kind moment (left_by o.policy (finalizers existing)) existing)) (being_deleted l.kind moment (left_by o.policy (finalizers existing)) existing))
+added_marked k l o r moment existing t deleted h =
+    by_policy (left_has o.policy (finalizers existing) t (sym (ap (λ fs. has_text fs t) (finalizers-marked l.kind r moment (left_by o.policy (finalizers existing)) existing)) ∙ h))
   where
-    by_policy : ((policy : Policy) × (has_text (of_policy policy) t ≡ true)) ⊎ (has_text (finalizers held) t ≡ true)
-        → ((is_delete (delete_object k o) ≡ true) × (policy : Policy) × (has_text (of_policy policy) t ≡ true)) ⊎ (has_text (finalizers held) t ≡ true)
+    by_policy : ((policy : Policy) × (has_text (of_policy policy) t ≡ true)) ⊎ (has_text (finalizers existing) t ≡ true)
+        → ((is_delete (delete_object k o) ≡ true) × (policy : Policy) × (has_text (of_policy policy) t ≡ true)) ⊎ (has_text (finalizers existing) t ≡ true)
     by_policy (inl a) = inl (refl, a.0, a.1)
     by_policy (inr a) = inr a
 
-pub at_held : (h : History) (k : Name) (held : Data) (P : Data → Type 0) → found k (members h (present h)) ≡ Some held → P held → IfSome (state h (present h) k) P
-at_held h k held P at p = of_held P (state h (present h) k) held (sym (found-state h k) ∙ at) p
+pub at_held : (h : History) (k : Key) (existing : Data) (P : Data → Type 0) → found k (members h (present h)) ≡ Some existing → P existing → IfSome (state h (present h) k) P
+at_held h k existing P at p = of_held P (state h (present h) k) existing (sym (found-state h k) ∙ at) p
 
 pub adds_no_other : NoFinalizerIsAdded
 adds_no_other (get_object k) h moment = there (AddedBy (get_object k) h) (λ f. tt) k shown (found k (members h (present h))) (λ d is. tt)
 adds_no_other (list_objects v) h moment = tt
 adds_no_other (create_object kind ns d) h moment =
-    of_create (AddedBy (create_object kind ns d) h) (λ f. tt) kind ns (said kind d) (members h (present h)) (present h) moment
+    of_create (AddedBy (create_object kind ns d) h) (λ f. tt) kind ns (object_in kind d) (members h (present h)) (present h) moment
     (λ o read valid fits free room.
     let k = new_name kind ns o (members h (present h)) (present h) in
-    of_none (λ held. Added (create_object kind ns d) held (created kind (present h + 1) ns k.name moment o)) (state h (present h) k) (sym (found-state h k) ∙ none_from (found k (members h (present h))) free))
+    of_none (λ existing. Added (create_object kind ns d) existing (created kind (present h + 1) ns k.name moment o)) (state h (present h) k) (sym (found-state h k) ∙ none_from (found k (members h (present h))) free))
 adds_no_other (update_object k d) h moment =
-    of_update (AddedBy (update_object k d) h) (λ f. tt) (λ d. tt) k (said k.kind d) (members h (present h)) (present h)
-    (λ o held read at equal valid fits low.
-    let new = updated k.kind (present h + 1) held (in_place k.kind held o) in
-    at_held h k held (λ was. Added (update_object k d) was new) at (added_none (update_object k d) held new (update_adds k (present h) held (in_place k.kind held o) valid)))
-    (λ o held read at equal free low. tt)
+    of_update (AddedBy (update_object k d) h) (λ f. tt) (λ d. tt) k (object_in k.kind d) (members h (present h)) (present h)
+    (λ o existing read at equal valid fits low.
+    let new = updated k.kind (present h + 1) existing (in_place k.kind existing o) in
+    at_held h k existing (λ was. Added (update_object k d) was new) at (added_none (update_object k d) existing new (update_adds k (present h) existing (in_place k.kind existing o) valid)))
+    (λ o existing read at equal free low. tt)
 adds_no_other (update_status k d) h moment =
     of_status (AddedBy (update_status k d) h) (λ f. tt) (λ d. tt) k (reading k.kind d) (members h (present h)) (present h)
-    (λ o held read at equal fits low.
-    let made = with_said_status k.kind held o in
+    (λ o existing read at equal fits low.
+    let made = with_status_in k.kind existing o in
     let new = at_revision (present h + 1) (metadata_of made) made in
-    at_held h k held (λ was. Added (update_status k d) was new) at
-    (added_none (update_status k d) held new
-    (λ t deleted has. sym (ap (λ m. has_text (items_in m) t) (member-restated (codes "finalizers") k.kind (present h + 1) held o refl)) ∙ has)))
+    at_held h k existing (λ was. Added (update_status k d) was new) at
+    (added_none (update_status k d) existing new
+    (λ t deleted has. sym (ap (λ m. has_text (items_in m) t) (member-restated (codes "finalizers") k.kind (present h + 1) existing o refl)) ∙ has)))
 adds_no_other (patch_object k d) h moment =
     of_patch (AddedBy (patch_object k d) h) (λ f. tt) (λ d. tt) k d (members h (present h)) (present h)
-    (λ o held read at equal valid fits low.
-    let new = updated k.kind (present h + 1) held (in_place k.kind held o) in
-    at_held h k held (λ was. Added (patch_object k d) was new) at (added_none (patch_object k d) held new (update_adds k (present h) held (in_place k.kind held o) valid)))
-    (λ o held read at equal free low. tt)
+    (λ o existing read at equal valid fits low.
+    let new = updated k.kind (present h + 1) existing (in_place k.kind existing o) in
+    at_held h k existing (λ was. Added (patch_object k d) was new) at (added_none (patch_object k d) existing new (update_adds k (present h) existing (in_place k.kind existing o) valid)))
+    (λ o existing read at equal free low. tt)
 adds_no_other (delete_object k o) h moment =
     of_delete (AddedBy (delete_object k o) h) (λ f. tt) (λ code body. tt) k o (members h (present h)) (present h) moment
-    (λ held at same same_version low.
-    let d = marked k.kind moment (left_by o.policy (finalizers held)) held in
-    at_held h k held (λ was. Added (delete_object k o) was (at_revision (present h + 1) (metadata_of d) d)) at (added_marked k k o (present h + 1) moment held))
-    (λ held at same same_version none low. tt)
+    (λ existing at same same_version low.
+    let d = being_deleted k.kind moment (left_by o.policy (finalizers existing)) existing in
+    at_held h k existing (λ was. Added (delete_object k o) was (at_revision (present h + 1) (metadata_of d) d)) at (added_marked k k o (present h + 1) moment existing))
+    (λ existing at same same_version none low. tt)

@@ -15,7 +15,7 @@ use Rattle.serde_json.specs.Written.{compact_text, has_float, items_have_float, 
 use Rattle.definitions.specs.declared.kinds.Kind.{Kind}
 use Rattle.definitions.specs.History.{History, Write, View, Members, writes, present, list}
 use Rattle.definitions.specs.Kinds.{api_version, kind_text}
-use Rattle.definitions.specs.Names.{Name}
+use Rattle.definitions.specs.Keys.{Key}
 use Rattle.definitions.specs.Reached.{IsParsed, AreParsed, IsReached}
 use Rattle.definitions.specs.Values.{members_of, without}
 use Rattle.definitions.specs.Verbs.{as_item, list_body}
@@ -76,7 +76,7 @@ item_parsed d p =
     joined (without (codes "kind") (without (codes "apiVersion") (members_of d)))
     (Both-without (codes "kind") (without (codes "apiVersion") (members_of d)) (Both-without (codes "apiVersion") (members_of d) (inside d p)))
 
-items_parsed : (ms : Members) → AllByRecursion (λ (m : Name × Data). IsParsed m.1) ms → AreParsed (items_of (map (λ m. as_item m.1) ms))
+items_parsed : (ms : Members) → AllByRecursion (λ (m : Key × Data). IsParsed m.1) ms → AreParsed (items_of (map (λ m. as_item m.1) ms))
 items_parsed [] a = tt
 items_parsed (m ∷ ms) a = (item_parsed m.1 a.0, items_parsed ms a.1)
 
@@ -108,13 +108,13 @@ replies_read h size k reached =
 abbrev ReadsBack : Data → Type 0
 ReadsBack d = read (compact_text d) ≡ Some d
 
-object_back : (k : Name) (r : ℕ) (d : Data) → IsStored k r d → ReadsBack d
+object_back : (k : Key) (r : ℕ) (d : Data) → IsStored k r d → ReadsBack d
 object_back k r d stored =
     let body = read_body k.kind d d stored.kept.reads in
     let low = nests d body in
     read_back d stored.parsed (has_float-is_body d body) (omega (arith, low))
 
-some_back : (k : Name) (r : ℕ) (o : Option Data) → IfSome o (IsStored k r) → IfSome o ReadsBack
+some_back : (k : Key) (r : ℕ) (o : Option Data) → IfSome o (IsStored k r) → IfSome o ReadsBack
 some_back k r None stored = tt
 some_back k r (Some d) stored = object_back k r d stored
 

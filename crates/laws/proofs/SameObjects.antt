@@ -8,7 +8,7 @@ use Rattle.serde_json.specs.Find.{get, get_member}
 use Rattle.serde_json.specs.Written.{compact_text}
 use Rattle.definitions.specs.Metadata.{metadata, metadata_of, with_metadata}
 use Rattle.laws.specs.ReplacementLaws.{without_version, IsReadBack, SameButForTheVersion, UpdatesAreAtTheVersion}
-use Rattle.definitions.specs.Replacements.{as_held, keeping, kept, kept_of, said_status}
+use Rattle.definitions.specs.Replacements.{as_held, keeping, kept, kept_of, status_in}
 use Rattle.definitions.specs.Values.{data_of, members_of, inner_of, without}
 use Rattle.serde_json.proofs.Views.{get_member-put}
 use Rattle.definitions.proofs.JsonMembers.{metadata_of-with}
@@ -92,5 +92,5 @@ at_the_version k stored o v h =
     let rv = codes "resourceVersion" in
     let said = keeping kept (metadata_of stored) (metadata_of o) in (
       ap (get_member rv) (metadata_of-with said (object (keeping (kept_of k) (members_of stored) (members_of o)))) ∙ last_kept (metadata_of stored) (metadata_of o) v h,
-      ap (get_member rv) (metadata_of-status (said_status k (get (codes "status") o)) stored) ∙ h,
+      ap (get_member rv) (metadata_of-status (status_in k (get (codes "status") o)) stored) ∙ h,
     )

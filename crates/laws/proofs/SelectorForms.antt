@@ -12,7 +12,7 @@ use Rattle.definitions.specs.declared.schemas.Schema.TheVariants.{Expression}
 use Rattle.definitions.specs.Labels.{is_label_key, is_label_value}
 use Rattle.definitions.specs.Reading.{fits, items_fit, tidied, tidied_items}
 use Rattle.laws.specs.SelectorForms.{is_sound, text_items, operator_name, expression_value, expression_items, selector_value, pair_value}
-use Rattle.definitions.specs.SelectorValues.{mistyped, operator_named, item_values, fitting, expression_requirement, expression_requirements, both, unfit, said_by_value}
+use Rattle.definitions.specs.SelectorValues.{mistyped, operator_named, item_values, fitting, expression_requirement, expression_requirements, both, unfit, selector_of_value}
 use Rattle.definitions.specs.Selectors.{Requirement, label_key, label_value, each_read, put_first, requiring}
 
 pub first : (u v : Bool) → (u && v) ≡ true → u ≡ true
@@ -96,7 +96,7 @@ all-tidy [] = refl
 all-tidy (r ∷ rs) = ap₂ item (one-tidy r ∙ ap (with_values r) (texts-tidy r.values)) (all-tidy rs)
 
 -- of a value the parts that are read
-value-parts : (rs : List Requirement) → said_by_value (selector_value rs)
+value-parts : (rs : List Requirement) → selector_of_value (selector_value rs)
     ≡ cond (items_have_float (expression_items rs) || false || not (items_fit (Object Expression) (expression_items rs) && true)) (Err mistyped)
     (ok_or (both (Some []) (expression_requirements (tidied_items (Object Expression) (expression_items rs)))) unfit)
 unfolding serde_json_on_literals is_utf8
@@ -116,16 +116,16 @@ expressions-read : (rs : List Requirement) → list_all is_sound rs ≡ true →
 expressions-read [] h = refl
 expressions-read (r ∷ rs) h = ap₂ put_first (expression-read r (first (is_sound r) (list_all is_sound rs) h)) (expressions-read rs (second (is_sound r) (list_all is_sound rs) h))
 
-value-says : (rs : List Requirement) → said_by_value (selector_value rs) ≡ ok_or (both (Some []) (expression_requirements (expression_items rs))) unfit
+value-says : (rs : List Requirement) → selector_of_value (selector_value rs) ≡ ok_or (both (Some []) (expression_requirements (expression_items rs))) unfit
 value-says rs = value-parts rs ∙ rw (all-whole rs, all-fit rs, all-tidy rs) refl
 
-pub value-read : (rs : List Requirement) → list_all is_sound rs ≡ true → said_by_value (selector_value rs) ≡ Ok rs
+pub value-read : (rs : List Requirement) → list_all is_sound rs ≡ true → selector_of_value (selector_value rs) ≡ Ok rs
 value-read rs h = value-says rs ∙ ap (λ x. ok_or (both (Some []) x) unfit) (expressions-read rs h)
 
-pair-says : (k v : List ℕ) → said_by_value (pair_value k v) ≡ ok_or (both (put_first (requiring (label_key k) In (each_read label_value (v ∷ []))) (Some [])) (Some [])) unfit
+pair-says : (k v : List ℕ) → selector_of_value (pair_value k v) ≡ ok_or (both (put_first (requiring (label_key k) In (each_read label_value (v ∷ []))) (Some [])) (Some [])) unfit
 unfolding serde_json_on_literals is_utf8
 pair-says k v = refl
 
-pub pair-read : (k v : List ℕ) → is_label_key k ≡ true → is_label_value v ≡ true → said_by_value (pair_value k v) ≡ Ok (record { key = k; operator = In; values = v ∷ [] } ∷ [])
+pub pair-read : (k v : List ℕ) → is_label_key k ≡ true → is_label_value v ≡ true → selector_of_value (pair_value k v) ≡ Ok (record { key = k; operator = In; values = v ∷ [] } ∷ [])
 pair-read k v h g =
     pair-says k v ∙ ap₂ (λ x y. ok_or (both (put_first (requiring x In (put_first y (Some []))) (Some [])) (Some [])) unfit) (own-key k h) (own-value v g)

@@ -9,7 +9,7 @@ use Rattle.laws.specs.GrammarLaws.{ReadTextsAreWritten}
 use Rattle.laws.specs.SelectorGrammar.{AreBlanks, IsKeyText, IsSign, IsWord, IsRequirementText, alone, negated, compared, listed, IsSelectorText}
 use Rattle.definitions.specs.Selectors.{Requirement, label_key, label_value, each_read, only_if, requiring}
 use Rattle.definitions.specs.SelectorTexts as texts
-use Rattle.definitions.specs.SelectorTexts.{is_blank, is_comma, is_equals, is_opening, trimmed, still_inside, parts_from, parts, before_last, compared_requirement, without_equals, set_operator, value_in, listed_values, in_requirement, plain_requirement, unblanked_requirement, requirement, said_by_text}
+use Rattle.definitions.specs.SelectorTexts.{is_blank, is_comma, is_equals, is_opening, trimmed, still_inside, parts_from, parts, before_last, compared_requirement, without_equals, set_operator, value_in, listed_values, in_requirement, plain_requirement, unblanked_requirement, requirement, selector_of_text}
 use Rattle.laws.proofs.SelectorBlanks.{only-blanks, shortened, trims}
 use Rattle.laws.proofs.SelectorForms.{first}
 use Rattle.laws.proofs.SelectorPlain.{and-true}
@@ -252,7 +252,7 @@ as-selector [] t h = absurd h
 as-selector (r ∷ []) t h = h
 as-selector (r ∷ s ∷ rs) t h = (h.0, h.1, h.2, h.3, as-selector (s ∷ rs) h.1 h.4)
 
-one-none : (rs : List Requirement) → said_by_text [] ≡ Some rs → rs ≡ []
+one-none : (rs : List Requirement) → selector_of_text [] ≡ Some rs → rs ≡ []
 one-none rs h = one-list [] rs h
 
 pub read_back : ReadTextsAreWritten

@@ -11,8 +11,8 @@ use Rattle.definitions.specs.declared.selectors.Operator.{Operator}
 use Rattle.definitions.specs.declared.selectors.Operator.TheVariants.{In, NotIn, Exists, DoesNotExist}
 use Rattle.definitions.specs.Labels.{is_label_key, is_label_value}
 use Rattle.laws.specs.SelectorForms.{is_sound}
-use Rattle.definitions.specs.SelectorTexts.{is_blank, is_comma, is_equals, is_opening, trimmed, without_equals, parts, before_last, compared, comparison, compared_requirement, set_operator, value_in, listed_values, in_requirement, plain_requirement, unblanked_requirement, requirement, said_by_text}
-use Rattle.definitions.specs.SelectorValues.{Flaw, mistyped, unfit, selector_shape, requirements_in, text_in, items_in, label_requirements, operator_named, item_values, fitting, expression_requirement, expression_requirements, both, said_by_value}
+use Rattle.definitions.specs.SelectorTexts.{is_blank, is_comma, is_equals, is_opening, trimmed, without_equals, parts, before_last, compared, comparison, compared_requirement, set_operator, value_in, listed_values, in_requirement, plain_requirement, unblanked_requirement, requirement, selector_of_text}
+use Rattle.definitions.specs.SelectorValues.{Flaw, mistyped, unfit, selector_shape, requirements_in, text_in, items_in, label_requirements, operator_named, item_values, fitting, expression_requirement, expression_requirements, both, selector_of_value}
 use Rattle.definitions.specs.Values.{inner_of}
 use Rattle.definitions.specs.Selectors.{Requirement, label_key, label_value, each_read, only_if, put_first, requiring}
 use Rattle.laws.proofs.SelectorPlain.{and-true}
@@ -151,7 +151,7 @@ each-sound : (ts : List (List ℕ)) → AreSoundOr (each_read requirement ts)
 each-sound [] = refl
 each-sound (t ∷ ts) = put-sound (requirement t) (each_read requirement ts) (unblanked-sound (trimmed t)) (each-sound ts)
 
-pub text-sound : (t : List ℕ) → AreSoundOr (said_by_text t)
+pub text-sound : (t : List ℕ) → AreSoundOr (selector_of_text t)
 text-sound [] = refl
 text-sound (b ∷ t) = each-sound (parts (b ∷ t))
 
@@ -208,15 +208,15 @@ members-ok d =
     let others = expression_requirements (items_in (get (codes "matchExpressions") d)) in
     unfit-or (both pairs others) (both-sound pairs others (pairs-sound (inner_of (get (codes "matchLabels") d))) (expressions-sound (items_in (get (codes "matchExpressions") d))))
 
-value-ok : (d : Data) → AreSoundOk (said_by_value d)
+value-ok : (d : Data) → AreSoundOk (selector_of_value d)
 value-ok d = by (has_float d || not (fits selector_shape d))
   where
     by : (b : Bool) → AreSoundOk (if b then Err mistyped else ok_or (requirements_in (tidied selector_shape d)) unfit)
     by true = tt
     by false = members-ok (tidied selector_shape d)
 
-pub said-sound : (t : List ℕ) (rs : List Requirement) → said_by_text t ≡ Some rs → list_all is_sound rs ≡ true
+pub said-sound : (t : List ℕ) (rs : List Requirement) → selector_of_text t ≡ Some rs → list_all is_sound rs ≡ true
 said-sound t rs h = subst AreSoundOr h (text-sound t)
 
-pub held-sound : (d : Data) (rs : List Requirement) → said_by_value d ≡ Ok rs → list_all is_sound rs ≡ true
-held-sound d rs h = subst AreSoundOk h (value-ok d)
+pub existing-sound : (d : Data) (rs : List Requirement) → selector_of_value d ≡ Ok rs → list_all is_sound rs ≡ true
+existing-sound d rs h = subst AreSoundOk h (value-ok d)

@@ -9,7 +9,7 @@ use Rattle.definitions.specs.declared.selectors.Operator.{Operator}
 use Rattle.definitions.specs.declared.selectors.Operator.TheVariants.{In, NotIn, Exists, DoesNotExist}
 use Rattle.definitions.specs.Labels.{is_label_key, is_label_value}
 use Rattle.laws.specs.SelectorForms.{is_sound, text_with, requirement_text, selector_text}
-use Rattle.definitions.specs.SelectorTexts.{is_blank, is_comma, is_equals, is_opening, trimmed, still_inside, parts_from, parts, before_last, compared, compared_requirement, without_equals, set_operator, value_in, listed_values, in_requirement, plain_requirement, unblanked_requirement, requirement, said_by_text}
+use Rattle.definitions.specs.SelectorTexts.{is_blank, is_comma, is_equals, is_opening, trimmed, still_inside, parts_from, parts, before_last, compared, compared_requirement, without_equals, set_operator, value_in, listed_values, in_requirement, plain_requirement, unblanked_requirement, requirement, selector_of_text}
 use Rattle.definitions.specs.SelectorValues.{fitting}
 use Rattle.definitions.specs.Selectors.{Requirement, label_key, label_value, each_read, only_if, put_first, requiring}
 use Rattle.laws.proofs.SelectorForms.{first, second, own-key, own-value}
@@ -368,7 +368,7 @@ parts-read r (s ∷ rs) h =
     ap (each_read requirement) (more-parts (requirement_text r) u t.0)
     ∙ ap₂ put_first t.1 (parts-read s rs (second (is_sound r) (list_all is_sound (s ∷ rs)) h))
 
-pub said : (t : List ℕ) → 0 < length t → said_by_text t ≡ each_read requirement (parts t)
+pub said : (t : List ℕ) → 0 < length t → selector_of_text t ≡ each_read requirement (parts t)
 said [] l = absurd (no-length l)
   where
     no-length : 0 < length {A = ℕ} [] → ⊥
@@ -384,12 +384,12 @@ text-length r (s ∷ rs) h =
     let t = sound-text r (first (is_sound r) (list_all is_sound (s ∷ rs)) h) in
     longer (requirement_text r) (44 ∷ selector_text (s ∷ rs)) t.2
 
-pub text-read : (rs : List Requirement) → list_all is_sound rs ≡ true → said_by_text (selector_text rs) ≡ Some rs
+pub text-read : (rs : List Requirement) → list_all is_sound rs ≡ true → selector_of_text (selector_text rs) ≡ Some rs
 text-read [] h = refl
 text-read (r ∷ rs) h = said (selector_text (r ∷ rs)) (text-length r rs h) ∙ parts-read r rs h
 
 one-pair : (k v : List ℕ) → is_label_key k ≡ true → is_label_value v ≡ true → is_sound (record { key = k; operator = In; values = v ∷ [] }) ≡ true
 one-pair k v h g = and-true (is_label_key k && (is_label_value v && true)) true (and-true (is_label_key k) (is_label_value v && true) h (and-true (is_label_value v) true g refl)) refl
 
-pub equality-read : (k v : List ℕ) → is_label_key k ≡ true → is_label_value v ≡ true → said_by_text (k ++ (codes "=" ++ v)) ≡ Some (record { key = k; operator = In; values = v ∷ [] } ∷ [])
+pub equality-read : (k v : List ℕ) → is_label_key k ≡ true → is_label_value v ≡ true → selector_of_text (k ++ (codes "=" ++ v)) ≡ Some (record { key = k; operator = In; values = v ∷ [] } ∷ [])
 equality-read k v h g = let r : Requirement = record { key = k; operator = In; values = v ∷ [] } in text-read (r ∷ []) (and-true (is_sound r) true (one-pair k v h g) refl)

@@ -7,7 +7,7 @@ use Rattle.definitions.specs.declared.selectors.Operator.TheVariants.{In, NotIn,
 use Rattle.laws.specs.GrammarLaws.{WrittenTextsAreRead, TextsAreClear}
 use Rattle.laws.specs.SelectorGrammar.{AreBlanks, IsValueText, AreValuesText, IsWord, IsListedText, IsRequirementText, alone, negated, compared, listed, IsSelectorText}
 use Rattle.definitions.specs.Selectors.{Requirement, label_key, label_value, each_read, put_first, requiring}
-use Rattle.definitions.specs.SelectorTexts.{is_blank, is_comma, is_opening, trimmed, parts, before_last, set_operator, value_in, listed_values, plain_requirement, unblanked_requirement, requirement, said_by_text}
+use Rattle.definitions.specs.SelectorTexts.{is_blank, is_comma, is_opening, trimmed, parts, before_last, set_operator, value_in, listed_values, plain_requirement, unblanked_requirement, requirement, selector_of_text}
 use Rattle.laws.proofs.SelectorBlanks.{is_soft, soft-no-comma, soft-no-opening, all-append, all-weaker, all-none, soft-plain, soft-blanks, trimmed-around, trimmed-plain-around, all-blank}
 use Rattle.laws.proofs.SelectorCompared.{IsRead, closes-soft, closes-only, closes-inner, is_inner, inner-soft, some-text, value-soft, value-trimmed, some-key, alone-read, negated-read, compared-read, begins-key, plain-key}
 use Rattle.laws.proofs.SelectorForms.{first, second, own-key, own-value}
@@ -153,7 +153,7 @@ some-read r [] t w = (one-read t r w).2
 some-read r (s ∷ rs) t w = subst (λ x. 0 < length x) (sym w.2) (some-text w.0 w.1 44)
 
 pub written : WrittenTextsAreRead
-written t [] h = ap said_by_text h
+written t [] h = ap selector_of_text h
 written t (r ∷ rs) h = said t (some-read r rs t h) ∙ parts-read r rs t h
 
 one-list : (rs ss : List Requirement) → Some rs ≡ Some ss → rs ≡ ss

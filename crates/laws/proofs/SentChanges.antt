@@ -11,10 +11,10 @@ use Rattle.definitions.specs.declared.kinds.Kind.TheVariants.{ConfigMap, Pod, Re
 use Rattle.definitions.specs.declared.schemas.Shape.TheVariants.{Object}
 use Rattle.definitions.specs.declared.schemas.Schema.TheVariants.{Root}
 use Rattle.definitions.specs.Kinds.{rank}
-use Rattle.definitions.specs.Changes.{Change, change_of, changes_after, gone_at}
+use Rattle.definitions.specs.Events.{Event, event_of, changes_after, gone_at}
 use Rattle.definitions.specs.History.{Write, writes, present, up_to, last_of, in_view, seen}
 use Rattle.definitions.specs.Metadata.{at_revision, metadata_of, metadata_text, name, namespace, uid}
-use Rattle.definitions.specs.Names.{Name}
+use Rattle.definitions.specs.Keys.{Key}
 use Rattle.definitions.specs.Reading.{reading, is_body, fits, tidied, filled}
 use Rattle.controllers.specs.Reflectors.{shown, shown_read, has_identity, revision, name_in}
 use Rattle.definitions.specs.Revisions.{revision_of}
@@ -38,7 +38,7 @@ gone_text : (q : List ℕ) (r : ℕ) (d : Data) → bytes_eq q (codes "resourceV
 gone_text q r d other =
     metadata_text-with q (put (codes "resourceVersion") (string (decimal r)) (metadata_of d)) d ∙ text_in-put_other q (codes "resourceVersion") (string (decimal r)) (metadata_of d) other
 
-gone_kept : (k : Name) (s r : ℕ) (d : Data) → IsStored k s d → r ≤ 9007199254740991 → IsKept k r (gone_at r d)
+gone_kept : (k : Key) (s r : ℕ) (d : Data) → IsStored k s d → r ≤ 9007199254740991 → IsKept k r (gone_at r d)
 gone_kept k s r d was low =
     let w = whole_stored k s d was in
     record {
@@ -49,7 +49,7 @@ gone_kept k s r d was low =
       version = version-at_revision r (metadata_of d) d;
     }
 
-gone_fits : (k : Name) (s r : ℕ) (d : Data) → IsStored k s d → r ≤ 9007199254740991 → length (compact_text (gone_at r d)) ≤ 1574912
+gone_fits : (k : Key) (s r : ℕ) (d : Data) → IsStored k s d → r ≤ 9007199254740991 → length (compact_text (gone_at r d)) ≤ 1574912
 gone_fits k s r d was low =
     let at : length (compact_text (at_revision s (metadata_of d) d)) ≤ 1574400 = subst (λ x. length (compact_text x) ≤ 1574400) (sym was.stands) was.fits in
     omega (arith, fits_at 1574400 r s (metadata_of d) d at low)
@@ -62,13 +62,13 @@ identified a b c p q r = rw (p, q, r) refl
 shown_ok : (k : Kind) (d : Data) (r : ℕ) → has_identity d ≡ true → revision d ≡ Some r → shown_read k (Ok d) ≡ Some (record { object = record { kind = k; value = d }; revision = r })
 shown_ok k d r h is = rw (h, is) refl
 
-pub shown_is : (k : Kind) (n : Name) (r : ℕ) (d : Data) → k ≡ n.kind → IsKept n r d → r ≤ 9007199254740991 → shown k d ≡ Some (record { object = record { kind = k; value = d }; revision = r })
+pub shown_is : (k : Kind) (n : Key) (r : ℕ) (d : Data) → k ≡ n.kind → IsKept n r d → r ≤ 9007199254740991 → shown k d ≡ Some (record { object = record { kind = k; value = d }; revision = r })
 shown_is k n r d same kept low =
     let read : reading k d ≡ Ok d = ap (λ x. reading x d) same ∙ kept.reads in
     ap (shown_read k) read
     ∙ shown_ok k d r (identified (name d) (namespace d) (uid d) (ap is_some kept.name) (ap is_some kept.namespace) kept.uid) (ap (option_and_then revision_of) kept.version ∙ revision_is r (omega arith))
 
-pub name_is : (k : Kind) (n : Name) (r : ℕ) (d : Data) → k ≡ n.kind → IsKept n r d → name_in (record { kind = k; value = d }) ≡ n
+pub name_is : (k : Kind) (n : Key) (r : ℕ) (d : Data) → k ≡ n.kind → IsKept n r d → name_in (record { kind = k; value = d }) ≡ n
 name_is k n r d same kept =
     let space : unwrap_or (namespace d) [] ≡ n.namespace = ap (λ o. unwrap_or o []) kept.namespace in
     let called : unwrap_or (name d) [] ≡ n.name = ap (λ o. unwrap_or o []) kept.name in
@@ -88,10 +88,10 @@ read_body k d e h = (opened (is_body d) (fits (Object (Root k)) d) (filled k (ti
 pub nests : (d : Data) → is_body d ≡ true → depth d ≤ 100
 nests d h = leb-true (depth d) 100 (both_true (is_some (as_object d) && not (has_float d)) (nat_le (depth d) 100) h).1
 
-abbrev Tells : Kind → Change → Type 0
+abbrev Tells : Kind → Event → Type 0
 Tells k c = IsTold k c × IsShort c
 
-tells : (k : Kind) (c : Change) → k ≡ c.key.kind → IsKept c.key c.revision c.object → c.revision ≤ 9007199254740991 → length (compact_text c.object) ≤ 1574912 → Tells k c
+tells : (k : Kind) (c : Event) → k ≡ c.key.kind → IsKept c.key c.revision c.object → c.revision ≤ 9007199254740991 → length (compact_text c.object) ≤ 1574912 → Tells k c
 tells k c same kept low fits =
     let body = read_body c.key.kind c.object c.object kept.reads in (
       record { shows = shown_is k c.key c.revision c.object same kept low; names = name_is k c.key c.revision c.object same kept },
@@ -107,16 +107,16 @@ same_kind ReplicaSet ReplicaSet h = refl
 same_kind Deployment Deployment h = refl
 same_kind a b h = cc
 
-seen_cond : (k : Kind) (n : Name) (P : Data → Type 0) (d : Data) (b : Bool) → in_view (whole k) n d ≡ b → P d → IfSome (cond b (Some d) None) (λ x. (k ≡ n.kind) × P x)
+seen_cond : (k : Kind) (n : Key) (P : Data → Type 0) (d : Data) (b : Bool) → in_view (whole k) n d ≡ b → P d → IfSome (cond b (Some d) None) (λ x. (k ≡ n.kind) × P x)
 seen_cond k n P d true is p = (same_kind k n.kind is, p)
 seen_cond k n P d false is p = tt
 
-seen_of : (k : Kind) (n : Name) (P : Data → Type 0) (o : Option Data) → IfSome o P → IfSome (seen (whole k) n o) (λ x. (k ≡ n.kind) × P x)
+seen_of : (k : Kind) (n : Key) (P : Data → Type 0) (o : Option Data) → IfSome o P → IfSome (seen (whole k) n o) (λ x. (k ≡ n.kind) × P x)
 seen_of k n P None p = tt
 seen_of k n P (Some d) p = seen_cond k n P d (in_view (whole k) n d) refl p
 
-all_told : (k : Kind) (r : ℕ) (n : Name) (old new : Option Data) (more : List Change) → r ≤ 9007199254740991 → IfSome old (λ x. (k ≡ n.kind) × IsHeld n x) → IfSome new (λ x. (k ≡ n.kind) × IsStored n r x)
-    → AllByRecursion (Tells k) more → AllByRecursion (Tells k) (change_of r n old new ++ more)
+all_told : (k : Kind) (r : ℕ) (n : Key) (old new : Option Data) (more : List Event) → r ≤ 9007199254740991 → IfSome old (λ x. (k ≡ n.kind) × IsHeld n x) → IfSome new (λ x. (k ≡ n.kind) × IsStored n r x)
+    → AllByRecursion (Tells k) more → AllByRecursion (Tells k) (event_of r n old new ++ more)
 all_told k r n None None more low was is later = later
 all_told k r n None (Some d) more low was is later = (tells k _ is.0 is.1.kept low (let f : length (compact_text d) ≤ 1574400 = is.1.fits in omega arith), later)
 all_told k r n (Some e) (Some d) more low was is later = (tells k _ is.0 is.1.kept low (let f : length (compact_text d) ≤ 1574400 = is.1.fits in omega arith), later)
@@ -139,7 +139,7 @@ after_told k before (w ∷ ws) a b low =
     (seen_of k w.key (IsHeld w.key) (last_of None w.key before) (last_held w.key 2 before None tt a)) (seen_of k w.key (IsStored w.key r) w.put b.0)
     (after_told k (before ++ w ∷ []) ws (stored_joined 2 before (w ∷ []) a here) (subst (λ n. AreStored n ws) further b.1) (omega (arith, long, low)))
 
-both : (k : Kind) (cs : List Change) → AllByRecursion (Tells k) cs → AllByRecursion (IsTold k) cs × AllByRecursion IsShort cs
+both : (k : Kind) (cs : List Event) → AllByRecursion (Tells k) cs → AllByRecursion (IsTold k) cs × AllByRecursion IsShort cs
 both k [] a = (tt, tt)
 both k (c ∷ cs) a = let more = both k cs a.1 in ((a.0.0, more.0), (a.0.1, more.1))
 

@@ -17,7 +17,7 @@ use Rattle.definitions.specs.declared.schemas.Shape.TheVariants.{NameOf, Version
 use Rattle.definitions.specs.declared.schemas.Schema.TheVariants.{Root}
 use Rattle.definitions.specs.Kinds.{api_version, kind_text}
 use Rattle.definitions.specs.History.{History, Members, present, up_to, after_all, put_or_remove, in_view, viewed, list}
-use Rattle.definitions.specs.Names.{Name, name_cmp, is_named}
+use Rattle.definitions.specs.Keys.{Key, key_cmp, is_same_key}
 use Rattle.definitions.specs.Objects.{Object}
 use Rattle.definitions.specs.Reading.{reading, is_body, is_absent, fits, tidied, filled, empty}
 use Rattle.definitions.specs.Schemas.{kept, member_at}
@@ -143,18 +143,18 @@ as_item_reads k d h ordered =
     let is : d ≡ object ms = opening.is in
     subst (λ x. reading k (as_item x) ≡ Ok x) (sym is) (item_reads k ms opening.neat (Filled-filled k opening.left) (subst (λ x. IsOrdered (members_of x)) is ordered))
 
-item_shown : (k : Kind) (n : Name) (d : Data) → k ≡ n.kind → (held : IsHeld n d) → shown k (as_item d) ≡ Some (record { object = record { kind = k; value = d }; revision = held.0 })
-item_shown k n d same held =
-    let stored = held.1 in
+item_shown : (k : Kind) (n : Key) (d : Data) → k ≡ n.kind → (existing : IsHeld n d) → shown k (as_item d) ≡ Some (record { object = record { kind = k; value = d }; revision = existing.0 })
+item_shown k n d same existing =
+    let stored = existing.1 in
     let read : reading k d ≡ Ok d = ap (λ x. reading x d) same ∙ stored.kept.reads in
-    ap (shown_read k) (as_item_reads k d read (inside d stored.parsed).0 ∙ sym read) ∙ shown_is k n held.0 d same stored.kept stored.low
+    ap (shown_read k) (as_item_reads k d read (inside d stored.parsed).0 ∙ sym read) ∙ shown_is k n existing.0 d same stored.kept stored.low
 
 -- ---- the members of a list
 
-abbrev pub Lists : Kind → Name × Data → Type 0
+abbrev pub Lists : Kind → Key × Data → Type 0
 Lists k m = (k ≡ m.0.kind) × IsHeld m.0 m.1
 
-view_at : (k : Kind) (b : Bool) (m : Name × Data) (ms : Members) → in_view (whole k) m.0 m.1 ≡ b → IsHeld m.0 m.1 → AllByRecursion (Lists k) ms → AllByRecursion (Lists k) (cond b (m ∷ ms) ms)
+view_at : (k : Kind) (b : Bool) (m : Key × Data) (ms : Members) → in_view (whole k) m.0 m.1 ≡ b → IsHeld m.0 m.1 → AllByRecursion (Lists k) ms → AllByRecursion (Lists k) (cond b (m ∷ ms) ms)
 view_at k true m ms is h a = ((same_kind k m.0.kind is, h), a)
 view_at k false m ms is h a = a
 
@@ -178,13 +178,13 @@ names_in k [] a = refl
 names_in k (m ∷ ms) a =
     ap (λ n. n ∷ map name_in (objects_in k ms)) (name_is k m.0 a.0.1.0 m.1 a.0.0 a.0.1.1.kept) ∙ ap (λ ns. m.0 ∷ ns) (names_in k ms a.1)
 
-none_named : (n : Name) (ms : Members) → IsAbove name_cmp n ms → list_any (λ m. is_named m n) (map (λ m. m.0) ms) ≡ false
+none_named : (n : Key) (ms : Members) → IsAbove key_cmp n ms → list_any (λ m. is_same_key m n) (map (λ m. m.0) ms) ≡ false
 none_named n [] a = refl
 none_named n (m ∷ ms) a =
-    let above : name_cmp m.0 n ≡ Greater = name_cmp_total.antisymm m.0 n ∙ ap ordering_reverse a.0 in
+    let above : key_cmp m.0 n ≡ Greater = name_cmp_total.antisymm m.0 n ∙ ap ordering_reverse a.0 in
     rw above (none_named n ms a.1)
 
-no_repeats : (ms : Members) → IsAscending name_cmp ms → repeats (map (λ m. m.0) ms) ≡ false
+no_repeats : (ms : Members) → IsAscending key_cmp ms → repeats (map (λ m. m.0) ms) ≡ false
 no_repeats [] a = refl
 no_repeats (m ∷ ms) a = rw (none_named m.0 ms a.0) (no_repeats ms a.1)
 
@@ -197,7 +197,7 @@ calls_itself Pod r ms = refl
 calls_itself ReplicaSet r ms = refl
 calls_itself Deployment r ms = refl
 
-list_is : (k : Kind) (r : ℕ) (ms : Members) → AllByRecursion (Lists k) ms → IsAscending name_cmp ms → r ≤ 9007199254740991
+list_is : (k : Kind) (r : ℕ) (ms : Members) → AllByRecursion (Lists k) ms → IsAscending key_cmp ms → r ≤ 9007199254740991
     → list_in k (list_body k r ms) ≡ Some (record { revision = r; objects = objects_in k ms })
 list_is k r ms a ascending low =
     let says : revision (list_body k r ms) ≡ Some r = revision_is r (omega arith) in
@@ -211,12 +211,12 @@ list_of_is k body d u r = rw (u, r) refl
 
 -- ---- the map that it plays to
 
-pub put_all_on : (k : Kind) (ms done : Members) → AllByRecursion (Lists k) ms → IsAscending name_cmp (done ++ ms) → put_all done (objects_in k ms) ≡ done ++ ms
+pub put_all_on : (k : Kind) (ms done : Members) → AllByRecursion (Lists k) ms → IsAscending key_cmp (done ++ ms) → put_all done (objects_in k ms) ≡ done ++ ms
 put_all_on k [] done a ascending = sym (append-nil done)
 put_all_on k (m ∷ ms) done a ascending =
     ap (λ n. put_all (put_or_remove done n (Some m.1)) (objects_in k ms)) (name_is k m.0 a.0.1.0 m.1 a.0.0 a.0.1.1.kept)
     ∙ ap (λ z. put_all z (objects_in k ms)) (put_last done m ms ascending)
-    ∙ put_all_on k ms (done ++ m ∷ []) a.1 (subst (IsAscending name_cmp) (sym (append_assoc done (m ∷ []) ms)) ascending) ∙ append_assoc done (m ∷ []) ms
+    ∙ put_all_on k ms (done ++ m ∷ []) a.1 (subst (IsAscending key_cmp) (sym (append_assoc done (m ∷ []) ms)) ascending) ∙ append_assoc done (m ∷ []) ms
 
 pub lists_put : ListsArePut
 lists_put h k r reached = put_all_on k (list h (whole k) r) [] (all_listed h k r reached) (list_ascending h (whole k) r)

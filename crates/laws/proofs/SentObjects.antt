@@ -14,7 +14,7 @@ use Rattle.definitions.specs.Checks.{create_fault, generate_name, generates, is_
 use Rattle.definitions.specs.Defaults.{whole}
 use Rattle.definitions.specs.GeneratedNames.{name_from}
 use Rattle.definitions.specs.Kinds.{has_generation}
-use Rattle.definitions.specs.Names.{Name, is_subdomain}
+use Rattle.definitions.specs.Keys.{Key, is_subdomain}
 use Rattle.definitions.specs.History as history
 use Rattle.laws.specs.HistoryLaws.{OfStored}
 use Rattle.definitions.specs.Metadata.{differs, metadata_of, with_metadata, name, uid, version, at_revision}
@@ -38,7 +38,7 @@ use Rattle.definitions.proofs.FirstStatus.{metadata_of-first}
 use Rattle.laws.proofs.WholeObjects.{AreWhole, reads_whole, whole_at, whole_read}
 
 -- an object as it is stored, and what the next write of it goes by
-pub record IsStored (k : Name) (r : ℕ) (d : Data) : Type 0 where
+pub record IsStored (k : Key) (r : ℕ) (d : Data) : Type 0 where
   pub kept : IsKept k r d
   pub low : r ≤ 9007199254740991
   pub stands : at_revision r (metadata_of d) d ≡ d
@@ -47,7 +47,7 @@ pub record IsStored (k : Name) (r : ℕ) (d : Data) : Type 0 where
   pub parsed : IsParsed d
 
 -- an object under this name
-abbrev pub IsHeld : Name → Data → Type 0
+abbrev pub IsHeld : Key → Data → Type 0
 IsHeld k d = (s : ℕ) × IsStored k s d
 
 -- ---- at a revision
@@ -66,13 +66,13 @@ stands_at r meta o =
     ∙ ap object (put_twice (codes "metadata") (object set) (object set) (members_of o))
 
 -- metadata that says an object's name, its namespace and a uid
-pub record Says (k : Name) (meta : Members) : Type 0 where
+pub record Says (k : Key) (meta : Members) : Type 0 where
   pub name : text_in (codes "name") meta ≡ Some k.name
   pub namespace : text_in (codes "namespace") meta ≡ Some k.namespace
   pub uid : is_some (text_in (codes "uid") meta) ≡ true
 
 -- whole members with such metadata, at a revision, are stored as they should be, where they have room
-pub stored_in : (k : Name) (r : ℕ) (meta : Members) (d : Data) → AreWhole k.kind (members_of d) → Neat 98 Metadata meta → IsParsed d → Both meta → Says k meta → r ≤ 9007199254740991
+pub stored_in : (k : Key) (r : ℕ) (meta : Members) (d : Data) → AreWhole k.kind (members_of d) → Neat 98 Metadata meta → IsParsed d → Both meta → Says k meta → r ≤ 9007199254740991
     → length (compact_text (at_revision r meta d)) ≤ 1574400 → HasRoom (at_revision r meta d) → IsStored k r (at_revision r meta d)
 stored_in k r meta d w m p a says low fits room =
     let new = at_revision r meta d in
@@ -92,14 +92,14 @@ stored_in k r meta d w m p a says low fits room =
       parsed = at r meta d (omega (arith, low)) a p;
     }
 
-pub stored_at : (k : Name) (r : ℕ) (meta : Members) (d : Data) → AreWhole k.kind (members_of d) → Neat 98 Metadata meta → IsParsed d → Both meta → Says k meta → r ≤ 9007199254740991
+pub stored_at : (k : Key) (r : ℕ) (meta : Members) (d : Data) → AreWhole k.kind (members_of d) → Neat 98 Metadata meta → IsParsed d → Both meta → Says k meta → r ≤ 9007199254740991
     → is_too_large (at_revision r meta d) ≡ false → IsStored k r (at_revision r meta d)
 stored_at k r meta d w m p a says low fits =
     let short : length (compact_text (at_revision r meta d)) ≤ 1572864 = at_most 1572864 (length (compact_text (at_revision r meta d))) fits in
     stored_in k r meta d w m p a says low (omega arith) (room_written r meta d a.0 short)
 
-pub whole_stored : (k : Name) (s : ℕ) (held : Data) → IsStored k s held → AreWhole k.kind (members_of held)
-whole_stored k s held was = whole_read k.kind held held was.kept.reads
+pub whole_stored : (k : Key) (s : ℕ) (existing : Data) → IsStored k s existing → AreWhole k.kind (members_of existing)
+whole_stored k s existing was = whole_read k.kind existing existing was.kept.reads
 
 -- ---- the metadata of a new object
 
@@ -170,14 +170,14 @@ module _ (r : ℕ) where
   pub behind : (b : Bool) (f : Refusal) (o : Outcome) → (b ≡ false → Stores r o) → Stores r (cond b (refused f) o)
   behind b f o next = guard (Stores r) (λ f. tt) b f o next
 
-  pub behind_field : (k : Name) (f : Option Field) (o : Outcome) → (f ≡ None → Stores r o) → Stores r (refuse_field k f o)
+  pub behind_field : (k : Key) (f : Option Field) (o : Outcome) → (f ≡ None → Stores r o) → Stores r (refuse_field k f o)
   behind_field k f o next = guard_field (Stores r) (λ f. tt) k f o next
 
-  pub by_if_same : (k : Name) (o held : Data) (next : Outcome) → Stores r next → Stores r (if_same k o held next)
-  by_if_same k o held next each =
-      behind (differs (uid o) (uid held)) (conflict k mismatch.Uid) _ (λ _. behind (differs (version o) (version held)) (conflict k mismatch.Modified) next (λ _. each))
+  pub by_if_same : (k : Key) (o existing : Data) (next : Outcome) → Stores r next → Stores r (if_same k o existing next)
+  by_if_same k o existing next each =
+      behind (differs (uid o) (uid existing)) (conflict k mismatch.Uid) _ (λ _. behind (differs (version o) (version existing)) (conflict k mismatch.Modified) next (λ _. each))
 
-pub by_put : (k : Name) (d : Data) (r : ℕ) → (is_too_large d ≡ false → r + 1 ≤ 9007199254740991 → IsStored k (r + 1) d) → Stores (r + 1) (put_in_place k d r)
+pub by_put : (k : Key) (d : Data) (r : ℕ) → (is_too_large d ≡ false → r + 1 ≤ 9007199254740991 → IsStored k (r + 1) d) → Stores (r + 1) (put_in_place k d r)
 by_put k d r each =
     behind (r + 1) (is_too_large d) too_large _
     (λ fits. behind (r + 1) (is_past_greatest (r + 1)) storage_full (stored 200 k d) (λ room. each fits (low_after (r + 1) room)))

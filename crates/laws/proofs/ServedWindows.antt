@@ -4,10 +4,10 @@ use Rattle.std.specs.Prelude.{◌↔◌, nat_lt, Ok, IsOk, None}
 use Rattle.std.proofs.lemmas.List.{take-append-drop, take_all}
 use Rattle.std.proofs.lemmas.Bool.{le-ltb, ltb-false}
 use Rattle.definitions.specs.History.{History, compaction, View, writes, present, up_to, last_of, viewed, after_all, list}
-use Rattle.definitions.specs.Changes.{changes, changes_after}
+use Rattle.definitions.specs.Events.{events, changes_after}
 use Rattle.laws.specs.WindowLaws.{WatchesAreServed, ListsAreUndone, RevisionsAreServed, CompactionsChangeNothing, WideWindowsServeAll}
-use Rattle.definitions.specs.Windows.{kept_after, writes_of, last_n, last_revision, all_but, floor, within}
-use Rattle.server_state.specs.Recorded.{above, changes_kept, undone, Window, Tracks}
+use Rattle.definitions.specs.Windows.{changes_after as kept_after, changes_of, last_n, last_revision, all_but, floor, within}
+use Rattle.server_state.specs.Recorded.{above, events_recorded, undone, Window, IsWindowAfter}
 use Rattle.laws.proofs.Past.{writes-append}
 use Rattle.laws.proofs.KeptWrites.{last_n_above, changes_of_kept, all_undone}
 
@@ -20,10 +20,10 @@ within_at false false floor now r x y l m same = ap (λ z. within floor now r z)
 within_same : {X : Type 0} (floor now r : ℕ) (x y : X) → (floor ≤ r → r ≤ now → x ≡ y) → within floor now r x ≡ within floor now r y
 within_same floor now r x y same = within_at (nat_lt r floor) (nat_lt now r) floor now r x y refl refl same
 
-held_above : (s : Window) (h : History) (v : View) (a : ℕ) → Tracks s h → v.kind ≡ s.kind → floor v.kind s.size h ≤ a → a ≤ present h → above a s.kept ≡ kept_after v.kind (up_to a h) (drop (a - 1) (writes h))
-held_above s h v a f is l m = ap (above a) (f.0 ∙ ap (λ k. last_n s.size (writes_of k h)) (sym is)) ∙ last_n_above v.kind s.size (writes h) a (omega (arith, l)) m
+held_above : (s : Window) (h : History) (v : View) (a : ℕ) → IsWindowAfter s h → v.kind ≡ s.kind → floor v.kind s.size h ≤ a → a ≤ present h → above a s.kept ≡ kept_after v.kind (up_to a h) (drop (a - 1) (writes h))
+held_above s h v a f is l m = ap (above a) (f.0 ∙ ap (λ k. last_n s.size (changes_of k h)) (sym is)) ∙ last_n_above v.kind s.size (writes h) a (omega (arith, l)) m
 
-floor_is : (s : Window) (h : History) (v : View) → Tracks s h → v.kind ≡ s.kind → s.floor ≡ floor v.kind s.size h
+floor_is : (s : Window) (h : History) (v : View) → IsWindowAfter s h → v.kind ≡ s.kind → s.floor ≡ floor v.kind s.size h
 floor_is s h v f is = f.1 ∙ ap (λ k. floor k s.size h) (sym is)
 
 all_now : (h : History) → up_to (present h) h ≡ writes h
@@ -31,9 +31,9 @@ all_now h = take_all (present h - 1) (writes h) (omega arith)
 
 pub watch_served : WatchesAreServed
 watch_served s h v a n f is =
-    ap (λ z. within z (present h) a (take n (changes_kept v (above a s.kept)))) (floor_is s h v f is)
-    ∙ within_same (floor v.kind s.size h) (present h) a (take n (changes_kept v (above a s.kept))) (take n (changes h v a (present h)))
-    (λ l m. ap (λ z. take n (changes_kept v z)) (held_above s h v a f is l m) ∙ ap (take n) (changes_of_kept v (drop (a - 1) (writes h)) (up_to a h))
+    ap (λ z. within z (present h) a (take n (events_recorded v (above a s.kept)))) (floor_is s h v f is)
+    ∙ within_same (floor v.kind s.size h) (present h) a (take n (events_recorded v (above a s.kept))) (take n (events h v a (present h)))
+    (λ l m. ap (λ z. take n (events_recorded v z)) (held_above s h v a f is l m) ∙ ap (take n) (changes_of_kept v (drop (a - 1) (writes h)) (up_to a h))
     ∙ ap (λ ws. take n (changes_after v (up_to a h) (drop (a - 1) ws))) (sym (all_now h)))
 
 pub list_undone : ListsAreUndone
@@ -59,17 +59,17 @@ within_served floor now r x = (served_at (nat_lt r floor) (nat_lt now r) floor n
 
 pub revisions_served : RevisionsAreServed
 revisions_served size h v r n = (
-  within_served (floor v.kind size h) (present h) r (take n (changes h v r (present h))),
+  within_served (floor v.kind size h) (present h) r (take n (events h v r (present h))),
   within_served (floor v.kind size h) (present h) r (list h v r),
 )
 
 pub wide_served : WideWindowsServeAll
 wide_served size h v r n room none first last =
-    let none_over : length (writes_of v.kind h) - size ≡ 0 = omega (arith, room) in
-    let left : all_but size (writes_of v.kind h) ≡ [] = ap (λ i. take i (writes_of v.kind h)) none_over in
+    let none_over : length (changes_of v.kind h) - size ≡ 0 = omega (arith, room) in
+    let left : all_but size (changes_of v.kind h) ≡ [] = ap (λ i. take i (changes_of v.kind h)) none_over in
     let low = ap (last_revision 1) left in
     let reached : floor v.kind size h ≤ r = omega (arith, low, none, first) in (
-      within_is (floor v.kind size h) (present h) r (take n (changes h v r (present h))) reached last,
+      within_is (floor v.kind size h) (present h) r (take n (events h v r (present h))) reached last,
       within_is (floor v.kind size h) (present h) r (list h v r) reached last,
     )
 

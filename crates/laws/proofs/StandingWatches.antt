@@ -6,8 +6,8 @@ use Rattle.std.proofs.lemmas.Bool.{ltb-false, ltb-true, le-ltb, leb-true, leb-fa
 use Rattle.std.proofs.lemmas.List.{take-append-drop, take-append-le, take-take, take_all, length-take}
 use Rattle.std.proofs.lemmas.List.Elements.{filter-append}
 use Rattle.definitions.specs.History.{History, View, writes, present, up_to, list}
-use Rattle.definitions.specs.Changes.{Change, changes, changes_after, play}
-use Rattle.definitions.specs.Streams.{Line, change, bookmark, Goes, IsStream}
+use Rattle.definitions.specs.Events.{Event, events, changes_after, applied}
+use Rattle.definitions.specs.Streams.{Line, event, bookmark, Goes, IsStream}
 use Rattle.laws.specs.WatchLaws.{AreBetween}
 use Rattle.definitions.specs.Windows.{floor, within}
 use Rattle.definitions.specs.Versions.{Watched, last_change, watched, watched_from}
@@ -19,25 +19,25 @@ use Rattle.laws.proofs.Streamed.{stream_played}
 
 -- ---- changes up to a revision
 
-abbrev up_to_revision : ℕ → List Change → List Change
+abbrev up_to_revision : ℕ → List Event → List Event
 up_to_revision b cs = filter (λ c. nat_le c.revision b) cs
 
-all_up_to : (lo b : ℕ) (cs : List Change) → AreBetween lo b cs → up_to_revision b cs ≡ cs
+all_up_to : (lo b : ℕ) (cs : List Event) → AreBetween lo b cs → up_to_revision b cs ≡ cs
 all_up_to lo b [] h = refl
 all_up_to lo b (c ∷ cs) h = rw (le-leb c.revision b h.1) (ap (λ z. c ∷ z) (all_up_to c.revision b cs h.2))
 
-none_up_to : (b lo hi : ℕ) (cs : List Change) → b ≤ lo → AreBetween lo hi cs → up_to_revision b cs ≡ []
+none_up_to : (b lo hi : ℕ) (cs : List Event) → b ≤ lo → AreBetween lo hi cs → up_to_revision b cs ≡ []
 none_up_to b lo hi [] le h = refl
 none_up_to b lo hi (c ∷ cs) le h =
     let first = h.0 in
     rw (lt-leb c.revision b (omega (arith, le, first))) (none_up_to b c.revision hi cs (omega (arith, le, first)) h.2)
 
-first_up_to : (a b hi : ℕ) (cs ds : List Change) → AreBetween a b cs → AreBetween b hi ds → up_to_revision b (cs ++ ds) ≡ cs
+first_up_to : (a b hi : ℕ) (cs ds : List Event) → AreBetween a b cs → AreBetween b hi ds → up_to_revision b (cs ++ ds) ≡ cs
 first_up_to a b hi cs ds below above =
     filter-append (λ c. nat_le c.revision b) cs ds ∙ ap₂ (λ x y. x ++ y) (all_up_to a b cs below) (none_up_to b b hi ds (omega arith) above) ∙ append-nil cs
 
 -- the first n and the others, by the revision of the last of the first
-cut_between : (n lo hi : ℕ) (cs : List Change) → lo ≤ hi → AreBetween lo hi cs
+cut_between : (n lo hi : ℕ) (cs : List Event) → lo ≤ hi → AreBetween lo hi cs
     → AreBetween lo (last_change lo (take n cs)) (take n cs)
     × AreBetween (last_change lo (take n cs)) hi (drop n cs)
     × (lo ≤ last_change lo (take n cs))
@@ -52,12 +52,12 @@ cut_between (suc n) lo hi (c ∷ cs) le h =
 
 -- the first n changes are those up to the last one's revision
 first_changes : (h : History) (v : View) (a n : ℕ) → a ≤ present h
-    → (let b : ℕ = last_change a (take n (changes h v a (present h))) in changes h v a b ≡ take n (changes h v a (present h)))
+    → (let b : ℕ = last_change a (take n (events h v a (present h))) in events h v a b ≡ take n (events h v a (present h)))
 first_changes h v a n le =
-    let cs = changes h v a (present h) in
+    let cs = events h v a (present h) in
     let b = last_change a (take n cs) in
     let cut = cut_between n a (present h) cs le (lie_between h v a (present h)) in
-    sym (first_up_to a b (present h) (changes h v a b) (changes h v b (present h)) (lie_between h v a b) (lie_between h v b (present h)))
+    sym (first_up_to a b (present h) (events h v a b) (events h v b (present h)) (lie_between h v a b) (lie_between h v b (present h)))
     ∙ ap (up_to_revision b) (sym (goes_on h v a b (present h) cut.2 cut.3) ∙ sym (take-append-drop n cs))
     ∙ first_up_to a b (present h) (take n cs) (drop n cs) cut.0 cut.1
 
@@ -65,31 +65,31 @@ first_changes h v a n le =
 
 -- what is given are all changes up to where the watch stands
 abbrev pub Stands : History → View → ℕ → Watched → Type 0
-Stands h v a w = (a ≤ w.stands) × (w.stands ≤ present h) × (last_change a w.changes ≤ w.stands) × (changes h v a w.stands ≡ w.changes)
+Stands h v a w = (a ≤ w.stands) × (w.stands ≤ present h) × (last_change a w.changes ≤ w.stands) × (events h v a w.stands ≡ w.changes)
 
-stands_at : (b : Bool) (h : History) (v : View) (a n : ℕ) → a ≤ present h → nat_le (length (changes h v a (present h))) n ≡ b
-    → Stands h v a (record { changes = take n (changes h v a (present h)); stands = cond b (present h) (last_change a (take n (changes h v a (present h)))) })
+stands_at : (b : Bool) (h : History) (v : View) (a n : ℕ) → a ≤ present h → nat_le (length (events h v a (present h))) n ≡ b
+    → Stands h v a (record { events = take n (events h v a (present h)); stands = cond b (present h) (last_change a (take n (events h v a (present h)))) })
 stands_at true h v a n le all =
-    let cut = cut_between n a (present h) (changes h v a (present h)) le (lie_between h v a (present h)) in
-    (le, omega arith, cut.3, sym (take_all n (changes h v a (present h)) (leb-true (length (changes h v a (present h))) n all)))
+    let cut = cut_between n a (present h) (events h v a (present h)) le (lie_between h v a (present h)) in
+    (le, omega arith, cut.3, sym (take_all n (events h v a (present h)) (leb-true (length (events h v a (present h))) n all)))
 stands_at false h v a n le all =
-    let cut = cut_between n a (present h) (changes h v a (present h)) le (lie_between h v a (present h)) in
+    let cut = cut_between n a (present h) (events h v a (present h)) le (lie_between h v a (present h)) in
     (cut.2, cut.3, omega arith, first_changes h v a n le)
 
 -- one more than n tells whether there are more
-longer_at : (b : Bool) (n : ℕ) (cs : List Change) → nat_le (length cs) n ≡ b → nat_le (length (take (n + 1) cs)) n ≡ b
+longer_at : (b : Bool) (n : ℕ) (cs : List Event) → nat_le (length cs) n ≡ b → nat_le (length (take (n + 1) cs)) n ≡ b
 longer_at true n cs h = let long = length-take (n + 1) cs in let all = leb-true (length cs) n h in le-leb (length (take (n + 1) cs)) n (omega (arith, long, all))
 longer_at false n cs h = let long = length-take (n + 1) cs in let more = leb-false (length cs) n h in lt-leb (length (take (n + 1) cs)) n (omega (arith, long, more))
 
-abbrev stand_with : ℕ → ℕ → Bool → List Change → Watched
-stand_with now a b cs = record { changes = cs; stands = cond b now (last_change a cs) }
+abbrev stand_with : ℕ → ℕ → Bool → List Event → Watched
+stand_with now a b cs = record { events = cs; stands = cond b now (last_change a cs) }
 
-one_more_tells : (now a n : ℕ) (cs : List Change) → watched now a n (take (n + 1) cs) ≡ watched now a n cs
+one_more_tells : (now a n : ℕ) (cs : List Event) → watched now a n (take (n + 1) cs) ≡ watched now a n cs
 one_more_tells now a n cs =
     ap₂ (stand_with now a) (longer_at (nat_le (length cs) n) n cs refl) (take-take n (n + 1) cs (omega arith))
 
 -- what a watch is given is given from the floor up to the present revision
-given_at : (b c : Bool) (floor now a : ℕ) (f : List Change → Watched) (cs : List Change) (w : Watched) → nat_lt a floor ≡ b → nat_lt now a ≡ c
+given_at : (b c : Bool) (floor now a : ℕ) (f : List Event → Watched) (cs : List Event) (w : Watched) → nat_lt a floor ≡ b → nat_lt now a ≡ c
     → result_map_both f (λ e. e) (within floor now a cs) ≡ Ok w → (floor ≤ a) × (a ≤ now) × (f cs ≡ w)
 given_at true c floor now a f cs w l m is = let none = rw l at is in cc
 given_at false true floor now a f cs w l m is = let none = rw (l, m) at is in cc
@@ -101,7 +101,7 @@ bookmark_goes : (c : Bool) (at b : ℕ) → nat_lt at b ≡ c → Goes at b [] (
 bookmark_goes true at b l = let below = ltb-true at b l in (omega (arith, below), omega arith, tt)
 bookmark_goes false at b l = tt
 
-lines_go : (cs : List Change) (a b : ℕ) (ls : List Line) → Goes (last_change a cs) b [] ls → Goes a b cs (map change cs ++ ls)
+lines_go : (cs : List Event) (a b : ℕ) (ls : List Line) → Goes (last_change a cs) b [] ls → Goes a b cs (map event cs ++ ls)
 lines_go [] a b ls g = g
 lines_go (c ∷ cs) a b ls g = (refl, lines_go cs c.revision b ls g)
 
@@ -112,11 +112,11 @@ lines_stream h v a w s =
 
 -- a watch that is given something stands
 pub given_stands : (size : ℕ) (h : History) (v : View) (a n : ℕ) (w : Watched) → watched_from size h v a n ≡ Ok w
-    → (floor v.kind size h ≤ a) × (a ≤ present h) × (watched (present h) a n (changes h v a (present h)) ≡ w) × Stands h v a w
+    → (floor v.kind size h ≤ a) × (a ≤ present h) × (watched (present h) a n (events h v a (present h)) ≡ w) × Stands h v a w
 given_stands size h v a n w is =
-    let given = given_at (nat_lt a (floor v.kind size h)) (nat_lt (present h) a) (floor v.kind size h) (present h) a (watched (present h) a n) (take (n + 1) (changes h v a (present h))) w refl refl is in
-    let same : watched (present h) a n (changes h v a (present h)) ≡ w = sym (one_more_tells (present h) a n (changes h v a (present h))) ∙ given.2 in
-    (given.0, given.1, same, subst (Stands h v a) same (stands_at (nat_le (length (changes h v a (present h))) n) h v a n given.1 refl))
+    let given = given_at (nat_lt a (floor v.kind size h)) (nat_lt (present h) a) (floor v.kind size h) (present h) a (watched (present h) a n) (take (n + 1) (events h v a (present h))) w refl refl is in
+    let same : watched (present h) a n (events h v a (present h)) ≡ w = sym (one_more_tells (present h) a n (events h v a (present h))) ∙ given.2 in
+    (given.0, given.1, same, subst (Stands h v a) same (stands_at (nat_le (length (events h v a (present h))) n) h v a n given.1 refl))
 
 pub watches_stand : WatchesStand
 watches_stand size h v a n w is =
@@ -127,9 +127,9 @@ watches_stand size h v a n w is =
       s.0,
       s.1,
       stream,
-      ap (play (list h v a)) (sym s.3) ∙ list_played h v a w.stands s.0,
+      ap (applied (list h v a)) (sym s.3) ∙ list_played h v a w.stands s.0,
       stream_played h v a w.stands (lines_from a w) s.0 stream,
-      goes_on h v a w.stands (present h) s.0 s.1 ∙ ap (λ cs. cs ++ changes h v w.stands (present h)) s.3,
+      goes_on h v a w.stands (present h) s.0 s.1 ∙ ap (λ cs. cs ++ events h v w.stands (present h)) s.3,
     )
 
 -- ---- after it
@@ -137,10 +137,10 @@ watches_stand size h v a n w is =
 writes_past : (h more : History) (r : ℕ) → r ≤ present h → up_to r (h ++ more) ≡ up_to r h
 writes_past h more r le = ap (take (r - 1)) (writes-append h more) ∙ take-append-le (r - 1) (writes h) (writes more) (omega arith)
 
-pub changes_past : (h more : History) (v : View) (a b : ℕ) → a ≤ b → b ≤ present h → changes (h ++ more) v a b ≡ changes h v a b
+pub changes_past : (h more : History) (v : View) (a b : ℕ) → a ≤ b → b ≤ present h → events (h ++ more) v a b ≡ events h v a b
 changes_past h more v a b le lt = ap₂ (λ before ws. changes_after v before (drop (a - 1) ws)) (writes_past h more a (omega (arith, le, lt))) (writes_past h more b lt)
 
 pub watches_go_on : WatchesGoOn
 watches_go_on size h more v a n b w is le =
     let s = (given_stands size h v a n w is).3 in
-    goes_on (h ++ more) v a w.stands b s.0 le ∙ ap (λ cs. cs ++ changes (h ++ more) v w.stands b) (changes_past h more v a w.stands s.0 s.1 ∙ s.3)
+    goes_on (h ++ more) v a w.stands b s.0 le ∙ ap (λ cs. cs ++ events (h ++ more) v w.stands b) (changes_past h more v a w.stands s.0 s.1 ∙ s.3)

@@ -4,7 +4,7 @@ use Rattle.std.proofs.lemmas.List.{take-append-drop}
 use Rattle.serde_json.specs.Data.{Data}
 use Rattle.definitions.specs.History.{History, Write, write, writes, last_of, members, found, present, up_to}
 use Rattle.definitions.specs.Metadata.{version}
-use Rattle.definitions.specs.Names.{Name}
+use Rattle.definitions.specs.Keys.{Key}
 use Rattle.definitions.specs.Reached.{IsReached}
 use Rattle.definitions.specs.Verbs.{accept, with_write, write_of}
 use Rattle.laws.specs.HistoryLaws.{Carry}
@@ -43,7 +43,7 @@ AreStored-split r (u ∷ us) ws a =
 pub AreStored-up_to : (h : History) (r : ℕ) → AreStored 2 (writes h) → AreStored 2 (up_to r h)
 AreStored-up_to h r a = (AreStored-split 2 (up_to r h) (drop (r - 1) (writes h)) (subst (AreStored 2) (sym (take-append-drop (r - 1) (writes h))) a)).0
 
-some_held : (k : Name) (r : ℕ) (o : Option Data) → IfSome o (IsStored k r) → IfSome o (IsHeld k)
+some_held : (k : Key) (r : ℕ) (o : Option Data) → IfSome o (IsStored k r) → IfSome o (IsHeld k)
 some_held k r None a = tt
 some_held k r (Some d) a = (r, a)
 
@@ -52,10 +52,10 @@ held_puts r [] a = tt
 held_puts r (w ∷ ws) a = (some_held w.key r w.put a.0, held_puts (r + 1) ws a.1)
 
 -- what is under a name is stored so
-pub last_held : (k : Name) (r : ℕ) (ws : List Write) (before : Option Data) → IfSome before (IsHeld k) → AreStored r ws → IfSome (last_of before k ws) (IsHeld k)
+pub last_held : (k : Key) (r : ℕ) (ws : List Write) (before : Option Data) → IfSome before (IsHeld k) → AreStored r ws → IfSome (last_of before k ws) (IsHeld k)
 last_held k r ws before h a = last_put IsHeld k ws before h (held_puts r ws a)
 
-pub found_held : (h : History) (r : ℕ) (k : Name) → AreStored 2 (writes h) → IfSome (found k (members h r)) (IsHeld k)
+pub found_held : (h : History) (r : ℕ) (k : Key) → AreStored 2 (writes h) → IfSome (found k (members h r)) (IsHeld k)
 found_held h r k a = subst (λ o. IfSome o (IsHeld k)) (sym (found-after_all k [] (up_to r h) tt)) (last_held k 2 (up_to r h) None tt (AreStored-up_to h r a))
 
 pub all_stored : (h : History) → IsReached h → AreStored 2 (writes h)
@@ -63,7 +63,7 @@ all_stored h reached =
     by_reached (λ h. AreStored 2 (writes h)) (λ q h moment well filled a. stored_write h (write_of (accept q h moment)) (stores q h moment well filled (λ k. found_held h (present h) k a)) a)
     (same_writes (AreStored 2)) h reached tt
 
-one_kept : (k : Name) (r : ℕ) (o : Option Data) → IfSome o (IsStored k r) → IfSome o (IsKept k r)
+one_kept : (k : Key) (r : ℕ) (o : Option Data) → IfSome o (IsStored k r) → IfSome o (IsKept k r)
 one_kept k r None a = tt
 one_kept k r (Some d) a = a.kept
 
@@ -76,7 +76,7 @@ all_are_kept h reached = all_kept 2 (writes h) (all_stored h reached)
 
 -- ---- revisions
 
-one_carries : (k : Name) (r : ℕ) (o : Option Data) → IfSome o (IsKept k r) → IfSome o (λ d. version d ≡ Some (decimal r))
+one_carries : (k : Key) (r : ℕ) (o : Option Data) → IfSome o (IsKept k r) → IfSome o (λ d. version d ≡ Some (decimal r))
 one_carries k r None a = tt
 one_carries k r (Some d) a = a.version
 

@@ -3,19 +3,19 @@ use Rattle.std.proofs.Common.{◌≡◌, ◌≤◌, ℕ, List, [], ◌∷◌, �
 use Rattle.std.specs.Ordering.{ordering_reverse}
 use Rattle.std.specs.BTreeMap.{insert_entry}
 use Rattle.serde_json.specs.Data.{Data}
-use Rattle.definitions.specs.Names.{Name, name_cmp}
+use Rattle.definitions.specs.Keys.{Key, key_cmp}
 use Rattle.definitions.specs.History.{History, View, Members, up_to, in_view, after_all, list}
 use Rattle.definitions.proofs.PutLaws.{name_cmp_total, IsAbove, IsAscending, IsAscending-after_all, IsAscending-filter}
-use Rattle.definitions.specs.Changes.{Change, changes, play}
-use Rattle.definitions.specs.Streams.{Line, change, bookmark, initial, initial_end, Goes, IsStream, IsInitialStream, play_line, play_lines}
+use Rattle.definitions.specs.Events.{Event, events, applied}
+use Rattle.definitions.specs.Streams.{Line, event, bookmark, initial, initial_end, Goes, IsStream, IsInitialStream, play_line, applied_lines}
 use Rattle.laws.proofs.Played.{list_played}
 
 -- the changes among the lines are the changes
-goes_played : (ls : List Line) (at b : ℕ) (cs : List Change) (ms : Members) → Goes at b cs ls → play_lines ms ls ≡ play ms cs
+goes_played : (ls : List Line) (at b : ℕ) (cs : List Event) (ms : Members) → Goes at b cs ls → applied_lines ms ls ≡ applied ms cs
 goes_played [] at b [] ms h = refl
 goes_played [] at b (c ∷ cs) ms h = absurd h
-goes_played (change d ∷ ls) at b [] ms h = absurd h
-goes_played (change d ∷ ls) at b (c ∷ cs) ms h = ap (λ x. play_lines (play_line ms (change x)) ls) h.0 ∙ goes_played ls c.revision b cs (play_line ms (change c)) h.1
+goes_played (event d ∷ ls) at b [] ms h = absurd h
+goes_played (event d ∷ ls) at b (c ∷ cs) ms h = ap (λ x. applied_lines (play_line ms (event x)) ls) h.0 ∙ goes_played ls c.revision b cs (play_line ms (event c)) h.1
 goes_played (bookmark r ∷ ls) at b [] ms h = goes_played ls r b [] ms h.2
 goes_played (bookmark r ∷ ls) at b (c ∷ cs) ms h = goes_played ls r b (c ∷ cs) ms h.3
 goes_played (initial n d ∷ ls) at b [] ms h = absurd h
@@ -23,30 +23,30 @@ goes_played (initial n d ∷ ls) at b (c ∷ cs) ms h = absurd h
 goes_played (initial_end r ∷ ls) at b [] ms h = absurd h
 goes_played (initial_end r ∷ ls) at b (c ∷ cs) ms h = absurd h
 
-pub stream_played : (h : History) (v : View) (a b : ℕ) (ls : List Line) → a ≤ b → IsStream h v a b ls → play_lines (list h v a) ls ≡ list h v b
-stream_played h v a b ls le s = goes_played ls a b (changes h v a b) (list h v a) s ∙ list_played h v a b le
+pub stream_played : (h : History) (v : View) (a b : ℕ) (ls : List Line) → a ≤ b → IsStream h v a b ls → applied_lines (list h v a) ls ≡ list h v b
+stream_played h v a b ls le s = goes_played ls a b (events h v a b) (list h v a) s ∙ list_played h v a b le
 
 -- ---- entries that go in by rising key
 
-in_middle : (j : Name) (es : Members) (e : Name × Data) (more : Members) → IsAbove name_cmp j (es ++ e ∷ more) → name_cmp j e.0 ≡ Less
+in_middle : (j : Key) (es : Members) (e : Key × Data) (more : Members) → IsAbove key_cmp j (es ++ e ∷ more) → key_cmp j e.0 ≡ Less
 in_middle j [] e more h = h.0
 in_middle j (f ∷ es) e more h = in_middle j es e more h.1
 
-pub put_last : (es : Members) (e : Name × Data) (more : Members) → IsAscending name_cmp (es ++ e ∷ more) → insert_entry name_cmp es e.0 e.1 ≡ es ++ e ∷ []
+pub put_last : (es : Members) (e : Key × Data) (more : Members) → IsAscending key_cmp (es ++ e ∷ more) → insert_entry key_cmp es e.0 e.1 ≡ es ++ e ∷ []
 put_last [] e more a = refl
 put_last (f ∷ es) e more a =
-    let above : name_cmp e.0 f.0 ≡ Greater = name_cmp_total.antisymm e.0 f.0 ∙ ap ordering_reverse (in_middle f.0 es e more a.0) in
+    let above : key_cmp e.0 f.0 ≡ Greater = name_cmp_total.antisymm e.0 f.0 ∙ ap ordering_reverse (in_middle f.0 es e more a.0) in
     rw above (ap (λ z. f ∷ z) (put_last es e more a.1))
 
-pub all_put : (ms es : Members) (ls : List Line) → IsAscending name_cmp (es ++ ms) → play_lines es (map (λ m. initial m.0 m.1) ms ++ ls) ≡ play_lines (es ++ ms) ls
-all_put [] es ls a = ap (λ z. play_lines z ls) (sym (append-nil es))
+pub all_put : (ms es : Members) (ls : List Line) → IsAscending key_cmp (es ++ ms) → applied_lines es (map (λ m. initial m.0 m.1) ms ++ ls) ≡ applied_lines (es ++ ms) ls
+all_put [] es ls a = ap (λ z. applied_lines z ls) (sym (append-nil es))
 all_put (e ∷ ms) es ls a =
-    ap (λ z. play_lines z (map (λ m. initial m.0 m.1) ms ++ ls)) (put_last es e ms a) ∙ all_put ms (es ++ e ∷ []) ls (subst (IsAscending name_cmp) (sym (append_assoc es (e ∷ []) ms)) a)
-    ∙ ap (λ z. play_lines z ls) (append_assoc es (e ∷ []) ms)
+    ap (λ z. applied_lines z (map (λ m. initial m.0 m.1) ms ++ ls)) (put_last es e ms a) ∙ all_put ms (es ++ e ∷ []) ls (subst (IsAscending key_cmp) (sym (append_assoc es (e ∷ []) ms)) a)
+    ∙ ap (λ z. applied_lines z ls) (append_assoc es (e ∷ []) ms)
 
-pub list_ascending : (h : History) (v : View) (a : ℕ) → IsAscending name_cmp (list h v a)
-list_ascending h v a = IsAscending-filter name_cmp (λ m. in_view v m.0 m.1) (after_all [] (up_to a h)) (IsAscending-after_all [] (up_to a h) tt)
+pub list_ascending : (h : History) (v : View) (a : ℕ) → IsAscending key_cmp (list h v a)
+list_ascending h v a = IsAscending-filter key_cmp (λ m. in_view v m.0 m.1) (after_all [] (up_to a h)) (IsAscending-after_all [] (up_to a h) tt)
 
-pub initial_stream_played : (h : History) (v : View) (a b : ℕ) (ls : List Line) → a ≤ b → IsInitialStream h v a b ls → play_lines [] ls ≡ list h v b
+pub initial_stream_played : (h : History) (v : View) (a b : ℕ) (ls : List Line) → a ≤ b → IsInitialStream h v a b ls → applied_lines [] ls ≡ list h v b
 initial_stream_played h v a b ls le s =
-    ap (play_lines []) s.1 ∙ all_put (list h v a) [] (initial_end a ∷ s.0) (list_ascending h v a) ∙ stream_played h v a b s.0 le s.2
+    ap (applied_lines []) s.1 ∙ all_put (list h v a) [] (initial_end a ∷ s.0) (list_ascending h v a) ∙ stream_played h v a b s.0 le s.2

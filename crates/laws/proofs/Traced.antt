@@ -6,7 +6,7 @@ use Rattle.serde_json.specs.Data.{Data}
 use Rattle.definitions.specs.History.{History, Write, write, writes, present, last_of, state, members}
 use Rattle.laws.specs.HistoryLaws.{OfStored, KeepsText}
 use Rattle.definitions.specs.Metadata.{metadata_text, uid}
-use Rattle.definitions.specs.Names.{Name, is_named}
+use Rattle.definitions.specs.Keys.{Key, is_same_key}
 use Rattle.definitions.specs.Uids.{uid_text, uid_revision, cluster_word}
 use Rattle.definitions.specs.Verbs.{accept, new_name, with_write, write_of}
 use Rattle.definitions.specs.ObjectRequests.{Request}
@@ -16,7 +16,7 @@ use Rattle.laws.proofs.HeldMembers.{uid-created}
 use Rattle.laws.proofs.Past.{last_of-append, whole, writes-append}
 use Rattle.definitions.proofs.PutLaws.{same_name}
 use Rattle.laws.proofs.Removals.{stand as stands_on}
-use Rattle.definitions.proofs.Uids.{held}
+use Rattle.definitions.proofs.Uids.{existing}
 use Rattle.laws.proofs.UidsOnce.{one_text}
 use Rattle.laws.proofs.VerbLaws.{kept_is, found-state, none_from, identity}
 use Rattle.definitions.specs.Reached.{IsReached}
@@ -28,20 +28,20 @@ use Rattle.laws.proofs.Versions.{Among, put_by, write_at, one_write}
 -- ---- what is there, by the writes
 
 -- what is under a name at a revision
-abbrev pub there : List Write → ℕ → Name → Option Data
+abbrev pub there : List Write → ℕ → Key → Option Data
 there ws r k = last_of None k (take (r - 1) ws)
 
 abbrev pub now : List Write → ℕ
 now ws = length ws + 1
 
-pub there_before : (ws : List Write) (w : Write) (r : ℕ) (k : Name) → r ≤ now ws → there (ws ++ w ∷ []) r k ≡ there ws r k
+pub there_before : (ws : List Write) (w : Write) (r : ℕ) (k : Key) → r ≤ now ws → there (ws ++ w ∷ []) r k ≡ there ws r k
 there_before ws w r k le = ap (last_of None k) (take-append-le (r - 1) ws (w ∷ []) (omega (arith, le)))
 
-pub there_after : (ws : List Write) (w : Write) (r : ℕ) (k : Name) → r ≡ now ws + 1 → there (ws ++ w ∷ []) r k ≡ cond (is_named k w.key) w.put (there ws (now ws) k)
+pub there_after : (ws : List Write) (w : Write) (r : ℕ) (k : Key) → r ≡ now ws + 1 → there (ws ++ w ∷ []) r k ≡ cond (is_same_key k w.key) w.put (there ws (now ws) k)
 there_after ws w r k is =
     let long : length (ws ++ w ∷ []) ≡ length ws + 1 = length-append ws (w ∷ []) in
     ap (last_of None k) (whole (r - 1) (ws ++ w ∷ []) (omega (arith, is, long))) ∙ last_of-append None k ws w
-    ∙ ap (λ us. cond (is_named k w.key) w.put (last_of None k us)) (sym (whole (now ws - 1) ws (omega arith)))
+    ∙ ap (λ us. cond (is_same_key k w.key) w.put (last_of None k us)) (sym (whole (now ws - 1) ws (omega arith)))
 
 -- ---- what a request writes
 
@@ -49,10 +49,10 @@ there_after ws w r k is =
 abbrev Keeps : Data → Data → Type 0
 Keeps was d = KeepsText (codes "uid") was d × KeepsText (codes "deletionTimestamp") was d
 
-abbrev pub Comes : List Write → Name → Data → Type 0
+abbrev pub Comes : List Write → Key → Data → Type 0
 Comes ws k d = ((uid d ≡ Some (uid_text cluster_word (now ws + 1))) × (there ws (now ws) k ≡ None)) ⊎ ((was : Data) × (there ws (now ws) k ≡ Some was) × Keeps was d)
 
-abbrev Origin : History → Name → Data → Type 0
+abbrev Origin : History → Key → Data → Type 0
 Origin h k d = ((uid d ≡ Some (uid_text cluster_word (present h + 1))) × (state h (present h) k ≡ None)) ⊎ ((was : Data) × (state h (present h) k ≡ Some was))
 
 origin : (q : Request) (h : History) (moment : List ℕ) → OfStored (accept q h moment) (Origin h)
@@ -68,25 +68,25 @@ origin q h moment =
     (λ k o was at none low. tt)
 
 abbrev Both : Data → Data → Type 0
-Both d held = KeepsText (codes "uid") held d × KeepsText (codes "creationTimestamp") held d
+Both d existing = KeepsText (codes "uid") existing d × KeepsText (codes "creationTimestamp") existing d
 
-keeps_of : (before : Option Data) (was d : Data) → before ≡ Some was → IfSome before (Both d) → IfSome before (λ held. KeepsText (codes "deletionTimestamp") held d) → Keeps was d
+keeps_of : (before : Option Data) (was d : Data) → before ≡ Some was → IfSome before (Both d) → IfSome before (λ existing. KeepsText (codes "deletionTimestamp") existing d) → Keeps was d
 keeps_of before was d is a b =
     let one = subst (λ o. IfSome o (Both d)) is a in
-    let two = subst (λ o. IfSome o (λ held. KeepsText (codes "deletionTimestamp") held d)) is b in
+    let two = subst (λ o. IfSome o (λ existing. KeepsText (codes "deletionTimestamp") existing d)) is b in
     (one.0, two)
 
-comes_from : (h : History) (k : Name) (d : Data) → Origin h k d → IfSome (state h (present h) k) (Both d) → IfSome (state h (present h) k) (λ held. KeepsText (codes "deletionTimestamp") held d) → Comes (writes h) k d
+comes_from : (h : History) (k : Key) (d : Data) → Origin h k d → IfSome (state h (present h) k) (Both d) → IfSome (state h (present h) k) (λ existing. KeepsText (codes "deletionTimestamp") existing d) → Comes (writes h) k d
 comes_from h k d (inl new) a b = inl new
 comes_from h k d (inr is) a b = inr (is.0, is.1, keeps_of (state h (present h) k) is.0 d is.1 a b)
 
-comes_put : (h : History) (k : Name) (put : Option Data) → IfSome put (Origin h k) → IfSome put (λ d. IfSome (state h (present h) k) (Both d))
-    → IfSome put (λ d. IfSome (state h (present h) k) (λ held. KeepsText (codes "deletionTimestamp") held d)) → IfSome put (Comes (writes h) k)
+comes_put : (h : History) (k : Key) (put : Option Data) → IfSome put (Origin h k) → IfSome put (λ d. IfSome (state h (present h) k) (Both d))
+    → IfSome put (λ d. IfSome (state h (present h) k) (λ existing. KeepsText (codes "deletionTimestamp") existing d)) → IfSome put (Comes (writes h) k)
 comes_put h k None o a b = tt
 comes_put h k (Some d) o a b = comes_from h k d o a b
 
 comes_write : (h : History) (o : Option Write) → IfSome o (λ w. IfSome w.put (Origin h w.key)) → IfSome o (λ w. IfSome w.put (λ d. IfSome (state h (present h) w.key) (Both d)))
-    → IfSome o (λ w. IfSome w.put (λ d. IfSome (state h (present h) w.key) (λ held. KeepsText (codes "deletionTimestamp") held d))) → IfSome o (λ w. IfSome w.put (Comes (writes h) w.key))
+    → IfSome o (λ w. IfSome w.put (λ d. IfSome (state h (present h) w.key) (λ existing. KeepsText (codes "deletionTimestamp") existing d))) → IfSome o (λ w. IfSome w.put (Comes (writes h) w.key))
 comes_write h None o a b = tt
 comes_write h (Some w) o a b = comes_put h w.key w.put o a b
 
@@ -95,20 +95,20 @@ comes q h moment = comes_write h (write_of (accept q h moment)) (origin q h mome
 
 -- ---- the trace of an object
 
-abbrev pub PutAt : List Write → ℕ → Name → Data → Type 0
+abbrev pub PutAt : List Write → ℕ → Key → Data → Type 0
 PutAt ws r k d = (2 ≤ r) × (r ≤ now ws) × (slice_get ws (r - 2) ≡ Some (write_at k d))
 
-abbrev pub CreatedAt : List Write → ℕ → Name → List ℕ → Type 0
+abbrev pub CreatedAt : List Write → ℕ → Key → List ℕ → Type 0
 CreatedAt ws c k t = (d : Data) × PutAt ws c k d × (uid d ≡ Some t) × (there ws (c - 1) k ≡ None)
 
-abbrev pub StoodAt : List Write → ℕ → Name → Data → Type 0
+abbrev pub StoodAt : List Write → ℕ → Key → Data → Type 0
 StoodAt ws s k d = (was : Data) × (there ws s k ≡ Some was) × (uid was ≡ uid d) × KeepsText (codes "deletionTimestamp") was d
 
-abbrev pub Trace : List Write → ℕ → Name → Data → Type 0
+abbrev pub Trace : List Write → ℕ → Key → Data → Type 0
 Trace ws r k d = (c : ℕ) × (c ≤ r) × (uid d ≡ Some (uid_text cluster_word c)) × CreatedAt ws c k (uid_text cluster_word c) × ((s : ℕ) → c ≤ s → s ≤ r → StoodAt ws s k d)
 
 abbrev pub AllTraced : List Write → Type 0
-AllTraced ws = (r : ℕ) (k : Name) (d : Data) → r ≤ now ws → there ws r k ≡ Some d → Trace ws r k d
+AllTraced ws = (r : ℕ) (k : Key) (d : Data) → r ≤ now ws → there ws r k ≡ Some d → Trace ws r k d
 
 get_before : (ws : List Write) (w v : Write) (i : ℕ) → slice_get ws i ≡ Some v → slice_get (ws ++ w ∷ []) i ≡ Some v
 get_before [] w v i is = cc
@@ -139,20 +139,20 @@ module _ (ws : List Write) (w : Write) where
   longer : now more ≡ now ws + 1
   longer = let long : length (ws ++ w ∷ []) ≡ length ws + 1 = length-append ws (w ∷ []) in omega (arith, long)
 
-  put_later : (c : ℕ) (k : Name) (d : Data) → PutAt ws c k d → PutAt more c k d
+  put_later : (c : ℕ) (k : Key) (d : Data) → PutAt ws c k d → PutAt more c k d
   put_later c k d p = let le : c ≤ now ws = p.1 in let long = longer in (p.0, omega (arith, le, long), get_before ws w (write_at k d) (c - 2) p.2)
 
-  created_later : (c : ℕ) (k : Name) (t : List ℕ) → CreatedAt ws c k t → CreatedAt more c k t
+  created_later : (c : ℕ) (k : Key) (t : List ℕ) → CreatedAt ws c k t → CreatedAt more c k t
   created_later c k t p = let le : c ≤ now ws = p.1.1 in (p.0, put_later c k p.0 p.1, p.2, there_before ws w (c - 1) k (omega (arith, le)) ∙ p.3)
 
-  stood_later : (s : ℕ) (k : Name) (d : Data) → s ≤ now ws → StoodAt ws s k d → StoodAt more s k d
+  stood_later : (s : ℕ) (k : Key) (d : Data) → s ≤ now ws → StoodAt ws s k d → StoodAt more s k d
   stood_later s k d le p = (p.0, there_before ws w s k le ∙ p.1, p.2, p.3)
 
-  trace_before : (r : ℕ) (k : Name) (d : Data) → r ≤ now ws → Trace ws r k d → Trace more r k d
+  trace_before : (r : ℕ) (k : Key) (d : Data) → r ≤ now ws → Trace ws r k d → Trace more r k d
   trace_before r k d le t = (t.0, t.1, t.2, created_later t.0 k (uid_text cluster_word t.0) t.3, λ s a b. stood_later s k d (omega (arith, le, b)) (t.4 s a b))
 
   -- at the new revision
-  module _ (r : ℕ) (is : r ≡ now ws + 1) (k : Name) (d : Data) (at : there more r k ≡ Some d) where
+  module _ (r : ℕ) (is : r ≡ now ws + 1) (k : Key) (d : Data) (at : there more r k ≡ Some d) where
     itself : (s : ℕ) → s ≡ r → StoodAt more s k d
     itself s same = (d, ap (λ n. there more n k) same ∙ at, refl, stays (metadata_text (codes "deletionTimestamp") d))
 
@@ -189,7 +189,7 @@ module _ (ws : List Write) (w : Write) where
         (r, omega arith, says, (d, (omega (arith, is), omega (arith, is, long), wrote), says, free), λ s a b. itself s (omega (arith, a, b)))
 
     -- by what was written
-    by_write : (b : Bool) → is_named k w.key ≡ b → AllTraced ws → IfSome w.put (Comes ws w.key) → cond b w.put (there ws (now ws) k) ≡ Some d → Trace more r k d
+    by_write : (b : Bool) → is_same_key k w.key ≡ b → AllTraced ws → IfSome w.put (Comes ws w.key) → cond b w.put (there ws (now ws) k) ≡ Some d → Trace more r k d
     by_write false named all c is' = let t = all (now ws) k d (omega arith) is' in from_before d t refl (stays (metadata_text (codes "deletionTimestamp") d))
     by_write true named all c put = of (subst (λ o. IfSome o (Comes ws w.key)) put c)
       where
@@ -207,7 +207,7 @@ module _ (ws : List Write) (w : Write) where
     where
       by : (r ≤ now ws) ⊎ (r ≡ now ws + 1) → Trace more r k d
       by (inl le) = trace_before r k d le (all r k d le (sym (there_before ws w r k le) ∙ at))
-      by (inr is) = by_write r is k d at (is_named k w.key) refl all c (sym (there_after ws w r k is) ∙ at)
+      by (inr is) = by_write r is k d at (is_same_key k w.key) refl all c (sym (there_after ws w r k is) ∙ at)
 
 traced_outcome : (h : History) (o : Option Write) → IfSome o (λ w. IfSome w.put (Comes (writes h) w.key)) → AllTraced (writes h) → AllTraced (writes (with_write h o))
 traced_outcome h None c all = all
@@ -234,7 +234,7 @@ traced h r k d reached le at = all_traced h reached r k d le at
 same_create : (c b n : ℕ) (u v : Option (List ℕ)) → n ≤ 9007199254740991 → c ≤ n → b ≤ n → u ≡ v → u ≡ Some (uid_text cluster_word c) → v ≡ Some (uid_text cluster_word b) → c ≡ b
 same_create c b n u v low lc lb same is as_well =
     let one : uid_text cluster_word c ≡ uid_text cluster_word b = one_text (uid_text cluster_word c) (uid_text cluster_word b) (sym is ∙ same ∙ as_well) in
-    sym (held cluster_word c (omega (arith, lc, low))) ∙ ap uid_revision one ∙ held cluster_word b (omega (arith, lb, low))
+    sym (existing cluster_word c (omega (arith, lc, low))) ∙ ap uid_revision one ∙ existing cluster_word b (omega (arith, lb, low))
 
 pub once : UidsAreGivenOnce
 once h r s k l d e reached lr ls at as_well same =

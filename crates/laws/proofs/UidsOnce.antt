@@ -2,16 +2,16 @@
 use Rattle.std.proofs.Common.{◌≡◌, ◌≤◌, ◌+◌, ℕ, List, [], ◌∷◌, length, codes, IfSome, Option, Some, None, arith, refl, sym, subst, ap, ◌∙◌}
 use Rattle.serde_json.specs.Data.{Data}
 use Rattle.definitions.specs.Checks.{finalizers}
-use Rattle.definitions.specs.Deletion.{left_by, marked}
+use Rattle.definitions.specs.Deletion.{left_by, being_deleted}
 use Rattle.definitions.specs.History.{History, Write, writes, found, members, present}
 use Rattle.laws.specs.HistoryLaws.{OfStored, KeepsText}
 use Rattle.laws.specs.LifecycleLaws.{NoneHas, NewUidsAreUnused}
 use Rattle.definitions.specs.Reached.{IsReached}
 use Rattle.definitions.specs.Metadata.{metadata_of, uid, at_revision}
-use Rattle.definitions.specs.Names.{Name}
-use Rattle.definitions.specs.Replacements.{in_place, updated, with_said_status}
+use Rattle.definitions.specs.Keys.{Key}
+use Rattle.definitions.specs.Replacements.{in_place, updated, with_status_in}
 use Rattle.definitions.specs.Uids.{uid_text, uid_revision, cluster_word}
-use Rattle.definitions.specs.Verbs.{accept, new_name, said, with_write, write_of}
+use Rattle.definitions.specs.Verbs.{accept, new_name, object_in, with_write, write_of}
 use Rattle.definitions.specs.ObjectRequests.{Request}
 use Rattle.laws.proofs.Cases.{of_accept, of_create}
 use Rattle.laws.proofs.EachWrite.{AllPut, put_write, there_put}
@@ -19,14 +19,14 @@ use Rattle.laws.proofs.HeldMembers.{uid-created}
 use Rattle.laws.proofs.Limited.{limited}
 use Rattle.laws.proofs.Compacted.{same_writes}
 use Rattle.laws.proofs.Reaching.{by_reached}
-use Rattle.definitions.proofs.Uids.{held}
+use Rattle.definitions.proofs.Uids.{existing}
 use Rattle.laws.proofs.VerbLaws.{kept_is, found-state, kept_in_place, present-write, text-marked, text-restated}
 
 -- an object whose uid is that of a create up to a revision
 abbrev IsBorn : ℕ → Data → Type 0
 IsBorn n d = (r : ℕ) × (uid d ≡ Some (uid_text cluster_word r)) × (r ≤ n)
 
-abbrev IsBornAt : ℕ → Name → Data → Type 0
+abbrev IsBornAt : ℕ → Key → Data → Type 0
 IsBornAt n k d = IsBorn n d
 
 abbrev AreBorn : ℕ → List Write → Type 0
@@ -41,7 +41,7 @@ later_all n m [] le b = tt
 later_all n m (w ∷ ws) le b = (later_one n m w.put le b.0, later_all n m ws le b.1)
 
 -- what is there was born
-found_born : (h : History) (k : Name) (d : Data) → AreBorn (present h) (writes h) → found k (members h (present h)) ≡ Some d → IsBorn (present h) d
+found_born : (h : History) (k : Key) (d : Data) → AreBorn (present h) (writes h) → found k (members h (present h)) ≡ Some d → IsBorn (present h) d
 found_born h k d b at = there_put (IsBornAt (present h)) h (present h) k d b (sym (found-state h k) ∙ at)
 
 -- who keeps the uid stays born
@@ -56,11 +56,11 @@ born_by q h moment b =
     (λ k o was at valid fits low. born_kept (present h) was (updated k.kind r was (in_place k.kind was o)) (found_born h k was b at) (kept_in_place k.kind r was o).0)
     (λ k o was at free low. tt)
     (λ k o was at fits low.
-    let d = with_said_status k.kind was o in
+    let d = with_status_in k.kind was o in
     born_kept (present h) was (at_revision r (metadata_of d) d) (found_born h k was b at) (text-restated (codes "uid") k.kind r was o refl))
     (λ k o was at low.
     let left = left_by o.policy (finalizers was) in
-    let d = marked k.kind moment left was in
+    let d = being_deleted k.kind moment left was in
     born_kept (present h) was (at_revision r (metadata_of d) d) (found_born h k was b at) (text-marked (codes "uid") k.kind r moment left was refl refl refl refl))
     (λ k o was at none low. tt)
 
@@ -80,7 +80,7 @@ one_text s t is = cc
 not_next : (n r : ℕ) (d : Data) → n ≤ 9007199254740991 → r ≤ n → uid d ≡ Some (uid_text cluster_word r) → uid d ≡ Some (uid_text cluster_word (n + 1)) → ⊥
 not_next n r d low le is next =
     let one : uid_text cluster_word r ≡ uid_text cluster_word (n + 1) = one_text (uid_text cluster_word r) (uid_text cluster_word (n + 1)) (sym is ∙ next) in
-    let same : r ≡ n + 1 = sym (held cluster_word r (omega (arith, le, low))) ∙ ap uid_revision one ∙ held cluster_word (n + 1) (omega (arith, low)) in
+    let same : r ≡ n + 1 = sym (existing cluster_word r (omega (arith, le, low))) ∙ ap uid_revision one ∙ existing cluster_word (n + 1) (omega (arith, low)) in
     absurd (omega (arith, same, le))
 
 one_has_not : (n : ℕ) (o : Option Data) → n ≤ 9007199254740991 → IfSome o (IsBorn n) → IfSome o (λ d. uid d ≡ Some (uid_text cluster_word (n + 1)) → ⊥)
@@ -93,6 +93,6 @@ none_has n (w ∷ ws) low b = (one_has_not n w.put low b.0, none_has n ws low b.
 
 pub unused : NewUidsAreUnused
 unused h kind ns d moment reached =
-    of_create (λ u. OfStored u (λ k new. (t : List ℕ) × (uid new ≡ Some t) × NoneHas t (writes h))) (λ f. tt) kind ns (said kind d) (members h (present h)) (present h) moment
+    of_create (λ u. OfStored u (λ k new. (t : List ℕ) × (uid new ≡ Some t) × NoneHas t (writes h))) (λ f. tt) kind ns (object_in kind d) (members h (present h)) (present h) moment
     (λ o read valid fits free room.
     (uid_text cluster_word (present h + 1), uid-created kind (present h + 1) ns (new_name kind ns o (members h (present h)) (present h)).name moment o, none_has (present h) (writes h) (limited h reached).1 (born h reached)))

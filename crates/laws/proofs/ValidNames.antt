@@ -3,9 +3,9 @@ use Rattle.std.proofs.Common.{◌≡◌, ℕ, List, true, Some, sym, ◌∙◌}
 use Rattle.serde_json.specs.Data.{Data}
 use Rattle.definitions.specs.History.{History, writes, found, members, present, state}
 use Rattle.laws.specs.HistoryLaws.{OfStored}
-use Rattle.definitions.specs.Names.{Name, is_namespace, is_subdomain}
+use Rattle.definitions.specs.Keys.{Key, is_namespace, is_subdomain}
 use Rattle.definitions.specs.Reading.{reading}
-use Rattle.definitions.specs.Verbs.{Outcome, accept, shown, said, write_of}
+use Rattle.definitions.specs.Verbs.{Outcome, accept, shown, object_in, write_of}
 use Rattle.definitions.specs.ObjectRequests.{Request, get_object, list_objects, create_object, update_object, update_status, patch_object, delete_object}
 use Rattle.laws.proofs.Cases.{of_create, of_delete, of_patch, of_status, of_update}
 use Rattle.laws.proofs.Compacted.{same_writes}
@@ -17,33 +17,33 @@ use Rattle.laws.specs.ParsedLaws.{NamesAreValid}
 use Rattle.laws.proofs.Reaching.{by_reached}
 use Rattle.laws.proofs.SentObjects.{created_valid}
 
-abbrev pub IsValid : Name → Type 0
+abbrev pub IsValid : Key → Type 0
 IsValid k = (is_namespace k.namespace ≡ true) × (is_subdomain k.name ≡ true)
 
-module _ (h : History) (moment : List ℕ) (all : (k : Name) (d : Data) → state h (present h) k ≡ Some d → IsValid k) where
+module _ (h : History) (moment : List ℕ) (all : (k : Key) (d : Data) → state h (present h) k ≡ Some d → IsValid k) where
   abbrev P : Outcome → Type 0
   P o = OfStored o (λ k d. IsValid k)
 
-  there_now : (k : Name) (held : Data) → found k (members h (present h)) ≡ Some held → IsValid k
-  there_now k held is = all k held (sym (found-state h k) ∙ is)
+  there_now : (k : Key) (existing : Data) → found k (members h (present h)) ≡ Some existing → IsValid k
+  there_now k existing is = all k existing (sym (found-state h k) ∙ is)
 
   valid_by : (q : Request) → IsAsked q → P (accept q h moment)
   valid_by (get_object k) a = there P (λ f. tt) k shown (found k (members h (present h))) (λ d is. tt)
   valid_by (list_objects v) a = tt
   valid_by (create_object kind ns d) a =
-      of_create P (λ f. tt) kind ns (said kind d) (members h (present h)) (present h) moment
+      of_create P (λ f. tt) kind ns (object_in kind d) (members h (present h)) (present h) moment
       (λ o read valid fits free room. (a.0, created_valid kind ns o (members h (present h)) (present h) (present h) valid))
   valid_by (update_object k d) a =
-      of_update P (λ f. tt) (λ d. tt) k (said k.kind d) (members h (present h)) (present h) (λ o held read is equal valid fits low. there_now k held is) (λ o held read is equal free low. tt)
-  valid_by (update_status k d) a = of_status P (λ f. tt) (λ d. tt) k (reading k.kind d) (members h (present h)) (present h) (λ o held read is equal fits low. there_now k held is)
+      of_update P (λ f. tt) (λ d. tt) k (object_in k.kind d) (members h (present h)) (present h) (λ o existing read is equal valid fits low. there_now k existing is) (λ o existing read is equal free low. tt)
+  valid_by (update_status k d) a = of_status P (λ f. tt) (λ d. tt) k (reading k.kind d) (members h (present h)) (present h) (λ o existing read is equal fits low. there_now k existing is)
   valid_by (patch_object k d) a =
-      of_patch P (λ f. tt) (λ d. tt) k d (members h (present h)) (present h) (λ o held read is equal valid fits low. there_now k held is) (λ o held read is equal free low. tt)
+      of_patch P (λ f. tt) (λ d. tt) k d (members h (present h)) (present h) (λ o existing read is equal valid fits low. there_now k existing is) (λ o existing read is equal free low. tt)
   valid_by (delete_object k o) a =
-      of_delete P (λ f. tt) (λ code body. tt) k o (members h (present h)) (present h) moment (λ held is same_uid equal low. there_now k held is) (λ held is same_uid equal none low. tt)
+      of_delete P (λ f. tt) (λ code body. tt) k o (members h (present h)) (present h) moment (λ existing is same_uid equal low. there_now k existing is) (λ existing is same_uid equal none low. tt)
 
 -- ---- what is written
 
-abbrev pub IsValidAt : Name → Data → Type 0
+abbrev pub IsValidAt : Key → Data → Type 0
 IsValidAt k d = IsValid k
 
 pub all_valid : (h : History) → IsReached h → AllPut IsValidAt (writes h)

@@ -13,17 +13,17 @@ use Rattle.serde_json.specs.Written.{compact_text}
 use Rattle.definitions.specs.Defaults.{defaulted, replica_set_defaults, deployment_defaults}
 use Rattle.definitions.proofs.FoundMembers.{with_found}
 use Rattle.definitions.specs.Checks.{finalizers}
-use Rattle.definitions.specs.Deletion.{left_by, marked, with_deletion}
+use Rattle.definitions.specs.Deletion.{left_by, being_deleted, with_deletion}
 use Rattle.definitions.specs.Kinds.{has_generation}
-use Rattle.definitions.specs.Names.{Name}
+use Rattle.definitions.specs.Keys.{Key}
 use Rattle.definitions.specs.History.{History, Write, write, writes, up_to, members, found, present, state}
 use Rattle.laws.specs.HistoryLaws.{OfStored, KeepsText, WritesCarryTheirRevision, CreatesAreNew, NamedVersionsAreReplaced, RefusalsWriteNothing, AnswersAreRead, WritesFit, WritesKeepIdentity}
 use Rattle.definitions.specs.Metadata.{metadata_of, metadata_text, uid, version, at_revision, is_being_deleted, differs}
 use Rattle.definitions.specs.NewObjects.{new_metadata, created, first_status, with_status}
 use Rattle.definitions.specs.Reading.{reading}
-use Rattle.definitions.specs.Replacements.{updated, in_place, said_status, with_said_status, with_next_generation, is_new_generation}
+use Rattle.definitions.specs.Replacements.{updated, in_place, status_in, with_status_in, with_next_generation, is_new_generation}
 use Rattle.definitions.specs.Uids.{uid_text, cluster_word}
-use Rattle.definitions.specs.Verbs.{shown, Outcome, outcome_body, history_after, new_name, said}
+use Rattle.definitions.specs.Verbs.{shown, Outcome, outcome_body, history_after, new_name, object_in}
 use Rattle.definitions.specs.ObjectRequests.{get_object, list_objects, create_object, update_object, update_status, patch_object, delete_object}
 use Rattle.definitions.proofs.VerbSteps.{with_defaults}
 use Rattle.definitions.specs.Values.{members_of, inner_of, with_member}
@@ -41,21 +41,21 @@ versions q h moment =
     (λ kind ns d o read valid fits free room.
     let k = new_name kind ns o (members h (present h)) (present h) in
     version-at_revision (present h + 1) (new_metadata kind (present h + 1) ns k.name moment (metadata_of o)) (object (with_status (first_status kind) (members_of o))))
-    (λ k o held at valid fits low.
-    let d = in_place k.kind held o in version-at_revision (present h + 1) (with_next_generation (is_new_generation k.kind held d) held (metadata_of d)) d)
-    (λ k o held at free low. tt) (λ k o held at fits low. let d = with_said_status k.kind held o in version-at_revision (present h + 1) (metadata_of d) d)
-    (λ k o held at low. let d = marked k.kind moment (left_by o.policy (finalizers held)) held in version-at_revision (present h + 1) (metadata_of d) d) (λ k o held at none low. tt)
+    (λ k o existing at valid fits low.
+    let d = in_place k.kind existing o in version-at_revision (present h + 1) (with_next_generation (is_new_generation k.kind existing d) existing (metadata_of d)) d)
+    (λ k o existing at free low. tt) (λ k o existing at fits low. let d = with_status_in k.kind existing o in version-at_revision (present h + 1) (metadata_of d) d)
+    (λ k o existing at low. let d = being_deleted k.kind moment (left_by o.policy (finalizers existing)) existing in version-at_revision (present h + 1) (metadata_of d) d) (λ k o existing at none low. tt)
 
 pub none_from : (o : Option Data) → is_some o ≡ false → o ≡ None
 none_from None h = refl
 none_from (Some d) h = absurd (true≢false h)
 
-pub found-state : (h : History) (k : Name) → found k (members h (present h)) ≡ state h (present h) k
+pub found-state : (h : History) (k : Key) → found k (members h (present h)) ≡ state h (present h) k
 found-state h k = found-after_all k [] (up_to (present h) h) tt
 
 pub creates : CreatesAreNew
 creates kind ns d h moment =
-    of_create (λ o. OfStored o (λ k new. (state h (present h) k ≡ None) × (uid new ≡ Some (uid_text cluster_word (present h + 1))))) (λ f. tt) kind ns (said kind d) (members h (present h)) (present h) moment
+    of_create (λ o. OfStored o (λ k new. (state h (present h) k ≡ None) × (uid new ≡ Some (uid_text cluster_word (present h + 1))))) (λ f. tt) kind ns (object_in kind d) (members h (present h)) (present h) moment
     (λ o read valid fits free room. (sym (found-state h _) ∙ none_from _ free, uid-created kind (present h + 1) ns (new_name kind ns o (members h (present h)) (present h)).name moment o))
 
 same_at : (b : Bool) (s t : List ℕ) → bytes_eq s t ≡ b → not b ≡ false → t ≡ s
@@ -63,7 +63,7 @@ same_at true s t is h = sym ((bytes_eq-Decides s t).0 is)
 same_at false s t is h = absurd (true≢false h)
 
 -- a version that is named and does not differ is the one that is held
-pub same : (s : List ℕ) (held : Option (List ℕ)) → differs (Some s) held ≡ false → held ≡ Some s
+pub same : (s : List ℕ) (existing : Option (List ℕ)) → differs (Some s) existing ≡ false → existing ≡ Some s
 same s None h = absurd (true≢false h)
 same s (Some t) h = ap (λ u. Some u) (same_at (bytes_eq s t) s t refl h)
 
@@ -95,12 +95,12 @@ version-defaulted k d = ap (text_in (codes "resourceVersion")) (metadata_of-defa
 
 pub replaced : NamedVersionsAreReplaced
 replaced k d o named h moment read names =
-    of_update (λ u. OfStored u (λ written new. (held : Data) × (written ≡ k) × (state h (present h) k ≡ Some held) × (version held ≡ Some named))) (λ f. tt) (λ shown. tt) k (said k.kind d) (members h (present h)) (present h)
-    (λ p held is at equal valid fits room.
-    let one : p ≡ defaulted k.kind o = one_object (said k.kind d) p (defaulted k.kind o) is (ap (with_defaults k.kind) read) in
+    of_update (λ u. OfStored u (λ written new. (existing : Data) × (written ≡ k) × (state h (present h) k ≡ Some existing) × (version existing ≡ Some named))) (λ f. tt) (λ shown. tt) k (object_in k.kind d) (members h (present h)) (present h)
+    (λ p existing is at equal valid fits room.
+    let one : p ≡ defaulted k.kind o = one_object (object_in k.kind d) p (defaulted k.kind o) is (ap (with_defaults k.kind) read) in
     let says : version p ≡ Some named = ap version one ∙ version-defaulted k.kind o ∙ names in
-    (held, refl, sym (found-state h k) ∙ at, same named (version held) (ap (λ v. differs v (version held)) (sym says) ∙ equal)))
-    (λ p held is at equal free low. tt)
+    (existing, refl, sym (found-state h k) ∙ at, same named (version existing) (ap (λ v. differs v (version existing)) (sym says) ∙ equal)))
+    (λ p existing is at equal free low. tt)
 
 pub refusals : RefusalsWriteNothing
 refusals q h moment f is = ap (history_after h) is
@@ -108,7 +108,7 @@ refusals q h moment f is = ap (history_after h) is
 pub present-write : (h : History) (w : Write) → present (h ++ write w ∷ []) ≡ present h + 1
 present-write h w = ap (λ ws. length ws + 1) (writes-append h (write w ∷ [])) ∙ ap (λ n. n + 1) (length-append (writes h) (w ∷ []))
 
-reads_write : (h : History) (k : Name) (d : Data) → state (h ++ write (record { key = k; put = Some d }) ∷ []) (present (h ++ write (record { key = k; put = Some d }) ∷ [])) k ≡ Some d
+reads_write : (h : History) (k : Key) (d : Data) → state (h ++ write (record { key = k; put = Some d }) ∷ []) (present (h ++ write (record { key = k; put = Some d }) ∷ [])) k ≡ Some d
 reads_write h k d =
     let w : Write = record { key = k; put = Some d } in
     ap (λ r. state (h ++ write w ∷ []) r k) (present-write h w) ∙ set h w k ∙ ap (λ o. cond (is_eq o) (Some d) (state h (present h) k)) (tied_itself name_cmp_total k)
@@ -116,8 +116,8 @@ reads_write h k d =
 pub reads : AnswersAreRead
 reads q h moment =
     of_accept (λ o. OfStored o (λ k d. (outcome_body o ≡ d) × (state (history_after h o) (present (history_after h o)) k ≡ Some d))) (λ f. tt) (λ code body. tt) q h moment
-    (λ kind ns d o read valid fits free room. (refl, reads_write h _ _)) (λ k o held at valid fits low. (refl, reads_write h k _)) (λ k o held at free low. tt) (λ k o held at fits low. (refl, reads_write h k _))
-    (λ k o held at low. (refl, reads_write h k _)) (λ k o held at none low. tt)
+    (λ kind ns d o read valid fits free room. (refl, reads_write h _ _)) (λ k o existing at valid fits low. (refl, reads_write h k _)) (λ k o existing at free low. tt) (λ k o existing at fits low. (refl, reads_write h k _))
+    (λ k o existing at low. (refl, reads_write h k _)) (λ k o existing at none low. tt)
 
 abbrev IsFit : Outcome → Type 0
 IsFit o = OfStored o (λ k d. length (compact_text d) ≤ 1572864)
@@ -126,13 +126,13 @@ pub writes_fit : WritesFit
 writes_fit (get_object k) h moment other = there IsFit (λ f. tt) k shown (found k (members h (present h))) (λ d is. tt)
 writes_fit (list_objects v) h moment other = tt
 writes_fit (create_object kind ns d) h moment other =
-    of_create IsFit (λ f. tt) kind ns (said kind d) (members h (present h)) (present h) moment (λ o read valid fits free room. at_most 1572864 _ fits)
+    of_create IsFit (λ f. tt) kind ns (object_in kind d) (members h (present h)) (present h) moment (λ o read valid fits free room. at_most 1572864 _ fits)
 writes_fit (update_object k d) h moment other =
-    of_update IsFit (λ f. tt) (λ d. tt) k (said k.kind d) (members h (present h)) (present h) (λ o held read is same valid fits low. at_most 1572864 _ fits) (λ o held read is same free low. tt)
+    of_update IsFit (λ f. tt) (λ d. tt) k (object_in k.kind d) (members h (present h)) (present h) (λ o existing read is same valid fits low. at_most 1572864 _ fits) (λ o existing read is same free low. tt)
 writes_fit (update_status k d) h moment other =
-    of_status IsFit (λ f. tt) (λ d. tt) k (reading k.kind d) (members h (present h)) (present h) (λ o held read is same fits low. at_most 1572864 _ fits)
+    of_status IsFit (λ f. tt) (λ d. tt) k (reading k.kind d) (members h (present h)) (present h) (λ o existing read is same fits low. at_most 1572864 _ fits)
 writes_fit (patch_object k d) h moment other =
-    of_patch IsFit (λ f. tt) (λ d. tt) k d (members h (present h)) (present h) (λ o held read is same valid fits low. at_most 1572864 _ fits) (λ o held read is same free low. tt)
+    of_patch IsFit (λ f. tt) (λ d. tt) k d (members h (present h)) (present h) (λ o existing read is same valid fits low. at_most 1572864 _ fits) (λ o existing read is same free low. tt)
 writes_fit (delete_object k o) h moment other = absurd (true≢false other)
 
 -- ---- what a write leaves as it is
@@ -147,48 +147,48 @@ metadata_of-status None d = ap inner_of (sym (get-members_of (codes "metadata") 
 metadata_of-status (Some s) d =
     ap inner_of (get_member-put_other (codes "metadata") (codes "status") s (members_of d) (apart (codes "metadata") (codes "status") refl) ∙ sym (get-members_of (codes "metadata") d))
 
-pub text-restated : (q : List ℕ) (k : Kind) (r : ℕ) (held o : Data) → bytes_eq q (codes "resourceVersion") ≡ false
-    → KeepsText q held (at_revision r (metadata_of (with_said_status k held o)) (with_said_status k held o))
-text-restated q k r held o other =
-    let d = with_said_status k held o in
-    moved (metadata_text q held) (metadata_text q (at_revision r (metadata_of d) d)) (metadata_text q held) (text-at_revision q r (metadata_of d) d other ∙ ap (text_in q) (metadata_of-status (said_status k (get (codes "status") o)) held)) (stays (metadata_text q held))
+pub text-restated : (q : List ℕ) (k : Kind) (r : ℕ) (existing o : Data) → bytes_eq q (codes "resourceVersion") ≡ false
+    → KeepsText q existing (at_revision r (metadata_of (with_status_in k existing o)) (with_status_in k existing o))
+text-restated q k r existing o other =
+    let d = with_status_in k existing o in
+    moved (metadata_text q existing) (metadata_text q (at_revision r (metadata_of d) d)) (metadata_text q existing) (text-at_revision q r (metadata_of d) d other ∙ ap (text_in q) (metadata_of-status (status_in k (get (codes "status") o)) existing)) (stays (metadata_text q existing))
 
 -- a mark leaves a text as it is
-pub text-with_deletion : (q : List ℕ) (k : Kind) (moment : List ℕ) (held : Data) (b : Bool) → bytes_eq q (codes "deletionTimestamp") ≡ false → bytes_eq q (codes "generation") ≡ false
-    → text_in q (cond b (metadata_of held) (put (codes "deletionTimestamp") (string moment) (with_next_generation (has_generation k) held (metadata_of held)))) ≡ metadata_text q held
-text-with_deletion q k moment held true other count = refl
-text-with_deletion q k moment held false other count =
-    text_in-put_other q (codes "deletionTimestamp") (string moment) (with_next_generation (has_generation k) held (metadata_of held)) other
-    ∙ text-with_next_generation q (has_generation k) held (metadata_of held) count
+pub text-with_deletion : (q : List ℕ) (k : Kind) (moment : List ℕ) (existing : Data) (b : Bool) → bytes_eq q (codes "deletionTimestamp") ≡ false → bytes_eq q (codes "generation") ≡ false
+    → text_in q (cond b (metadata_of existing) (put (codes "deletionTimestamp") (string moment) (with_next_generation (has_generation k) existing (metadata_of existing)))) ≡ metadata_text q existing
+text-with_deletion q k moment existing true other count = refl
+text-with_deletion q k moment existing false other count =
+    text_in-put_other q (codes "deletionTimestamp") (string moment) (with_next_generation (has_generation k) existing (metadata_of existing)) other
+    ∙ text-with_next_generation q (has_generation k) existing (metadata_of existing) count
 
-pub text-marked : (q : List ℕ) (k : Kind) (r : ℕ) (moment : List ℕ) (left : Items) (held : Data) → bytes_eq q (codes "resourceVersion") ≡ false → bytes_eq q (codes "finalizers") ≡ false
+pub text-marked : (q : List ℕ) (k : Kind) (r : ℕ) (moment : List ℕ) (left : Items) (existing : Data) → bytes_eq q (codes "resourceVersion") ≡ false → bytes_eq q (codes "finalizers") ≡ false
     → bytes_eq q (codes "deletionTimestamp") ≡ false → bytes_eq q (codes "generation") ≡ false
-    → KeepsText q held (at_revision r (metadata_of (marked k moment left held)) (marked k moment left held))
-text-marked q k r moment left held a b c e =
-    let meta = put (codes "finalizers") (array left) (with_deletion k moment held) in
-    let d = marked k moment left held in
-    moved (metadata_text q held) (metadata_text q (at_revision r (metadata_of d) d)) (metadata_text q held)
-    (text-at_revision q r (metadata_of d) d a ∙ ap (text_in q) (metadata_of-with meta held) ∙ text_in-put_other q (codes "finalizers") (array left) (with_deletion k moment held) b
-    ∙ text-with_deletion q k moment held (is_being_deleted held) c e)
-    (stays (metadata_text q held))
+    → KeepsText q existing (at_revision r (metadata_of (being_deleted k moment left existing)) (being_deleted k moment left existing))
+text-marked q k r moment left existing a b c e =
+    let meta = put (codes "finalizers") (array left) (with_deletion k moment existing) in
+    let d = being_deleted k moment left existing in
+    moved (metadata_text q existing) (metadata_text q (at_revision r (metadata_of d) d)) (metadata_text q existing)
+    (text-at_revision q r (metadata_of d) d a ∙ ap (text_in q) (metadata_of-with meta existing) ∙ text_in-put_other q (codes "finalizers") (array left) (with_deletion k moment existing) b
+    ∙ text-with_deletion q k moment existing (is_being_deleted existing) c e)
+    (stays (metadata_text q existing))
 
 abbrev KeepsBoth : Data → Data → Type 0
-KeepsBoth new held = KeepsText (codes "uid") held new × KeepsText (codes "creationTimestamp") held new
+KeepsBoth new existing = KeepsText (codes "uid") existing new × KeepsText (codes "creationTimestamp") existing new
 
 -- what holds of the object that is there, and of none
-pub of_held : (P : Data → Type 0) (now : Option Data) (held : Data) → now ≡ Some held → P held → IfSome now P
-of_held P now held is p = subst (λ o. IfSome o P) (sym is) p
+pub of_held : (P : Data → Type 0) (now : Option Data) (existing : Data) → now ≡ Some existing → P existing → IfSome now P
+of_held P now existing is p = subst (λ o. IfSome o P) (sym is) p
 
 pub of_none : (P : Data → Type 0) (now : Option Data) → now ≡ None → IfSome now P
 of_none P now is = subst (λ o. IfSome o P) (sym is) tt
 
-pub kept_in_place : (k : Kind) (r : ℕ) (held o : Data) → KeepsBoth (updated k r held (in_place k held o)) held
-kept_in_place k r held o =
-    let d = in_place k held o in
-    let new = updated k r held d in (
-      moved (metadata_text (codes "uid") held) (metadata_text (codes "uid") new) (metadata_text (codes "uid") d) (text-updated k (codes "uid") r held d refl refl) (uid-in_place k held o),
-      moved (metadata_text (codes "creationTimestamp") held) (metadata_text (codes "creationTimestamp") new) (metadata_text (codes "creationTimestamp") d)
-          (text-updated k (codes "creationTimestamp") r held d refl refl) (creation-in_place k held o),
+pub kept_in_place : (k : Kind) (r : ℕ) (existing o : Data) → KeepsBoth (updated k r existing (in_place k existing o)) existing
+kept_in_place k r existing o =
+    let d = in_place k existing o in
+    let new = updated k r existing d in (
+      moved (metadata_text (codes "uid") existing) (metadata_text (codes "uid") new) (metadata_text (codes "uid") d) (text-updated k (codes "uid") r existing d refl refl) (uid-in_place k existing o),
+      moved (metadata_text (codes "creationTimestamp") existing) (metadata_text (codes "creationTimestamp") new) (metadata_text (codes "creationTimestamp") d)
+          (text-updated k (codes "creationTimestamp") r existing d refl refl) (creation-in_place k existing o),
     )
 
 pub identity : WritesKeepIdentity
@@ -198,17 +198,17 @@ identity q h moment =
     (λ kind ns d o read valid fits free room.
     let k = new_name kind ns o (members h (present h)) (present h) in
     of_none (KeepsBoth (created kind r ns k.name moment o)) (state h (present h) k) (sym (found-state h k) ∙ none_from (found k (members h (present h))) free))
-    (λ k o held at valid fits low. of_held (KeepsBoth (updated k.kind r held (in_place k.kind held o))) (state h (present h) k) held (sym (found-state h k) ∙ at) (kept_in_place k.kind r held o))
-    (λ k o held at free low. tt)
-    (λ k o held at fits low.
-    let d = with_said_status k.kind held o in
-    of_held (KeepsBoth (at_revision r (metadata_of d) d)) (state h (present h) k) held (sym (found-state h k) ∙ at)
-    (text-restated (codes "uid") k.kind r held o refl, text-restated (codes "creationTimestamp") k.kind r held o refl))
-    (λ k o held at low.
-    let d = marked k.kind moment (left_by o.policy (finalizers held)) held in
-    of_held (KeepsBoth (at_revision r (metadata_of d) d)) (state h (present h) k) held (sym (found-state h k) ∙ at)
-    (text-marked (codes "uid") k.kind r moment (left_by o.policy (finalizers held)) held refl refl refl refl, text-marked (codes "creationTimestamp") k.kind r moment (left_by o.policy (finalizers held)) held refl refl refl refl))
-    (λ k o held at none low. tt)
+    (λ k o existing at valid fits low. of_held (KeepsBoth (updated k.kind r existing (in_place k.kind existing o))) (state h (present h) k) existing (sym (found-state h k) ∙ at) (kept_in_place k.kind r existing o))
+    (λ k o existing at free low. tt)
+    (λ k o existing at fits low.
+    let d = with_status_in k.kind existing o in
+    of_held (KeepsBoth (at_revision r (metadata_of d) d)) (state h (present h) k) existing (sym (found-state h k) ∙ at)
+    (text-restated (codes "uid") k.kind r existing o refl, text-restated (codes "creationTimestamp") k.kind r existing o refl))
+    (λ k o existing at low.
+    let d = being_deleted k.kind moment (left_by o.policy (finalizers existing)) existing in
+    of_held (KeepsBoth (at_revision r (metadata_of d) d)) (state h (present h) k) existing (sym (found-state h k) ∙ at)
+    (text-marked (codes "uid") k.kind r moment (left_by o.policy (finalizers existing)) existing refl refl refl refl, text-marked (codes "creationTimestamp") k.kind r moment (left_by o.policy (finalizers existing)) existing refl refl refl refl))
+    (λ k o existing at none low. tt)
 
 -- who keeps a text that is there has it
 pub kept_is : (o new : Option (List ℕ)) (t : List ℕ) → o ≡ Some t → IfSome o (λ s. new ≡ Some s) → new ≡ Some t

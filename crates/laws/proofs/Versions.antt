@@ -3,7 +3,7 @@ use Rattle.std.proofs.Common.{◌≡◌, ◌≤◌, ◌<◌, ◌+◌, ◌-◌, �
 use Rattle.serde_json.specs.Data.{Data}
 use Rattle.definitions.specs.History.{Write, writes, present, last_of}
 use Rattle.definitions.specs.Metadata.{version}
-use Rattle.definitions.specs.Names.{Name, is_named}
+use Rattle.definitions.specs.Keys.{Key, is_same_key}
 use Rattle.definitions.specs.Revisions.{revision_of}
 use Rattle.laws.specs.SentLaws.{IsKept, AreKept}
 use Rattle.definitions.proofs.PutLaws.{same_name}
@@ -12,32 +12,32 @@ use Rattle.laws.specs.IdentityLaws.{VersionsTellWrites, VersionsNameOneWrite}
 use Rattle.laws.proofs.Limited.{limited}
 use Rattle.laws.proofs.Stored.{all_are_kept}
 
-abbrev pub write_at : Name → Data → Write
+abbrev pub write_at : Key → Data → Write
 write_at k d = record { key = k; put = Some d }
 
 -- ---- which write put what is there
 
 -- among the first n of these writes, this one put it
-abbrev pub Among : ℕ → List Write → Name → Data → Type 0
+abbrev pub Among : ℕ → List Write → Key → Data → Type 0
 Among n ws k d = (i : ℕ) × (i < n) × (slice_get ws i ≡ Some (write_at k d))
 
-is_write : (w : Write) (k : Name) (d : Data) → k ≡ w.key → w.put ≡ Some d → Some w ≡ Some (write_at k d)
+is_write : (w : Write) (k : Key) (d : Data) → k ≡ w.key → w.put ≡ Some d → Some w ≡ Some (write_at k d)
 is_write w k d named put = λ i. Some (record { key = sym named i; put = put i })
 
-pub put_among : (before : Option Data) (k : Name) (n : ℕ) (ws : List Write) (d : Data) → last_of before k (take n ws) ≡ Some d → (before ≡ Some d) ⊎ Among n ws k d
+pub put_among : (before : Option Data) (k : Key) (n : ℕ) (ws : List Write) (d : Data) → last_of before k (take n ws) ≡ Some d → (before ≡ Some d) ⊎ Among n ws k d
 put_among before k zero ws d is = inl is
 put_among before k (suc n) [] d is = inl is
-put_among before k (suc n) (w ∷ ws) d is = by (put_among (cond (is_named k w.key) w.put before) k n ws d is)
+put_among before k (suc n) (w ∷ ws) d is = by (put_among (cond (is_same_key k w.key) w.put before) k n ws d is)
   where
-    here : (b : Bool) → is_named k w.key ≡ b → cond b w.put before ≡ Some d → (before ≡ Some d) ⊎ Among (suc n) (w ∷ ws) k d
+    here : (b : Bool) → is_same_key k w.key ≡ b → cond b w.put before ≡ Some d → (before ≡ Some d) ⊎ Among (suc n) (w ∷ ws) k d
     here true named at = inr (0, omega arith, is_write w k d (same_name k w.key named) at)
     here false named at = inl at
 
-    by : (cond (is_named k w.key) w.put before ≡ Some d) ⊎ Among n ws k d → (before ≡ Some d) ⊎ Among (suc n) (w ∷ ws) k d
-    by (inl at) = here (is_named k w.key) refl at
+    by : (cond (is_same_key k w.key) w.put before ≡ Some d) ⊎ Among n ws k d → (before ≡ Some d) ⊎ Among (suc n) (w ∷ ws) k d
+    by (inl at) = here (is_same_key k w.key) refl at
     by (inr m) = let low : m.0 < n = m.1 in inr (suc m.0, omega (arith, low), m.2)
 
-pub put_by : (k : Name) (n : ℕ) (ws : List Write) (d : Data) → last_of None k (take n ws) ≡ Some d → Among n ws k d
+pub put_by : (k : Key) (n : ℕ) (ws : List Write) (d : Data) → last_of None k (take n ws) ≡ Some d → Among n ws k d
 put_by k n ws d is = by (put_among None k n ws d is)
   where
     by : (None ≡ Some d) ⊎ Among n ws k d → Among n ws k d
@@ -45,7 +45,7 @@ put_by k n ws d is = by (put_among None k n ws d is)
     by (inr m) = m
 
 -- and it says its revision
-says : (r i : ℕ) (ws : List Write) (k : Name) (d : Data) → AreKept r ws → slice_get ws i ≡ Some (write_at k d) → version d ≡ Some (decimal (r + i))
+says : (r i : ℕ) (ws : List Write) (k : Key) (d : Data) → AreKept r ws → slice_get ws i ≡ Some (write_at k d) → version d ≡ Some (decimal (r + i))
 says r i [] k d a is = cc
 says r zero (w ∷ ws) k d a is = of w.put d (put_is is) a.0
   where
@@ -82,10 +82,10 @@ same_decimal v w lv lw is =
     let numbers : Some v ≡ Some w = sym (revision_is v (omega (arith, lv))) ∙ ap revision_of texts ∙ revision_is w (omega (arith, lw)) in
     cc
 
-pub one_write : (k l : Name) (d e : Data) → Some (write_at k d) ≡ Some (write_at l e) → (k ≡ l) × (d ≡ e)
+pub one_write : (k l : Key) (d e : Data) → Some (write_at k d) ≡ Some (write_at l e) → (k ≡ l) × (d ≡ e)
 one_write k l d e is = (ap key_of is, some (ap put_of is))
   where
-    key_of : Option Write → Name
+    key_of : Option Write → Key
     key_of None = k
     key_of (Some w) = w.key
 

@@ -10,9 +10,9 @@ use Rattle.definitions.specs.Defaults.{defaulted}
 use Rattle.definitions.specs.Metadata.{metadata_of, at_revision}
 use Rattle.definitions.specs.NewObjects.{first_status, with_status}
 use Rattle.definitions.specs.Reading.{reading}
-use Rattle.definitions.specs.Replacements.{as_held, in_place, keeping, kept, kept_of, said_status, with_said_status}
+use Rattle.definitions.specs.Replacements.{as_held, in_place, keeping, kept, kept_of, status_in, with_status_in}
 use Rattle.definitions.specs.Values.{members_of, without}
-use Rattle.definitions.specs.Verbs.{said}
+use Rattle.definitions.specs.Verbs.{object_in}
 use Rattle.definitions.proofs.VerbSteps.{with_defaults}
 use Rattle.laws.proofs.DefaultsRead.{defaults_read}
 use Rattle.definitions.proofs.FirstStatus.{get-members_of}
@@ -69,13 +69,13 @@ may_first Pod = (refl, refl, (refl, tt, tt), omega arith, refl)
 may_first ReplicaSet = (refl, refl, (refl, tt, tt), omega arith, refl)
 may_first Deployment = (refl, refl, tt, omega arith, refl)
 
-may_said : (k : Kind) (s : Option Data) (ms : Members) → get_member (codes "status") ms ≡ s → AreWhole k ms → MayBe k (said_status k s)
+may_said : (k : Kind) (s : Option Data) (ms : Members) → get_member (codes "status") ms ≡ s → AreWhole k ms → MayBe k (status_in k s)
 may_said k None ms is w = may_first k
 may_said k (Some d) ms is w = Neat-get 99 (Root k) (codes "status") ms d is w.neat
 
-pub whole_with_said : (k : Kind) (held o : Data) → AreWhole k (members_of held) → AreWhole k (members_of o) → AreWhole k (members_of (with_said_status k held o))
-whole_with_said k held o h w =
-    whole_status k (said_status k (get (codes "status") o)) (members_of held)
+pub whole_with_said : (k : Kind) (existing o : Data) → AreWhole k (members_of existing) → AreWhole k (members_of o) → AreWhole k (members_of (with_status_in k existing o))
+whole_with_said k existing o h w =
+    whole_status k (status_in k (get (codes "status") o)) (members_of existing)
     (may_said k (get (codes "status") o) (members_of o) (sym (get-members_of (codes "status") o)) w) h
 
 -- ---- what is kept
@@ -97,20 +97,20 @@ whole_without k ms w =
       filled = (stays (codes "metadata") ms refl f.0, spec_stays k ms f.1, stays (codes "kind") ms refl f.2, stays (codes "apiVersion") ms refl f.3);
     }
 
-whole_held : (k : Kind) (s : Option Data) (held ms : Members) → get_member (codes "status") held ≡ s → AreWhole k held → AreWhole k ms → AreWhole k (as_held (codes "status") s ms)
-whole_held k None held ms is h w = whole_without k ms w
-whole_held k (Some d) held ms is h w = whole_put k (codes "status") d ms (Neat-get 99 (Root k) (codes "status") held d is h.neat) w
+whole_held : (k : Kind) (s : Option Data) (existing ms : Members) → get_member (codes "status") existing ≡ s → AreWhole k existing → AreWhole k ms → AreWhole k (as_held (codes "status") s ms)
+whole_held k None existing ms is h w = whole_without k ms w
+whole_held k (Some d) existing ms is h w = whole_put k (codes "status") d ms (Neat-get 99 (Root k) (codes "status") existing d is h.neat) w
 
-whole_kept : (k : Kind) (held ms : Members) → AreWhole k held → AreWhole k ms → AreWhole k (keeping (kept_of k) held ms)
-whole_kept ConfigMap held ms h w = w
-whole_kept Pod held ms h w = whole_held Pod (get_member (codes "status") held) held ms refl h w
-whole_kept ReplicaSet held ms h w = whole_held ReplicaSet (get_member (codes "status") held) held ms refl h w
-whole_kept Deployment held ms h w = whole_held Deployment (get_member (codes "status") held) held ms refl h w
+whole_kept : (k : Kind) (existing ms : Members) → AreWhole k existing → AreWhole k ms → AreWhole k (keeping (kept_of k) existing ms)
+whole_kept ConfigMap existing ms h w = w
+whole_kept Pod existing ms h w = whole_held Pod (get_member (codes "status") existing) existing ms refl h w
+whole_kept ReplicaSet existing ms h w = whole_held ReplicaSet (get_member (codes "status") existing) existing ms refl h w
+whole_kept Deployment existing ms h w = whole_held Deployment (get_member (codes "status") existing) existing ms refl h w
 
-pub whole_in_place : (k : Kind) (held o : Data) → AreWhole k (members_of held) → AreWhole k (members_of o) → AreWhole k (members_of (in_place k held o))
-whole_in_place k held o h w =
-    whole_with k (keeping kept (metadata_of held) (metadata_of o)) (keeping (kept_of k) (members_of held) (members_of o))
-    (Neat-keeping 98 Metadata kept (metadata_of held) (metadata_of o) (neat_metadata k held h) (neat_metadata k o w)) (whole_kept k (members_of held) (members_of o) h w)
+pub whole_in_place : (k : Kind) (existing o : Data) → AreWhole k (members_of existing) → AreWhole k (members_of o) → AreWhole k (members_of (in_place k existing o))
+whole_in_place k existing o h w =
+    whole_with k (keeping kept (metadata_of existing) (metadata_of o)) (keeping (kept_of k) (members_of existing) (members_of o))
+    (Neat-keeping 98 Metadata kept (metadata_of existing) (metadata_of o) (neat_metadata k existing h) (neat_metadata k o w)) (whole_kept k (members_of existing) (members_of o) h w)
 
 -- ---- what is read
 
@@ -130,5 +130,5 @@ said_as k d o (Ok e) is h =
     subst (λ x. AreWhole k (members_of x)) one full
 
 -- what a body says, with its defaults
-pub whole_said : (k : Kind) (d o : Data) → said k d ≡ Ok o → AreWhole k (members_of o)
+pub whole_said : (k : Kind) (d o : Data) → object_in k d ≡ Ok o → AreWhole k (members_of o)
 whole_said k d o h = said_as k d o (reading k d) refl h

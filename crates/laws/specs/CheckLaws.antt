@@ -8,7 +8,7 @@ use Rattle.definitions.specs.Defaults.{defaulted}
 use Rattle.definitions.specs.Metadata.{labels_of, name}
 use Rattle.definitions.specs.Reading.{reading}
 use Rattle.definitions.specs.Selectors.{Requirement, meets_all}
-use Rattle.definitions.specs.SelectorValues.{said_by_value}
+use Rattle.definitions.specs.SelectorValues.{selector_of_value}
 use Rattle.definitions.specs.NewObjects.{created, with_first_status}
 
 abbrev pub HasTemplate : Kind → Type 0
@@ -17,7 +17,7 @@ HasTemplate k = (k ≡ ReplicaSet) ⊎ (k ≡ Deployment)
 -- the labels of an object's template meet its selector
 abbrev pub SelectsItsTemplate : Data → Type 0
 SelectsItsTemplate d =
-    (s t : Data) (rs : List Requirement) → in_spec (codes "selector") d ≡ Some s → in_spec (codes "template") d ≡ Some t → said_by_value s ≡ Ok rs
+    (s t : Data) (rs : List Requirement) → in_spec (codes "selector") d ≡ Some s → in_spec (codes "template") d ≡ Some t → selector_of_value s ≡ Ok rs
     → meets_all rs (labels_of t) ≡ true
 
 -- what is created selects its template

@@ -2,7 +2,7 @@
 use Rattle.std.specs.Prelude.{◌≡◌, ◌≤◌, ◌&&◌, ℕ, Bool, true, false, not, List, [], ◌∷◌, Option, Some, None}
 use Rattle.std.specs.Ordering.{is_eq}
 use Rattle.std.specs.FinMap as map
-use Rattle.definitions.specs.Names.{Name}
+use Rattle.definitions.specs.Keys.{Key}
 use Rattle.controllers.specs.Expectations.{Owner, owner_cmp, Expectation, Table, creations_expected, deletions_expected, created, deleted, satisfied, forgotten}
 
 -- the calls that change a table of expectations
@@ -11,7 +11,7 @@ pub data Change : Type 0 where
   expect_deletions : Owner → List (List ℕ) → ℕ → Change
   see_created : Owner → Change
   see_deleted : Owner → List ℕ → Change
-  forget : Name → Change
+  forget : Key → Change
 
 abbrev pub after : Table → Change → Table
 after t (expect_creations o n now) = creations_expected o n now t

@@ -1,7 +1,7 @@
 -- The floor of a window in a user's words.
 use Rattle.std.specs.Prelude.{◌≤◌, ◌↔◌, ℕ, [], ◌∷◌, length, IsOk}
 use Rattle.definitions.specs.History.{History, write, compaction, View, present}
-use Rattle.definitions.specs.Windows.{since, list_within, writes_of}
+use Rattle.definitions.specs.Windows.{since, list_within, changes_of}
 use Rattle.server_state.specs.Recorded.{above}
 
 -- no compaction among these passed r: each is at most r
@@ -15,7 +15,7 @@ pub record IsRemembered (size : ℕ) (h : History) (v : View) (r : ℕ) : Type 0
   pub is_one : 1 ≤ r
   pub has_happened : r ≤ present h
   pub is_compacted_no_further : NonePassed r h
-  pub has_room : length (above r (writes_of v.kind h)) ≤ size
+  pub has_room : length (above r (changes_of v.kind h)) ≤ size
 
 -- a watch from a revision, and a list at it, are answered just if it is remembered
 abbrev pub RememberedAreServed : Type 0

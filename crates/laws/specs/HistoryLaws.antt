@@ -8,7 +8,7 @@ use Rattle.definitions.specs.declared.kinds.Kind.{Kind}
 use Rattle.definitions.specs.declared.methods.Method.{Method}
 use Rattle.definitions.specs.Replies.{Session, start}
 use Rattle.line_protocol.specs.Lines.{after_lines}
-use Rattle.definitions.specs.Names.{Name, name_cmp, is_named}
+use Rattle.definitions.specs.Keys.{Key, key_cmp, is_same_key}
 use Rattle.definitions.specs.History.{History, Members, Write, write, present, found, members, state, View, list, seen}
 use Rattle.definitions.specs.Refusals.{Refusal}
 use Rattle.definitions.specs.Metadata.{metadata_text, uid, version}
@@ -22,19 +22,19 @@ use Rattle.definitions.specs.ObjectRequests.{Request, get_object, list_objects, 
 
 -- under each key the members have what the last write that names it put there
 abbrev pub MembersAreState : Type 0
-MembersAreState = (h : History) (r : ℕ) (k : Name) → found k (members h r) ≡ state h r k
+MembersAreState = (h : History) (r : ℕ) (k : Key) → found k (members h r) ≡ state h r k
 
 -- the members stand in strictly ascending order, so each key stands once
 abbrev pub MembersAreInOrder : Type 0
-MembersAreInOrder = (h : History) (r : ℕ) → IsStrictlySortedBy name_cmp (keys_of (members h r))
+MembersAreInOrder = (h : History) (r : ℕ) → IsStrictlySortedBy key_cmp (keys_of (members h r))
 
 -- a list has under each key what is there, if the view asks for it
 abbrev pub ListsShowTheState : Type 0
-ListsShowTheState = (h : History) (v : View) (r : ℕ) (k : Name) → found k (list h v r) ≡ seen v k (state h r k)
+ListsShowTheState = (h : History) (v : View) (r : ℕ) (k : Key) → found k (list h v r) ≡ seen v k (state h r k)
 
 -- a list too stands in strictly ascending order
 abbrev pub ListsAreInOrder : Type 0
-ListsAreInOrder = (h : History) (v : View) (r : ℕ) → IsStrictlySortedBy name_cmp (keys_of (list h v r))
+ListsAreInOrder = (h : History) (v : View) (r : ℕ) → IsStrictlySortedBy key_cmp (keys_of (list h v r))
 
 -- more entries leave what is there at a revision that was reached before them
 abbrev pub PastStands : Type 0
@@ -43,12 +43,12 @@ PastStands = (h more : History) (r : ℕ) → r ≤ present h → members (h ++ 
 -- after one more write its key has what it put, and every other key has what it had
 abbrev pub WritesSetState : Type 0
 WritesSetState =
-    (h : History) (w : Write) (k : Name) → state (h ++ write w ∷ []) (present h + 1) k ≡ (if is_named k w.key then w.put else state h (present h) k)
+    (h : History) (w : Write) (k : Key) → state (h ++ write w ∷ []) (present h + 1) k ≡ (if is_same_key k w.key then w.put else state h (present h) k)
 
 -- ---- the verbs
 
 -- what holds of the object that an outcome writes, if it writes one
-abbrev pub OfStored : Outcome → (Name → Data → Type 0) → Type 0
+abbrev pub OfStored : Outcome → (Key → Data → Type 0) → Type 0
 OfStored o P = IfSome (write_of o) (λ w. IfSome w.put (P w.key))
 
 -- each object that is written carries the revision of its write (Kubernetes API Concepts, Resource versions)
@@ -69,18 +69,18 @@ CreatesAreNew =
 -- an update whose body names a version replaces exactly that version (Kubernetes API Conventions, Concurrency Control and Consistency)
 abbrev pub NamedVersionsAreReplaced : Type 0
 NamedVersionsAreReplaced =
-    (k : Name) (d o : Data) (named : List ℕ) (h : History) (moment : List ℕ) → reading k.kind d ≡ Ok o → version o ≡ Some named
-    → OfStored (accept (update_object k d) h moment) (λ written new. (held : Data) × (written ≡ k) × (state h (present h) k ≡ Some held) × (version held ≡ Some named))
+    (k : Key) (d o : Data) (named : List ℕ) (h : History) (moment : List ℕ) → reading k.kind d ≡ Ok o → version o ≡ Some named
+    → OfStored (accept (update_object k d) h moment) (λ written new. (existing : Data) × (written ≡ k) × (state h (present h) k ≡ Some existing) × (version existing ≡ Some named))
 
 -- what is there, if it is a text, is there after
 abbrev pub KeepsText : List ℕ → Data → Data → Type 0
-KeepsText k held new = IfSome (metadata_text k held) (λ t. metadata_text k new ≡ Some t)
+KeepsText k existing new = IfSome (metadata_text k existing) (λ t. metadata_text k new ≡ Some t)
 
 -- whatever is written in the place of an object keeps the uid and the time of creation that it has (Kubernetes API Conventions, Metadata)
 abbrev pub WritesKeepIdentity : Type 0
 WritesKeepIdentity =
     (q : Request) (h : History) (moment : List ℕ)
-    → OfStored (accept q h moment) (λ k new. IfSome (state h (present h) k) (λ held. KeepsText (codes "uid") held new × KeepsText (codes "creationTimestamp") held new))
+    → OfStored (accept q h moment) (λ k new. IfSome (state h (present h) k) (λ existing. KeepsText (codes "uid") existing new × KeepsText (codes "creationTimestamp") existing new))
 
 abbrev pub is_delete : Request → Bool
 is_delete (get_object k) = false

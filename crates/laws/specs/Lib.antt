@@ -1,5 +1,5 @@
 pub mod AwaitedLaws
-pub mod BoardLaws
+pub mod WorkQueueLaws
 pub mod CheckLaws
 pub mod DueLaws
 pub mod ExpectationLaws

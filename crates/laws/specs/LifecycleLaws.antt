@@ -13,24 +13,24 @@ use Rattle.definitions.specs.Kinds.{has_generation}
 use Rattle.laws.specs.HistoryLaws.{OfStored, KeepsText, is_delete}
 use Rattle.definitions.specs.Reached.{IsReached}
 use Rattle.definitions.specs.Metadata.{metadata, uid, version, is_being_deleted}
-use Rattle.definitions.specs.Names.{Name}
+use Rattle.definitions.specs.Keys.{Key}
 use Rattle.definitions.specs.Reading.{reading}
 use Rattle.definitions.specs.Replacements.{generation, next_generation, is_new_generation}
 use Rattle.definitions.specs.Values.{merged}
-use Rattle.definitions.specs.Verbs.{Outcome, accept, write_of, outcome_body, history_after, said}
+use Rattle.definitions.specs.Verbs.{Outcome, accept, write_of, outcome_body, history_after, object_in}
 use Rattle.definitions.specs.ObjectRequests.{Request, create_object, update_object, update_status, patch_object, delete_object}
 
 -- what holds of the object that is there before a request, and of the one that it writes in its place
-abbrev pub OfReplaced : History → Outcome → (Name → Data → Data → Type 0) → Type 0
-OfReplaced h o P = OfStored o (λ k new. IfSome (state h (present h) k) (λ held. P k held new))
+abbrev pub OfReplaced : History → Outcome → (Key → Data → Data → Type 0) → Type 0
+OfReplaced h o P = OfStored o (λ k new. IfSome (state h (present h) k) (λ existing. P k existing new))
 
 -- what holds of the object that a request removes
 abbrev pub IfRemoved : Option Data → Type 0 → Type 0
 IfRemoved None P = P
 IfRemoved (Some d) P = Unit {0}
 
-abbrev pub OfRemoved : History → Outcome → (Name → Data → Type 0) → Type 0
-OfRemoved h o P = IfSome (write_of o) (λ w. IfRemoved w.put ((held : Data) × (state h (present h) w.key ≡ Some held) × P w.key held))
+abbrev pub OfRemoved : History → Outcome → (Key → Data → Type 0) → Type 0
+OfRemoved h o P = IfSome (write_of o) (λ w. IfRemoved w.put ((existing : Data) × (state h (present h) w.key ≡ Some existing) × P w.key existing))
 
 -- ---- finalizers
 
@@ -42,30 +42,30 @@ all_of_policy (item d ds) = if is_of_policy d then all_of_policy ds else false
 -- a delete removes only what has no finalizer but those of the policies; and one without a policy, only what has none at all (Kubernetes, Finalizers)
 abbrev pub DeletesSpareFinalizers : Type 0
 DeletesSpareFinalizers =
-    (k : Name) (o : Options) (h : History) (moment : List ℕ)
+    (k : Key) (o : Options) (h : History) (moment : List ℕ)
     → OfRemoved h (accept (delete_object k o) h moment)
-    (λ gone held. (gone ≡ k) × (all_of_policy (finalizers held) ≡ true) × (o.policy ≡ None → finalizers held ≡ no_items))
+    (λ gone existing. (gone ≡ k) × (all_of_policy (finalizers existing) ≡ true) × (o.policy ≡ None → finalizers existing ≡ no_items))
 
 -- every other request removes only what is being deleted, when it takes the last finalizer (Kubernetes, Finalizers)
 abbrev pub LastFinalizersRemove : Type 0
 LastFinalizersRemove =
     (q : Request) (h : History) (moment : List ℕ) → is_delete q ≡ false
-    → OfRemoved h (accept q h moment) (λ k held. (is_being_deleted held ≡ true) × (metadata (codes "finalizers") (outcome_body (accept q h moment)) ≡ None))
+    → OfRemoved h (accept q h moment) (λ k existing. (is_being_deleted existing ≡ true) × (metadata (codes "finalizers") (outcome_body (accept q h moment)) ≡ None))
 
 -- ---- what is being deleted
 
 -- an object that is being deleted is so since the same moment until it is removed (Kubernetes API Conventions, Metadata)
 abbrev pub WritesKeepDeletions : Type 0
-WritesKeepDeletions = (q : Request) (h : History) (moment : List ℕ) → OfReplaced h (accept q h moment) (λ k held new. KeepsText (codes "deletionTimestamp") held new)
+WritesKeepDeletions = (q : Request) (h : History) (moment : List ℕ) → OfReplaced h (accept q h moment) (λ k existing new. KeepsText (codes "deletionTimestamp") existing new)
 
 -- to an object that is being deleted no finalizer is added, but that of a delete's policy
 abbrev pub NoFinalizerIsAdded : Type 0
 NoFinalizerIsAdded =
     (q : Request) (h : History) (moment : List ℕ)
     → OfReplaced h (accept q h moment)
-    (λ k held new.
-    (t : List ℕ) → is_being_deleted held ≡ true → has_text (finalizers new) t ≡ true
-    → ((is_delete q ≡ true) × (policy : Policy) × (has_text (of_policy policy) t ≡ true)) ⊎ (has_text (finalizers held) t ≡ true))
+    (λ k existing new.
+    (t : List ℕ) → is_being_deleted existing ≡ true → has_text (finalizers new) t ≡ true
+    → ((is_delete q ≡ true) × (policy : Policy) × (has_text (of_policy policy) t ≡ true)) ⊎ (has_text (finalizers existing) t ≡ true))
 
 -- ---- uids
 
@@ -84,16 +84,16 @@ NewUidsAreUnused =
 
 -- whether a request makes what stands in the place of an object a new generation: a delete, where deletion begins by it; any other, where the spec, or of a Deployment the annotations, is another (Kubernetes API Conventions, Metadata)
 abbrev pub rises : Request → Kind → Data → Data → Bool
-rises q k held new = if is_delete q then not (is_being_deleted held) else is_new_generation k held new
+rises q k existing new = if is_delete q then not (is_being_deleted existing) else is_new_generation k existing new
 
 -- the generation rises by one there, and in no other case
 abbrev pub GenerationsCount : Type 0
 GenerationsCount =
     (q : Request) (h : History) (moment : List ℕ)
     → OfReplaced h (accept q h moment)
-    (λ k held new.
-    has_generation k.kind ≡ true → is_some (metadata (codes "generation") held) ≡ true
-    → generation new ≡ (if rises q k.kind held new then next_generation (generation held) else generation held))
+    (λ k existing new.
+    has_generation k.kind ≡ true → is_some (metadata (codes "generation") existing) ≡ true
+    → generation new ≡ (if rises q k.kind existing new then next_generation (generation existing) else generation existing))
 
 -- the first generation is 1
 abbrev pub GenerationsBegin : Type 0
@@ -106,47 +106,47 @@ GenerationsBegin =
 -- an update of the status leaves every member but the status as it is, and of the metadata all but the version (Kubernetes API Conventions, Spec and Status)
 abbrev pub StatusesChangeNothingElse : Type 0
 StatusesChangeNothingElse =
-    (k : Name) (d : Data) (h : History) (moment : List ℕ)
+    (k : Key) (d : Data) (h : History) (moment : List ℕ)
     → OfReplaced h (accept (update_status k d) h moment)
-    (λ written held new.
-    ((q : List ℕ) → bytes_eq q (codes "status") ≡ false → bytes_eq q (codes "metadata") ≡ false → get q new ≡ get q held)
-    × ((q : List ℕ) → bytes_eq q (codes "resourceVersion") ≡ false → metadata q new ≡ metadata q held))
+    (λ written existing new.
+    ((q : List ℕ) → bytes_eq q (codes "status") ≡ false → bytes_eq q (codes "metadata") ≡ false → get q new ≡ get q existing)
+    × ((q : List ℕ) → bytes_eq q (codes "resourceVersion") ≡ false → metadata q new ≡ metadata q existing))
 
 -- ---- named versions
 
 -- what is written under a name, or removed, stood there at just this version
-abbrev pub ReplacesVersion : Name → List ℕ → History → Outcome → Type 0
-ReplacesVersion k named h o = IfSome (write_of o) (λ w. (held : Data) × (w.key ≡ k) × (state h (present h) k ≡ Some held) × (version held ≡ Some named))
+abbrev pub ReplacesVersion : Key → List ℕ → History → Outcome → Type 0
+ReplacesVersion k named h o = IfSome (write_of o) (λ w. (existing : Data) × (w.key ≡ k) × (state h (present h) k ≡ Some existing) × (version existing ≡ Some named))
 
 -- what is written under a name, or removed, had just this uid
-abbrev pub ReplacesUid : Name → List ℕ → History → Outcome → Type 0
-ReplacesUid k named h o = IfSome (write_of o) (λ w. (held : Data) × (w.key ≡ k) × (state h (present h) k ≡ Some held) × (uid held ≡ Some named))
+abbrev pub ReplacesUid : Key → List ℕ → History → Outcome → Type 0
+ReplacesUid k named h o = IfSome (write_of o) (λ w. (existing : Data) × (w.key ≡ k) × (state h (present h) k ≡ Some existing) × (uid existing ≡ Some named))
 
 -- each update, update of the status, patch and delete that names a version, where it writes or removes, does so to exactly that version (Kubernetes API Conventions, Concurrency Control and Consistency)
 abbrev pub UpdatesReplaceTheirVersion : Type 0
 UpdatesReplaceTheirVersion =
-    (k : Name) (d o : Data) (named : List ℕ) (h : History) (moment : List ℕ) → reading k.kind d ≡ Ok o → version o ≡ Some named
+    (k : Key) (d o : Data) (named : List ℕ) (h : History) (moment : List ℕ) → reading k.kind d ≡ Ok o → version o ≡ Some named
     → ReplacesVersion k named h (accept (update_object k d) h moment)
 
 abbrev pub StatusesReplaceTheirVersion : Type 0
 StatusesReplaceTheirVersion =
-    (k : Name) (d o : Data) (named : List ℕ) (h : History) (moment : List ℕ) → reading k.kind d ≡ Ok o → version o ≡ Some named
+    (k : Key) (d o : Data) (named : List ℕ) (h : History) (moment : List ℕ) → reading k.kind d ≡ Ok o → version o ≡ Some named
     → ReplacesVersion k named h (accept (update_status k d) h moment)
 
 abbrev pub PatchesReplaceTheirVersion : Type 0
 PatchesReplaceTheirVersion =
-    (k : Name) (d held o : Data) (named : List ℕ) (h : History) (moment : List ℕ) → state h (present h) k ≡ Some held → said k.kind (merged held d) ≡ Ok o → version o ≡ Some named
+    (k : Key) (d existing o : Data) (named : List ℕ) (h : History) (moment : List ℕ) → state h (present h) k ≡ Some existing → object_in k.kind (merged existing d) ≡ Ok o → version o ≡ Some named
     → ReplacesVersion k named h (accept (patch_object k d) h moment)
 
 abbrev pub DeletesRemoveTheirVersion : Type 0
 DeletesRemoveTheirVersion =
-    (k : Name) (o : Options) (named : List ℕ) (h : History) (moment : List ℕ) → o.version ≡ Some named
+    (k : Key) (o : Options) (named : List ℕ) (h : History) (moment : List ℕ) → o.version ≡ Some named
     → ReplacesVersion k named h (accept (delete_object k o) h moment)
 
 -- a delete that names a uid writes or removes only the object with that uid (Kubernetes API reference, Preconditions)
 abbrev pub DeletesFindTheirUid : Type 0
 DeletesFindTheirUid =
-    (k : Name) (o : Options) (named : List ℕ) (h : History) (moment : List ℕ) → o.uid ≡ Some named
+    (k : Key) (o : Options) (named : List ℕ) (h : History) (moment : List ℕ) → o.uid ≡ Some named
     → ReplacesUid k named h (accept (delete_object k o) h moment)
 
 -- ---- no write

@@ -3,7 +3,7 @@ use Rattle.std.specs.Prelude.{◌≡◌, ◌≤◌, ◌<◌, ◌↔◌, ℕ, Boo
 use Rattle.definitions.specs.declared.frames.FrameKind.TheVariants.{Added}
 use Rattle.definitions.specs.History.{History, View, present, list}
 use Rattle.definitions.specs.Collections.{watch_from}
-use Rattle.definitions.specs.Streams.{Line, event_of, IsStream, play_lines}
+use Rattle.definitions.specs.Streams.{Line, frame_of, IsStream, applied_lines}
 use Rattle.definitions.specs.Versions.{Watched, watched_from}
 use Rattle.definitions.specs.WatchReplies.{lines_from, watch_lines}
 use Rattle.definitions.specs.Windows.{floor}
@@ -42,7 +42,7 @@ LooksAreOneStream =
     (size : ℕ) (h : History) (v : View) (a : ℕ) (ls : List Look) → AreLooks size v h a ls
     → (a ≤ last_stand a ls)
     × IsStream (last_history h ls) v a (last_stand a ls) (look_lines a ls)
-    × (play_lines (list (last_history h ls) v a) (look_lines a ls) ≡ list (last_history h ls) v (last_stand a ls))
+    × (applied_lines (list (last_history h ls) v a) (look_lines a ls) ≡ list (last_history h ls) v (last_stand a ls))
 
 -- whether a look is answered does not hang on how many changes it asks for, and 0 may be asked: it is given no more than these,
 -- its lines are a stream to where it stands, and where it is given fewer it stands at the present revision
@@ -59,5 +59,5 @@ WatchesBeginWithTheList =
     (size : ℕ) (h : History) (v : View) (version : Option ℕ) (bookmarks : Bool) → unwrap_or version 0 ≡ 0
     → (ls : List Line)
     × (watch_lines size h v (record { from = watch_from version; bookmarks = bookmarks }) ≡ Ok ls)
-    × (map (event_of v.kind) ls ≡ map (λ m. record { kind = Added; object = m.1 }) (list h v (present h)))
-    × (play_lines [] ls ≡ list h v (present h))
+    × (map (frame_of v.kind) ls ≡ map (λ m. record { kind = Added; object = m.1 }) (list h v (present h)))
+    × (applied_lines [] ls ≡ list h v (present h))

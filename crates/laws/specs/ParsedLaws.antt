@@ -8,7 +8,7 @@ use Rattle.definitions.specs.declared.kinds.Kind.{Kind}
 use Rattle.definitions.specs.Checks.{in_spec}
 use Rattle.definitions.specs.History.{History, View, state, list}
 use Rattle.definitions.specs.Metadata.{metadata, metadata_of, with_metadata}
-use Rattle.definitions.specs.Names.{Name, is_namespace, is_subdomain}
+use Rattle.definitions.specs.Keys.{Key, is_namespace, is_subdomain}
 use Rattle.definitions.specs.Reached.{IsParsed, AreParsed, IsReached}
 use Rattle.definitions.specs.Reading.{empty, reading}
 use Rattle.definitions.specs.Replacements.{as_held, keeping}
@@ -18,15 +18,15 @@ use Rattle.definitions.specs.Values.{members_of, inner_of, without}
 
 -- an object that is there is as a parser gives it, at every depth
 abbrev pub StoredAreParsed : Type 0
-StoredAreParsed = (h : History) (r : ℕ) (k : Name) (d : Data) → IsReached h → state h r k ≡ Some d → IsParsed d
+StoredAreParsed = (h : History) (r : ℕ) (k : Key) (d : Data) → IsReached h → state h r k ≡ Some d → IsParsed d
 
 -- and each of a list
 abbrev pub ListedAreParsed : Type 0
-ListedAreParsed = (h : History) (v : View) (r : ℕ) → IsReached h → AllByRecursion (λ (m : Name × Data). IsParsed m.1) (list h v r)
+ListedAreParsed = (h : History) (v : View) (r : ℕ) → IsReached h → AllByRecursion (λ (m : Key × Data). IsParsed m.1) (list h v r)
 
 -- the key of an object that is there names a namespace and a name as they have to be, so a controller may create beside it
 abbrev pub NamesAreValid : Type 0
-NamesAreValid = (h : History) (r : ℕ) (k : Name) (d : Data) → IsReached h → state h r k ≡ Some d → (is_namespace k.namespace ≡ true) × (is_subdomain k.name ≡ true)
+NamesAreValid = (h : History) (r : ℕ) (k : Key) (d : Data) → IsReached h → state h r k ≡ Some d → (is_namespace k.namespace ≡ true) × (is_subdomain k.name ≡ true)
 
 -- ---- what is changed
 

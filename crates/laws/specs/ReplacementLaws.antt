@@ -5,7 +5,7 @@ use Rattle.serde_json.specs.Find.{get}
 use Rattle.serde_json.specs.Written.{compact_text}
 use Rattle.definitions.specs.declared.kinds.Kind.{Kind}
 use Rattle.definitions.specs.Metadata.{metadata, metadata_of, with_metadata}
-use Rattle.definitions.specs.Replacements.{in_place, says_the_same, with_said_status}
+use Rattle.definitions.specs.Replacements.{in_place, says_the_same, with_status_in}
 use Rattle.definitions.specs.Values.{data_of, without}
 
 -- an object without its version
@@ -26,4 +26,4 @@ SameButForTheVersion =
 abbrev pub UpdatesAreAtTheVersion : Type 0
 UpdatesAreAtTheVersion =
     (k : Kind) (stored o v : Data) → metadata (codes "resourceVersion") stored ≡ Some v
-    → (metadata (codes "resourceVersion") (in_place k stored o) ≡ Some v) × (metadata (codes "resourceVersion") (with_said_status k stored o) ≡ Some v)
+    → (metadata (codes "resourceVersion") (in_place k stored o) ≡ Some v) × (metadata (codes "resourceVersion") (with_status_in k stored o) ≡ Some v)

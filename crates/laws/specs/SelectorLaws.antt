@@ -5,8 +5,8 @@ use Rattle.serde_json.specs.Data.{Data, Members}
 use Rattle.definitions.specs.declared.selectors.Operator.TheVariants.{In, NotIn}
 use Rattle.definitions.specs.Labels.{label_at, is_label_key, is_label_value}
 use Rattle.laws.specs.SelectorForms.{is_sound, pair_value, selector_text, selector_value}
-use Rattle.definitions.specs.SelectorTexts.{said_by_text}
-use Rattle.definitions.specs.SelectorValues.{said_by_value}
+use Rattle.definitions.specs.SelectorTexts.{selector_of_text}
+use Rattle.definitions.specs.SelectorValues.{selector_of_value}
 use Rattle.definitions.specs.Selectors.{Requirement, meets, meets_all}
 
 -- an object without the key meets each `notin` and `!=` of it, whatever the values
@@ -22,7 +22,7 @@ InclusionsNeedTheKey =
     → meets (record { key = k; operator = In; values = values }) labels ≡ false
 
 abbrev pub EmptyTextMatchesAll : Type 0
-EmptyTextMatchesAll = (labels : Members) → option_map (λ (rs : List Requirement). meets_all rs labels) (said_by_text []) ≡ Some true
+EmptyTextMatchesAll = (labels : Members) → option_map (λ (rs : List Requirement). meets_all rs labels) (selector_of_text []) ≡ Some true
 
 -- labels meet all of two lists of requirements if they meet all of each: no requirement that is added matches more
 abbrev pub EachMustHold : Type 0
@@ -35,23 +35,23 @@ IsSaid r (s ∷ rs) = (r ≡ s) ⊎ IsSaid r rs
 -- a text and a value that say the same requirements, in whatever order and however often, match the same labels
 abbrev pub OrderIsNoMatter : Type 0
 OrderIsNoMatter =
-    (t : List ℕ) (d : Data) (rs ss : List Requirement) (labels : Members) → said_by_text t ≡ Some rs → said_by_value d ≡ Ok ss
+    (t : List ℕ) (d : Data) (rs ss : List Requirement) (labels : Members) → selector_of_text t ≡ Some rs → selector_of_value d ≡ Ok ss
     → ((r : Requirement) → IsSaid r rs ↔ IsSaid r ss) → meets_all rs labels ≡ meets_all ss labels
 
 -- the text of given requirements says these, and so does their value
 abbrev pub TextsAndValuesAgree : Type 0
-TextsAndValuesAgree = (rs : List Requirement) → list_all is_sound rs ≡ true → (said_by_text (selector_text rs) ≡ Some rs) × (said_by_value (selector_value rs) ≡ Ok rs)
+TextsAndValuesAgree = (rs : List Requirement) → list_all is_sound rs ≡ true → (selector_of_text (selector_text rs) ≡ Some rs) × (selector_of_value (selector_value rs) ≡ Ok rs)
 
 -- `k=v` and `{"matchLabels":{k:v}}` say one requirement, for every key and value
 abbrev pub PairsAreEqualities : Type 0
 PairsAreEqualities =
     (k v : List ℕ) → is_label_key k ≡ true → is_label_value v ≡ true
-    → let rs = record { key = k; operator = In; values = v ∷ [] } ∷ [] in (said_by_text (k ++ (codes "=" ++ v)) ≡ Some rs) × (said_by_value (pair_value k v) ≡ Ok rs)
+    → let rs = record { key = k; operator = In; values = v ∷ [] } ∷ [] in (selector_of_text (k ++ (codes "=" ++ v)) ≡ Some rs) × (selector_of_value (pair_value k v) ≡ Ok rs)
 
 -- what a text says, a value says too
 abbrev pub EachTextHasAValue : Type 0
-EachTextHasAValue = (t : List ℕ) (rs : List Requirement) → said_by_text t ≡ Some rs → said_by_value (selector_value rs) ≡ Ok rs
+EachTextHasAValue = (t : List ℕ) (rs : List Requirement) → selector_of_text t ≡ Some rs → selector_of_value (selector_value rs) ≡ Ok rs
 
 -- and the other way round
 abbrev pub EachValueHasAText : Type 0
-EachValueHasAText = (d : Data) (rs : List Requirement) → said_by_value d ≡ Ok rs → said_by_text (selector_text rs) ≡ Some rs
+EachValueHasAText = (d : Data) (rs : List Requirement) → selector_of_value d ≡ Ok rs → selector_of_text (selector_text rs) ≡ Some rs

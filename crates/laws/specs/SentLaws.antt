@@ -7,13 +7,13 @@ use Rattle.serde_json.specs.Find.{as_object}
 use Rattle.serde_json.specs.Read.{read, max_depth}
 use Rattle.serde_json.specs.Written.{compact_text}
 use Rattle.definitions.specs.declared.kinds.Kind.{Kind}
-use Rattle.definitions.specs.Names.{Name}
+use Rattle.definitions.specs.Keys.{Key}
 use Rattle.definitions.specs.History as history
 use Rattle.definitions.specs.History.{History, Write, View, Members, writes, present, list}
 use Rattle.definitions.specs.Objects.{Object}
 use Rattle.definitions.specs.Metadata.{name, namespace, uid, version}
 use Rattle.definitions.specs.Reading.{reading}
-use Rattle.definitions.specs.Changes.{Change, changes}
+use Rattle.definitions.specs.Events.{Event, events}
 use Rattle.definitions.specs.Reached.{IsReached}
 use Rattle.definitions.specs.Streams.{Line, IsStream}
 use Rattle.definitions.specs.WatchReplies.{watch_lines}
@@ -23,7 +23,7 @@ use Rattle.controllers.specs.Reflectors.{Listed, shown, name_in, list_of, put_al
 -- ---- what is stored
 
 -- an object as it is stored under a key by the write of a revision: it reads as itself, and says its key, a uid and the revision
-pub record IsKept (k : Name) (r : ℕ) (d : Data) : Type 0 where
+pub record IsKept (k : Key) (r : ℕ) (d : Data) : Type 0 where
   pub reads : reading k.kind d ≡ Ok d
   pub name : name d ≡ Some k.name
   pub namespace : namespace d ≡ Some k.namespace
@@ -45,16 +45,16 @@ ObjectsAreKept = (h : History) → IsReached h → AreKept 2 (writes h)
 abbrev pub whole : Kind → View
 whole k = history.whole k None
 
-abbrev pub object_of : Kind → Change → Object
+abbrev pub object_of : Kind → Event → Object
 object_of k c = record { kind = k; value = c.object }
 
 -- what a change shows is read as it stands, and says the change's key and revision
-pub record IsTold (k : Kind) (c : Change) : Type 0 where
+pub record IsTold (k : Kind) (c : Event) : Type 0 where
   pub shows : shown k c.object ≡ Some (record { object = object_of k c; revision = c.revision })
   pub names : name_in (object_of k c) ≡ c.key
 
 -- what a change shows is an object that a line has room for
-pub record IsShort (c : Change) : Type 0 where
+pub record IsShort (c : Event) : Type 0 where
   pub is_object : IsSome (as_object c.object)
   pub nests : depth c.object ≤ 100
   pub fits : length (compact_text c.object) ≤ 1574912
@@ -63,7 +63,7 @@ pub record IsShort (c : Change) : Type 0 where
 abbrev pub ChangesAreTold : Type 0
 ChangesAreTold =
     (h : History) (k : Kind) (a b : ℕ) → IsReached h → a ≤ b
-    → AllByRecursion (IsTold k) (changes h (whole k) a b) × AllByRecursion IsShort (changes h (whole k) a b)
+    → AllByRecursion (IsTold k) (events h (whole k) a b) × AllByRecursion IsShort (events h (whole k) a b)
 
 -- the lines that a watch after a revision shows are a stream from there to the present revision, with bookmarks or without
 abbrev pub WatchesAreStreams : Type 0

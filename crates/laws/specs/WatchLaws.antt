@@ -1,29 +1,29 @@
 -- What follows from the definitions of changes and streams.
 use Rattle.std.specs.Prelude.{◌≡◌, ◌≤◌, ◌<◌, ℕ, List, [], ◌∷◌, ◌++◌}
 use Rattle.definitions.specs.History.{History, View, list}
-use Rattle.definitions.specs.Changes.{Change, changes, play}
-use Rattle.definitions.specs.Streams.{Line, IsStream, IsInitialStream, play_lines}
+use Rattle.definitions.specs.Events.{Event, events, applied}
+use Rattle.definitions.specs.Streams.{Line, IsStream, IsInitialStream, applied_lines}
 
 -- playing the changes after a on the list at a gives the list at b
 abbrev pub ChangesArePlayed : Type 0
-ChangesArePlayed = (h : History) (v : View) (a b : ℕ) → a ≤ b → play (list h v a) (changes h v a b) ≡ list h v b
+ChangesArePlayed = (h : History) (v : View) (a b : ℕ) → a ≤ b → applied (list h v a) (events h v a b) ≡ list h v b
 
 -- the changes after a up to c are those up to b and then those after b
 abbrev pub ChangesGoOn : Type 0
-ChangesGoOn = (h : History) (v : View) (a b c : ℕ) → a ≤ b → b ≤ c → changes h v a c ≡ changes h v a b ++ changes h v b c
+ChangesGoOn = (h : History) (v : View) (a b c : ℕ) → a ≤ b → b ≤ c → events h v a c ≡ events h v a b ++ events h v b c
 
 -- each revision is above the one before it, the first above a, and none above b
-abbrev pub AreBetween : ℕ → ℕ → List Change → Type 0
+abbrev pub AreBetween : ℕ → ℕ → List Event → Type 0
 AreBetween a b [] = Unit {0}
 AreBetween a b (c ∷ cs) = (a < c.revision) × (c.revision ≤ b) × AreBetween c.revision b cs
 
 abbrev pub ChangesLieBetween : Type 0
-ChangesLieBetween = (h : History) (v : View) (a b : ℕ) → AreBetween a b (changes h v a b)
+ChangesLieBetween = (h : History) (v : View) (a b : ℕ) → AreBetween a b (events h v a b)
 
 -- who holds the list at a and plays a stream from a to b holds the list at b
 abbrev pub StreamsArePlayed : Type 0
-StreamsArePlayed = (h : History) (v : View) (a b : ℕ) (ls : List Line) → a ≤ b → IsStream h v a b ls → play_lines (list h v a) ls ≡ list h v b
+StreamsArePlayed = (h : History) (v : View) (a b : ℕ) (ls : List Line) → a ≤ b → IsStream h v a b ls → applied_lines (list h v a) ls ≡ list h v b
 
 -- who holds nothing and plays an initial stream at a, then to b, holds the list at b
 abbrev pub InitialStreamsArePlayed : Type 0
-InitialStreamsArePlayed = (h : History) (v : View) (a b : ℕ) (ls : List Line) → a ≤ b → IsInitialStream h v a b ls → play_lines [] ls ≡ list h v b
+InitialStreamsArePlayed = (h : History) (v : View) (a b : ℕ) (ls : List Line) → a ≤ b → IsInitialStream h v a b ls → applied_lines [] ls ≡ list h v b

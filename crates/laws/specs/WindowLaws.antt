@@ -1,40 +1,40 @@
 -- What follows from the definitions of windows.
 use Rattle.std.specs.Prelude.{◌≡◌, ◌≤◌, ◌↔◌, ℕ, [], ◌∷◌, ◌++◌, length, take, true, false, Ok, IsOk}
 use Rattle.definitions.specs.declared.kinds.Kind.{Kind}
-use Rattle.definitions.specs.Names.{Name}
+use Rattle.definitions.specs.Keys.{Key}
 use Rattle.definitions.specs.History.{History, Write, write, compaction, View, writes, present, state, list}
-use Rattle.definitions.specs.Changes.{changes}
-use Rattle.definitions.specs.Windows.{is_of, kept_of, writes_of, last_revision, compacted, floor, since, list_within}
-use Rattle.server_state.specs.Recorded.{Window, since_kept, list_kept, opened, recorded, compacted_to, Tracks}
+use Rattle.definitions.specs.Events.{events}
+use Rattle.definitions.specs.Windows.{is_of, change_of, changes_of, last_revision, compacted, floor, since, list_within}
+use Rattle.server_state.specs.Recorded.{Window, recorded_since, recorded_list, opened, recorded, compacted_to, IsWindowAfter}
 
 -- a new window follows the empty history
 abbrev pub WindowsOpen : Type 0
-WindowsOpen = (kind : Kind) (size : ℕ) → Tracks (opened kind size) []
+WindowsOpen = (kind : Kind) (size : ℕ) → IsWindowAfter (opened kind size) []
 
 -- a window that records each write of its kind goes on following
 abbrev pub WindowsRecord : Type 0
-WindowsRecord = (s : Window) (h : History) (w : Write) → Tracks s h → is_of s.kind w.key ≡ true → Tracks (recorded s (kept_of (writes h) w)) (h ++ write w ∷ [])
+WindowsRecord = (s : Window) (h : History) (w : Write) → IsWindowAfter s h → is_of s.kind w.key ≡ true → IsWindowAfter (recorded s (change_of (writes h) w)) (h ++ write w ∷ [])
 
 -- one that records no write of another kind goes on following
 abbrev pub WindowsStay : Type 0
-WindowsStay = (s : Window) (h : History) (w : Write) → Tracks s h → is_of s.kind w.key ≡ false → Tracks s (h ++ write w ∷ [])
+WindowsStay = (s : Window) (h : History) (w : Write) → IsWindowAfter s h → is_of s.kind w.key ≡ false → IsWindowAfter s (h ++ write w ∷ [])
 
 -- one that is compacted with the history goes on following
 abbrev pub WindowsCompact : Type 0
-WindowsCompact = (s : Window) (h : History) (r : ℕ) → Tracks s h → Tracks (compacted_to s r) (h ++ compaction r ∷ [])
+WindowsCompact = (s : Window) (h : History) (r : ℕ) → IsWindowAfter s h → IsWindowAfter (compacted_to s r) (h ++ compaction r ∷ [])
 
 -- the writes that such a window keeps are no later than the present revision, so the next write comes after them all
 abbrev pub KeptWritesArePast : Type 0
-KeptWritesArePast = (s : Window) (h : History) → Tracks s h → last_revision 0 s.kept ≤ present h
+KeptWritesArePast = (s : Window) (h : History) → IsWindowAfter s h → last_revision 0 s.kept ≤ present h
 
 -- what a window that follows gives to a watch is what the history says
 abbrev pub WatchesAreServed : Type 0
-WatchesAreServed = (s : Window) (h : History) (v : View) (a n : ℕ) → Tracks s h → v.kind ≡ s.kind → since_kept s (present h) v a n ≡ since s.size h v a n
+WatchesAreServed = (s : Window) (h : History) (v : View) (a n : ℕ) → IsWindowAfter s h → v.kind ≡ s.kind → recorded_since s (present h) v a n ≡ since s.size h v a n
 
 -- the present list, with the kept writes above r undone, is the list at r
 abbrev pub ListsAreUndone : Type 0
 ListsAreUndone =
-    (s : Window) (h : History) (v : View) (r : ℕ) → Tracks s h → v.kind ≡ s.kind → list_kept s (present h) (list h v (present h)) v r ≡ list_within s.size h v r
+    (s : Window) (h : History) (v : View) (r : ℕ) → IsWindowAfter s h → v.kind ≡ s.kind → recorded_list s (present h) (list h v (present h)) v r ≡ list_within s.size h v r
 
 -- watches and lists are served from the floor up to the present revision, and at no other
 abbrev pub RevisionsAreServed : Type 0
@@ -45,7 +45,7 @@ RevisionsAreServed =
 -- what is there at each revision is there without the compaction too
 abbrev pub CompactionsChangeNothing : Type 0
 CompactionsChangeNothing =
-    (h more : History) (c r : ℕ) (k : Name) (v : View)
+    (h more : History) (c r : ℕ) (k : Key) (v : View)
     → (present (h ++ compaction c ∷ more) ≡ present (h ++ more))
     × (state (h ++ compaction c ∷ more) r k ≡ state (h ++ more) r k)
     × (list (h ++ compaction c ∷ more) v r ≡ list (h ++ more) v r)
@@ -54,8 +54,8 @@ CompactionsChangeNothing =
 abbrev pub WideWindowsServeAll : Type 0
 WideWindowsServeAll =
     (size : ℕ) (h : History) (v : View) (r n : ℕ)
-    → length (writes_of v.kind h) ≤ size
+    → length (changes_of v.kind h) ≤ size
     → compacted h ≡ 0
     → 1 ≤ r
     → r ≤ present h
-    → (since size h v r n ≡ Ok (take n (changes h v r (present h)))) × (list_within size h v r ≡ Ok (list h v r))
+    → (since size h v r n ≡ Ok (take n (events h v r (present h)))) × (list_within size h v r ≡ Ok (list h v r))

@@ -12,8 +12,8 @@ otherwise true x y h = cc
 otherwise false x y h = refl
 
 -- the deletion is told of an object that was not being deleted
-pub deletion_told : (k : Kind) (moment : List ℕ) (held : Data) (before raised : Members) → is_being_deleted held ≡ false → before ≡ metadata_of held → raised ≡ with_next_generation (has_generation k) held before
-    → put (codes "deletionTimestamp") (string moment) raised ≡ with_deletion k moment held
-deletion_told k moment held before raised h is up =
-    ap (put (codes "deletionTimestamp") (string moment)) (up ∙ ap (with_next_generation (has_generation k) held) is)
-    ∙ otherwise (is_being_deleted held) (metadata_of held) (put (codes "deletionTimestamp") (string moment) (with_next_generation (has_generation k) held (metadata_of held))) h
+pub deletion_told : (k : Kind) (moment : List ℕ) (existing : Data) (before raised : Members) → is_being_deleted existing ≡ false → before ≡ metadata_of existing → raised ≡ with_next_generation (has_generation k) existing before
+    → put (codes "deletionTimestamp") (string moment) raised ≡ with_deletion k moment existing
+deletion_told k moment existing before raised h is up =
+    ap (put (codes "deletionTimestamp") (string moment)) (up ∙ ap (with_next_generation (has_generation k) existing) is)
+    ∙ otherwise (is_being_deleted existing) (metadata_of existing) (put (codes "deletionTimestamp") (string moment) (with_next_generation (has_generation k) existing (metadata_of existing))) h

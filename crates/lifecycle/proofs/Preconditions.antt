@@ -18,13 +18,13 @@ by_tests true b f = refl
 by_tests false true f = refl
 by_tests false false f = refl
 
-found_so : (k : Kind) (o : Options) (moment : List ℕ) (held : Data) (found other : Option Mismatch) → found ≡ mismatch o held → found ≡ other
-    → decided k o moment held ≡ or_mismatch other (fate k o.policy moment held)
-found_so k o moment held found other is so =
-    by_tests (differs o.uid (uid held)) (differs o.version (version held)) (fate k o.policy moment held) ∙ ap (λ m. or_mismatch m (fate k o.policy moment held)) (sym is ∙ so)
+found_so : (k : Kind) (o : Options) (moment : List ℕ) (existing : Data) (found other : Option Mismatch) → found ≡ mismatch o existing → found ≡ other
+    → decided k o moment existing ≡ or_mismatch other (fate k o.policy moment existing)
+found_so k o moment existing found other is so =
+    by_tests (differs o.uid (uid existing)) (differs o.version (version existing)) (fate k o.policy moment existing) ∙ ap (λ m. or_mismatch m (fate k o.policy moment existing)) (sym is ∙ so)
 
-pub decided-mismatch : (k : Kind) (o : Options) (moment : List ℕ) (held : Data) (found : Option Mismatch) (w : Mismatch) → found ≡ mismatch o held → found ≡ Some w → decided k o moment held ≡ Err w
-decided-mismatch k o moment held found w is so = found_so k o moment held found (Some w) is so
+pub decided-mismatch : (k : Kind) (o : Options) (moment : List ℕ) (existing : Data) (found : Option Mismatch) (w : Mismatch) → found ≡ mismatch o existing → found ≡ Some w → decided k o moment existing ≡ Err w
+decided-mismatch k o moment existing found w is so = found_so k o moment existing found (Some w) is so
 
-pub decided-met : (k : Kind) (o : Options) (moment : List ℕ) (held : Data) (found : Option Mismatch) → found ≡ mismatch o held → found ≡ None → decided k o moment held ≡ Ok (fate k o.policy moment held)
-decided-met k o moment held found is so = found_so k o moment held found None is so
+pub decided-met : (k : Kind) (o : Options) (moment : List ℕ) (existing : Data) (found : Option Mismatch) → found ≡ mismatch o existing → found ≡ None → decided k o moment existing ≡ Ok (fate k o.policy moment existing)
+decided-met k o moment existing found is so = found_so k o moment existing found None is so

@@ -24,4 +24,4 @@ Decides wanted (Err fault.NoMemory) = Unit {0}
 
 -- the first of the preconditions that an object does not meet
 abbrev pub mismatch : Options → Data → Option Mismatch
-mismatch o held = if differs o.uid (uid held) then Some why.Uid else (if differs o.version (version held) then Some why.ResourceVersion else None)
+mismatch o existing = if differs o.uid (uid existing) then Some why.Uid else (if differs o.version (version existing) then Some why.ResourceVersion else None)

@@ -2,9 +2,9 @@
 use Rattle.std.specs.Prelude.{Some, None, if◌then◌else◌}
 use Rattle.serde_json.specs.Data.{Data}
 use Rattle.definitions.specs.History.{Write}
-use Rattle.definitions.specs.Names.{Name}
-use Rattle.definitions.specs.Replacements.{is_let_go}
+use Rattle.definitions.specs.Keys.{Key}
+use Rattle.definitions.specs.Replacements.{is_finalized}
 
 -- the object in the place of the one that is stored or, where its last finalizer is removed, its removal (Kubernetes, Finalizers)
-abbrev pub after_update : Name → Data → Data → Write
-after_update k old new = record { key = k; put = if is_let_go old new then None else Some new }
+abbrev pub after_update : Key → Data → Data → Write
+after_update k old new = record { key = k; put = if is_finalized old new then None else Some new }

@@ -5,7 +5,7 @@ ghost use Rattle.serde_json.specs.Events.{items_len};
 ghost use Rattle.serde_json.specs.View.{items_view};
 ghost use Rattle.serde_json.specs.Written.{items_have_float};
 ghost use Rattle.definitions.specs.Checks.{finalizers};
-ghost use Rattle.definitions.specs.Deletion.{left_by, leaves, with_deletion, marked, fate, decided};
+ghost use Rattle.definitions.specs.Deletion.{left_by, leaves, with_deletion, being_deleted, fate, decided};
 ghost use Rattle.definitions.specs.Kinds.{has_generation};
 ghost use Rattle.definitions.specs.Metadata.{metadata_of, uid, version, differs, is_being_deleted};
 ghost use Rattle.definitions.specs.Replacements.{with_next_generation};
@@ -51,95 +51,95 @@ impl From<AllocError> for DeleteFault {
     }
 }
 
-/// What a delete with these options does, at a moment, to the object of a kind that is held. The errors are the first
-/// precondition that is not met, and want of memory.
+/// Returns what a delete with these options does, at a moment, to the object of a kind that is stored. The errors are the first
+/// precondition that is not met, and running out of memory.
 pub fn decide_delete(
     alloc: Global,
     kind: Kind,
-    held: &Object,
+    existing: &Object,
     options: &DeleteOptions,
     moment: Moment,
 ) -> Result<Fate, DeleteFault>
-    ensures { Decides (decided kind (options_seen options.now) moment held.now.value) result }
+    ensures { Decides (decided kind (options_seen options.now) moment existing.now.value) result }
 {
-    match mismatch(held, options) {
+    match mismatch(existing, options) {
         Some(why) => Err(DeleteFault::Mismatch(why)),
-        None => Ok(fate_of(alloc, kind, held, options.policy, moment)?),
+        None => Ok(fate_of(alloc, kind, existing, options.policy, moment)?),
     }
 }
 
-/// Whether a text is named, and the object has another one, or none.
-fn differs(named: &Option<String>, held: Option<&str>) -> bool
-    ensures { result ≡ differs (option_map string_bytes named.now) (option_map (λ s. s.now) held.entry) }
+/// Returns whether a text is named, and the object has another one, or none.
+fn differs(named: &Option<String>, existing: Option<&str>) -> bool
+    ensures { result ≡ differs (option_map string_bytes named.now) (option_map (λ s. s.now) existing.entry) }
 {
-    match (named, held) {
+    match (named, existing) {
         (None, _) => false,
         (Some(_), None) => true,
         (Some(text), Some(other)) => text.as_str() != other,
     }
 }
 
-/// The first of the preconditions that the object does not meet: of the uid, then of the version.
-fn mismatch(held: &Object, options: &DeleteOptions) -> Option<Mismatch>
-    ensures { result ≡ mismatch (options_seen options.now) held.now.value }
+/// Returns the first of the preconditions that the object does not meet: of the uid, then of the version.
+fn mismatch(existing: &Object, options: &DeleteOptions) -> Option<Mismatch>
+    ensures { result ≡ mismatch (options_seen options.now) existing.now.value }
 {
-    if differs(&options.uid, held.uid()) {
+    if differs(&options.uid, existing.uid()) {
         return Some(Mismatch::Uid);
     }
-    if differs(&options.version, held.resource_version()) {
+    if differs(&options.version, existing.resource_version()) {
         return Some(Mismatch::ResourceVersion);
     }
     None
 }
 
-/// What a delete whose preconditions are met does.
+/// Returns what a delete whose preconditions are met does.
 fn fate_of(
     alloc: Global,
     kind: Kind,
-    held: &Object,
+    existing: &Object,
     policy: Option<Policy>,
     moment: Moment,
 ) -> Result<Fate, AllocError>
-    ensures { IfOk result (λ f. fate_seen f ≡ fate kind policy moment held.now.value) }
+    ensures { IfOk result (λ f. fate_seen f ≡ fate kind policy moment existing.now.value) }
 {
-    let left = left_by(alloc, policy, held.finalizers())?;
+    let left = left_by(alloc, policy, existing.finalizers())?;
     if is_none(left.as_slice()) {
         return Ok(Fate::Remove);
     }
-    if is_left_alone(policy, held) {
+    if is_left_alone(policy, existing) {
         return Ok(Fate::Keep);
     }
-    let object = marked(alloc, kind, held, left, moment)?;
+    let object = marked(alloc, kind, existing, left, moment)?;
     Ok(Fate::Mark(object))
 }
 
-/// Whether there is no finalizer.
+/// Returns whether there is no finalizer.
 fn is_none(items: &[Value]) -> bool
     ensures { result ≡ (items_len (items_view items.now) == 0) }
 {
     items.is_empty()
 }
 
-/// Whether the object is being deleted already, and left to the finalizers that it has.
-fn is_left_alone(policy: Option<Policy>, held: &Object) -> bool
-    ensures { result ≡ (is_being_deleted held.now.value && leaves policy (finalizers held.now.value)) }
+/// Returns whether the object is being deleted already, and left to the finalizers that it has.
+fn is_left_alone(policy: Option<Policy>, existing: &Object) -> bool
+    ensures { result ≡ (is_being_deleted existing.now.value && leaves policy (finalizers existing.now.value)) }
 {
-    held.is_being_deleted() && leaves(policy, held.finalizers())
+    existing.is_being_deleted() && leaves(policy, existing.finalizers())
 }
 
-/// The object as being deleted, left to these finalizers, and so far at its version.
+/// Returns the object as being deleted, left to these finalizers, and so far at its version.
 fn marked(
     alloc: Global,
     kind: Kind,
-    held: &Object,
+    existing: &Object,
     left: Vec<Value>,
     moment: Moment,
 ) -> Result<Object, AllocError>
     requires no_float { items_have_float (items_view left.items) ≡ false }
-    ensures { IfOk result (λ o. o.value ≡ marked kind moment (items_view left.items) held.now.value) }
+    ensures { IfOk result (λ o. o.value ≡ being_deleted kind moment (items_view left.items) existing.now.value) }
 {
-    let mut draft = held.try_copy()?.open(alloc)?;
-    set_deletion(alloc, &mut draft, kind, held, moment)?;
+    let mut draft = existing.try_copy()?.open(alloc)?;
+    set_deletion(alloc, &mut draft, kind, existing, moment)?;
     draft.set_items(alloc, "finalizers", left)?;
     let made = draft.close(alloc)?;
     Ok(made)
@@ -150,33 +150,33 @@ fn set_deletion(
     alloc: Global,
     draft: &mut Draft,
     kind: Kind,
-    held: &Object,
+    existing: &Object,
     moment: Moment,
 ) -> Result<(), AllocError>
-    requires { draft.old.metadata ≡ metadata_of held.now.value }
-    ensures metadata { OnOk result (draft.new.metadata ≡ with_deletion kind moment held.now.value) }
+    requires { draft.old.metadata ≡ metadata_of existing.now.value }
+    ensures metadata { OnOk result (draft.new.metadata ≡ with_deletion kind moment existing.now.value) }
     ensures rest { OnOk result (draft.new.rest ≡ draft.old.rest) }
 {
-    if held.is_being_deleted() {
+    if existing.is_being_deleted() {
         return Ok(());
     }
-    raise_generation(alloc, draft, kind, held)?;
+    raise_generation(alloc, draft, kind, existing)?;
     draft.set_text(alloc, "deletionTimestamp", moment.as_str())
 }
 
-/// Sets the generation after that of the object that is held, for a kind that has generations.
+/// Sets the generation after that of the stored object, for a kind that has generations.
 fn raise_generation(
     alloc: Global,
     draft: &mut Draft,
     kind: Kind,
-    held: &Object,
+    existing: &Object,
 ) -> Result<(), AllocError>
     ensures metadata { OnOk result (draft.new.metadata
-        ≡ with_next_generation (has_generation kind) held.now.value draft.old.metadata) }
+        ≡ with_next_generation (has_generation kind) existing.now.value draft.old.metadata) }
     ensures rest { draft.new.rest ≡ draft.old.rest }
 {
     if kind.has_generation() {
-        draft.set_count(alloc, "generation", held.next_generation())
+        draft.set_count(alloc, "generation", existing.next_generation())
     } else {
         Ok(())
     }

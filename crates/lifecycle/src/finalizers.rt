@@ -15,14 +15,14 @@ const ORPHAN: &str = "orphan";
 
 const FOREGROUND: &str = "foregroundDeletion";
 
-/// Whether a finalizer is that of a policy.
+/// Returns whether a finalizer is that of a policy.
 fn is_of_policy(value: &Value) -> bool
     ensures { result ≡ is_of_policy (view value.now) }
 {
     is_text(value, ORPHAN) || is_text(value, FOREGROUND)
 }
 
-/// Whether finalizers are those of this policy already.
+/// Returns whether finalizers are those of this policy already.
 fn are_of(policy: Policy, items: &[Value]) -> bool
     ensures { result ≡ are_of policy (items_view items.now) }
 {
@@ -35,7 +35,7 @@ fn are_of(policy: Policy, items: &[Value]) -> bool
     }
 }
 
-/// Whether a delete leaves the finalizers as they are.
+/// Returns whether a delete leaves the finalizers as they are.
 pub fn leaves(policy: Option<Policy>, items: &[Value]) -> bool
     ensures { result ≡ leaves policy (items_view items.now) }
 {
@@ -45,8 +45,8 @@ pub fn leaves(policy: Option<Policy>, items: &[Value]) -> bool
     }
 }
 
-/// The finalizers that a delete leaves: with a policy, that of the policy in the place of those of any. The error is want of
-/// memory.
+/// Returns the finalizers that a delete leaves: with a policy, that of the policy in the place of those of any. The error is
+/// running out of memory.
 pub fn left_by(
     alloc: Global,
     policy: Option<Policy>,
@@ -68,7 +68,7 @@ pub fn left_by(
     }
 }
 
-/// A copy of finalizers.
+/// Returns a copy of finalizers.
 fn copied(alloc: Global, items: &[Value]) -> Result<Vec<Value>, AllocError>
     ensures { IfOk result (λ v. items_view v.items ≡ items_view items.now) }
 {
@@ -79,7 +79,7 @@ fn copied(alloc: Global, items: &[Value]) -> Result<Vec<Value>, AllocError>
     Ok(copies)
 }
 
-/// The finalizers that are of no policy, and that of this policy after them.
+/// Returns the finalizers that are of no policy, and that of this policy after them.
 fn others_then(alloc: Global, policy: Policy, items: &[Value]) -> Result<Vec<Value>, AllocError>
     ensures { IfOk result (λ v. items_view v.items ≡ others_then (of_policy policy) (items_view items.now)) }
 {
@@ -88,7 +88,7 @@ fn others_then(alloc: Global, policy: Policy, items: &[Value]) -> Result<Vec<Val
     Ok(left)
 }
 
-/// The finalizers that are of no policy.
+/// Returns the finalizers that are of no policy.
 fn others(alloc: Global, items: &[Value]) -> Result<Vec<Value>, AllocError>
     ensures { IfOk result (λ v. items_view v.items ≡ others_then no_items (items_view items.now)) }
 {

@@ -2,7 +2,7 @@
 ghost use Rattle.std.specs.Prelude.{◌≡◌, IfOk, codes, option_and_then, option_map, string_bytes};
 ghost use Rattle.serde_json.specs.Find.{get};
 ghost use Rattle.serde_json.specs.View.{view};
-ghost use Rattle.definitions.specs.DeleteOptions.{options_of, options_with, precondition, policy_said};
+ghost use Rattle.definitions.specs.DeleteOptions.{options_of, options_with, precondition, stated_policy};
 ghost use Rattle.definitions.specs.Metadata.{text_at};
 ghost use Rattle.lifecycle.specs.Options.{ReadsOptions};
 
@@ -32,8 +32,8 @@ impl DeleteOptions {
     ghost use Rattle.definitions.specs.declared.refusals.Part.TheVariants as part;
     ghost use Rattle.lifecycle.specs.Options.{ReadsOptions};
 
-    /// Reads the body of a delete. The errors are `Part::Body` for what is no body, `Part::Options` for a member of a
-    /// wrong type, an unknown policy, `dryRun` and `orphanDependents`; and want of memory.
+    /// Reads the body of a delete. The errors are `Part::Body` for what is no body, `Part::Options` for a member of a wrong
+    /// type, an unknown policy, `dryRun` and `orphanDependents`; and running out of memory.
     pub fn from_value(alloc: Global, value: &Value) -> Result<DeleteOptions, Fault>
         ensures { ReadsOptions (options_of (view value.now)) result }
     {
@@ -48,7 +48,7 @@ impl DeleteOptions {
         with_policy(Part::Options, uid, version, policy_said(value))
     }
 
-    /// The options of a delete without a body, by what its query says of the policy. The error is `Part::Query` for an
+    /// Returns the options of a delete without a body, by what its query says of the policy. The error is `Part::Query` for an
     /// unknown one.
     pub fn from_query(said: PolicySaid) -> Result<DeleteOptions, Fault>
         ensures { ReadsOptions (options_with part.Query None None said) result }
@@ -63,7 +63,7 @@ fn text_at<'v>(value: &'v Value, name: &str) -> Option<&'v str>
     value.get(name)?.as_str()
 }
 
-/// A text that the object has to have. An empty one names nothing.
+/// Returns a text that the object has to have. An empty one names nothing.
 fn precondition(alloc: Global, value: &Value, name: &str) -> Result<Option<String>, AllocError>
     ensures { IfOk result (λ o. option_map string_bytes o ≡ precondition name.now (view value.now)) }
 {
@@ -77,12 +77,12 @@ fn precondition(alloc: Global, value: &Value, name: &str) -> Result<Option<Strin
 }
 
 fn policy_said(value: &Value) -> PolicySaid
-    ensures { result ≡ policy_said (text_at (codes "propagationPolicy") (view value.now)) }
+    ensures { result ≡ stated_policy (text_at (codes "propagationPolicy") (view value.now)) }
 {
     PolicySaid::read(text_at(value, "propagationPolicy"))
 }
 
-/// The options with what is said of the policy, or the part of the request that says it wrong.
+/// Returns the options with what is said of the policy, or the part of the request that says it wrong.
 fn with_policy(
     part: Part,
     uid: Option<String>,

@@ -14,7 +14,7 @@ use std::io::{BufRead, ErrorKind, Write};
 /// The bytes of memory that a line's buffer may keep for the next line.
 const KEPT_CAPACITY: usize = 1 << 20;
 
-/// The bytes without a newline at their end.
+/// Returns the bytes without a newline at their end.
 fn without_newline(line: &[u8]) -> &[u8]
     ensures { result.now ≡ strip_last 10 line.now }
 {
@@ -26,7 +26,7 @@ fn without_newline(line: &[u8]) -> &[u8]
     }
 }
 
-/// Why a line was not read: there was no memory for it, or the reader failed.
+/// Returns why a line was not read: there was no memory for it, or the reader failed.
 fn unread(error: &io::Error) -> RunFault
     ensures want { error_kind error.now ≡ ErrorKind.OutOfMemory → result ≡ RunFault.Want }
     ensures read { error_kind error.now ≢ ErrorKind.OutOfMemory → result ≡ RunFault.Read }
@@ -90,9 +90,8 @@ fn send<W: Write>(writer: &mut W, reply: &[u8]) -> Result<(), RunFault>
     }
 }
 
-/// Answers each line that is read, to the end, and writes the replies and nothing else. Each reply that is not
-/// empty is flushed before the next line is waited for. One line is held at a time, and its memory is used again
-/// for the next.
+/// Answers each line that is read, to the end, and writes the replies and nothing else. Each reply that is not empty is flushed
+/// before the next line is waited for. One line is stored at a time, and its memory is used again for the next.
 ///
 /// At an error a beginning of all the replies was written. The service has answered some of the lines, from the first
 /// on, and no others; their replies were written whole, unless it was the writer that failed: then those of all but the

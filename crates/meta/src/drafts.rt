@@ -48,7 +48,7 @@ impl Model for Draft {
 }
 
 impl Object {
-    /// The object with its metadata open to be written. The error is want of memory.
+    /// Returns the object with its metadata open to be written. The error is running out of memory.
     pub fn open(self, alloc: Global) -> Result<Draft, AllocError>
         ensures metadata { IfOk result (λ d. d.metadata ≡ metadata_of self.value) }
         ensures rest { IfOk result (λ d. (m : Members) → with_metadata m d.rest ≡ with_metadata m self.value) }
@@ -75,7 +75,7 @@ impl Draft {
         remove(&mut self.metadata, name);
     }
 
-    /// Sets the member `name` of the metadata to a text. The error, want of memory, leaves the draft as it was.
+    /// Sets the member `name` of the metadata to a text. The error, running out of memory, leaves the draft as it was.
     pub fn set_text(&mut self, alloc: Global, name: &str, text: &str) -> Result<(), AllocError>
         ensures metadata { OnOk result (self.new.metadata ≡ put name.now (string text.now) self.old.metadata) }
         ensures rest { self.new.rest ≡ self.old.rest }
@@ -86,7 +86,7 @@ impl Draft {
         serde_json::put(&mut self.metadata, alloc, name, value)
     }
 
-    /// Sets the member `name` of the metadata to a whole number. The error, want of memory, leaves the draft as it was.
+    /// Sets the member `name` of the metadata to a whole number. The error, running out of memory, leaves the draft as it was.
     pub fn set_count(&mut self, alloc: Global, name: &str, count: u64) -> Result<(), AllocError>
         ensures metadata { OnOk result (self.new.metadata ≡ put name.now (whole count) self.old.metadata) }
         ensures rest { self.new.rest ≡ self.old.rest }
@@ -97,7 +97,7 @@ impl Draft {
         serde_json::put(&mut self.metadata, alloc, name, value)
     }
 
-    /// Sets the member `name` of the metadata to a list. The error, want of memory, leaves the draft as it was.
+    /// Sets the member `name` of the metadata to a list. The error, running out of memory, leaves the draft as it was.
     pub fn set_items(
         &mut self,
         alloc: Global,
@@ -113,16 +113,16 @@ impl Draft {
         serde_json::put(&mut self.metadata, alloc, name, Value::Array(items))
     }
 
-    /// Sets the member `name` of the metadata to what `held` has there, or takes it out where `held` has none.
-    /// The error, want of memory, leaves the draft as it was.
-    pub fn keep(&mut self, alloc: Global, name: &str, held: &Object) -> Result<(), AllocError>
+    /// Sets the member `name` of the metadata to what `held` has there, or takes it out where `held` has none. The error,
+    /// running out of memory, leaves the draft as it was.
+    pub fn keep(&mut self, alloc: Global, name: &str, existing: &Object) -> Result<(), AllocError>
         ensures metadata { OnOk result (self.new.metadata
-            ≡ as_held name.now (get_member name.now (metadata_of held.now.value)) self.old.metadata) }
+            ≡ as_held name.now (get_member name.now (metadata_of existing.now.value)) self.old.metadata) }
         ensures rest { self.new.rest ≡ self.old.rest }
         ensures kind { self.new.kind ≡ self.old.kind }
         ensures err { OnErr result (self.new ≡ self.old) }
     {
-        match held.metadata_member(name) {
+        match existing.metadata_member(name) {
             Some(found) => {
                 let value = found.clone()?;
                 serde_json::put(&mut self.metadata, alloc, name, value)
@@ -134,7 +134,7 @@ impl Draft {
         }
     }
 
-    /// The object with the metadata as it was written. The error is want of memory.
+    /// Returns the object with the metadata as it was written. The error is running out of memory.
     pub fn close(self, alloc: Global) -> Result<Object, AllocError>
         ensures value { IfOk result (λ o. o.value ≡ with_metadata self.metadata self.rest) }
         ensures kind { IfOk result (λ o. o.kind ≡ self.kind) }

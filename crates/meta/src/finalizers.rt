@@ -9,7 +9,7 @@ use crate::objects::Object;
 use serde_json::Value;
 
 impl Object {
-    /// The finalizers: each a text that keeps the object until who put it there takes it out (Kubernetes, Finalizers).
+    /// Returns the finalizers: each a text that keeps the object until who put it there takes it out (Kubernetes, Finalizers).
     pub fn finalizers(&self) -> &[Value]
         ensures items { items_view result.now ≡ finalizers self.now.value }
         ensures no_float { items_have_float (items_view result.now) ≡ false }
@@ -21,7 +21,7 @@ impl Object {
     }
 }
 
-/// Whether a value is this text.
+/// Returns whether a value is this text.
 pub fn is_text(value: &Value, text: &str) -> bool
     ensures { result ≡ text_is (bytes_eq text.now) (view value.now) }
 {
@@ -31,7 +31,7 @@ pub fn is_text(value: &Value, text: &str) -> bool
     }
 }
 
-/// Whether one of the items is this text.
+/// Returns whether one of the items is this text.
 pub fn has_text(items: &[Value], text: &str) -> bool
     ensures { result ≡ has_text (items_view items.now) text.now }
 {

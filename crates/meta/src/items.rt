@@ -9,7 +9,7 @@ ghost use Rattle.meta.specs.Items.{is_said_once, shown_text};
 use serde_json::{Map, Value};
 use std::alloc::{AllocError, Global};
 
-/// Adds the text of an object with these members, but for what a list says once. The error is want of memory.
+/// Adds the text of an object with these members, but for what a list says once. The error is running out of memory.
 pub(crate) fn push_item_text(
     alloc: Global,
     members: &Map<String, Value>,
@@ -54,7 +54,7 @@ fn push_member_text(
     Ok(true)
 }
 
-/// Whether a list says the member once for all its items.
+/// Returns whether a list says the member once for all its items.
 fn is_said_once(name: &str) -> bool
     ensures { result ≡ is_said_once name.now }
 {

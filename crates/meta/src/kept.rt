@@ -50,7 +50,7 @@ impl Model for Kept {
 }
 
 impl Kept {
-    /// What is kept of an object. The error is want of memory.
+    /// Returns what is kept of an object. The error is running out of memory.
     pub(crate) fn new(alloc: Global, object: &Object) -> Result<Kept, AllocError>
         ensures { IfOk result (λ k. k ≡ object.now) }
     {
@@ -99,7 +99,7 @@ impl Kept {
         label_text(&self.labels, name)
     }
 
-    /// The object, read from its text, or a copy of the tree. The error is want of memory.
+    /// Returns the object, read from its text, or a copy of the tree. The error is running out of memory.
     pub(crate) fn open(&self, alloc: Global) -> Result<Object, AllocError>
         ensures { IfOk result (λ o. o ≡ self.now) }
     {
@@ -111,7 +111,7 @@ impl Kept {
     }
 }
 
-/// The value that a text says. The text of each object says one, so the error is want of memory.
+/// Returns the value that a text says. The text of each object says one, so the error is running out of memory.
 fn read_back(alloc: Global, text: &str) -> Result<Value, AllocError>
     ensures { IfOk result (λ v. read text.now ≡ Some (view v)) }
 {
@@ -121,7 +121,7 @@ fn read_back(alloc: Global, text: &str) -> Result<Value, AllocError>
     }
 }
 
-/// The object's text, in no more memory than it takes.
+/// Returns the object's text, in no more memory than it takes.
 fn exact_text(alloc: Global, object: &Object) -> Result<String, AllocError>
     ensures text { IfOk result (λ s. string_bytes s ≡ compact_text object.now.value) }
     ensures order { IfOk result (λ s. IsInOrder (string_bytes s) object.now.value) }
@@ -134,7 +134,7 @@ fn exact_text(alloc: Global, object: &Object) -> Result<String, AllocError>
     Ok(text)
 }
 
-/// The object's text as an item of a list, which is about as long as this.
+/// Returns the object's text as an item of a list, which is about as long as this.
 fn item_text(alloc: Global, object: &Object, len: usize) -> Result<String, AllocError>
     ensures { IfOk result (λ s. string_bytes s ≡ compact_text (as_item object.now.value)) }
 {
@@ -143,7 +143,7 @@ fn item_text(alloc: Global, object: &Object, len: usize) -> Result<String, Alloc
     Ok(text)
 }
 
-/// The object's labels.
+/// Returns the object's labels.
 fn labels_of(alloc: Global, object: &Object) -> Result<Vec<Label>, AllocError>
     ensures { IfOk result (λ v. map label_of v.items
         ≡ labels_of (option_and_then as_object (metadata (codes "labels") object.now.value))) }
@@ -154,7 +154,7 @@ fn labels_of(alloc: Global, object: &Object) -> Result<Vec<Label>, AllocError>
     }
 }
 
-/// A copy of the value, where its text would not be read back.
+/// Returns a copy of the value, where its text would not be read back.
 fn tree_of(alloc: Global, value: &Value) -> Result<Option<Box<Value>>, AllocError>
     ensures { IfOk result (λ o. IsTree (option_map tree_view o) (view value.now)) }
 {

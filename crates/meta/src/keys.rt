@@ -1,6 +1,6 @@
 //! Keys of objects.
 ghost use Rattle.std.specs.Prelude.{◌≡◌, IfOk};
-ghost use Rattle.meta.specs.Keys.{name_of};
+ghost use Rattle.meta.specs.Keys.{key_of};
 
 use definitions::kinds::Kind;
 use std::alloc::AllocError;
@@ -15,9 +15,9 @@ pub struct Key {
 }
 
 impl Key {
-    /// A copy of the key. The error is want of memory.
+    /// Returns a copy of the key. The error is running out of memory.
     pub fn try_copy(&self) -> Result<Key, AllocError>
-        ensures { IfOk result (λ k. name_of k ≡ name_of self.now) }
+        ensures { IfOk result (λ k. key_of k ≡ key_of self.now) }
     {
         Ok(Key {
             kind: self.kind,

@@ -14,7 +14,7 @@ pub(crate) struct Label {
     text: Option<String>,
 }
 
-/// The members as labels. The error is want of memory.
+/// Returns the members as labels. The error is running out of memory.
 pub(crate) fn labels_in(
     alloc: Global,
     members: &Map<String, Value>,
@@ -28,7 +28,7 @@ pub(crate) fn labels_in(
     Ok(labels)
 }
 
-/// A member as a label.
+/// Returns a member as a label.
 fn as_label(alloc: Global, name: &str, value: &Value) -> Result<Label, AllocError>
     ensures { IfOk result (λ l. label_of l ≡ (name.now, as_str (view value.now))) }
 {
@@ -42,7 +42,7 @@ fn as_label(alloc: Global, name: &str, value: &Value) -> Result<Label, AllocErro
     })
 }
 
-/// The text of the label of a name.
+/// Returns the text of the label of a name.
 pub(crate) fn label_text<'a>(labels: &'a [Label], name: &str) -> Option<&'a str>
     ensures { option_map (λ s. s.now) result ≡ label_text name.now (map label_of labels.now) }
 {

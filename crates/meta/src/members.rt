@@ -7,7 +7,7 @@ ghost use Rattle.definitions.specs.Values.{members_of, without, found_or_null};
 use serde_json::{Map, Value};
 use std::alloc::{AllocError, Global};
 
-/// The members of an object; another value has none.
+/// Returns the members of an object; another value has none.
 pub fn into_members(alloc: Global, value: Value) -> Map<String, Value>
     ensures { members_view result.entries ≡ members_of (view value) }
 {
@@ -37,7 +37,7 @@ pub fn take(
 {
     let name = String::from_str(alloc, name)?;
     match members.insert(name, Value::Null)? {
-        Some(held) => Ok(held),
+        Some(existing) => Ok(existing),
         None => Ok(Value::Null),
     }
 }

@@ -8,7 +8,7 @@ use crate::members::{into_members, remove, take};
 use serde_json::{Map, Value};
 use std::alloc::{AllocError, Global};
 
-/// The target after a merge patch (RFC 7396). The error is want of memory.
+/// Returns the target after a merge patch (RFC 7396). The error is running out of memory.
 #[cycle(merge)]
 pub fn merge(alloc: Global, patch: Value, target: Value) -> Result<Value, AllocError>
     ensures { IfOk result (λ v. view v ≡ merged (view target) (view patch)) }
@@ -54,8 +54,8 @@ fn merge_member(
         (merged (found_or_null (string_bytes name) (members_view members.old.entries)) (view change))
         (members_view members.old.entries)) }
 {
-    let held = take(alloc, members, name.as_str())?;
-    let inner = merge(alloc, change, held)?;
+    let existing = take(alloc, members, name.as_str())?;
+    let inner = merge(alloc, change, existing)?;
     drop(members.insert(name, inner)?);
     Ok(())
 }

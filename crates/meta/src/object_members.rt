@@ -13,7 +13,7 @@ use serde_json::Value;
 use std::alloc::{AllocError, Global};
 
 impl Object {
-    /// The object with a value at the member `name`. The error is want of memory.
+    /// Returns the object with a value at the member `name`. The error is running out of memory.
     pub fn set_member(self, alloc: Global, name: &str, value: Value) -> Result<Object, AllocError>
         requires no_float { has_float (view value) ≡ false }
         ensures value { IfOk result (λ o. o.value ≡ object (put name.now (view value) (members_of self.value))) }
@@ -25,7 +25,7 @@ impl Object {
         Ok(Object::from_whole(kind, Value::Object(members)))
     }
 
-    /// The object without the member `name`.
+    /// Returns the object without the member `name`.
     fn without_member(self, alloc: Global, name: &str) -> Object
         ensures value { result.value ≡ object (without name.now (members_of self.value)) }
         ensures kind { result.kind ≡ self.kind }
@@ -36,14 +36,14 @@ impl Object {
         Object::from_whole(kind, Value::Object(members))
     }
 
-    /// The object with the member `name` as `held` has it, or without it where `held` has none. The error is want of
-    /// memory.
-    pub fn keep_member(self, alloc: Global, name: &str, held: &Object) -> Result<Object, AllocError>
+    /// Returns the object with the member `name` as `held` has it, or without it where `held` has none. The error is running
+    /// out of memory.
+    pub fn keep_member(self, alloc: Global, name: &str, existing: &Object) -> Result<Object, AllocError>
         ensures value { IfOk result (λ o. o.value
-            ≡ object (as_held name.now (get_member name.now (members_of held.now.value)) (members_of self.value))) }
+            ≡ object (as_held name.now (get_member name.now (members_of existing.now.value)) (members_of self.value))) }
         ensures kind { IfOk result (λ o. o.kind ≡ self.kind) }
     {
-        match held.member(name) {
+        match existing.member(name) {
             Some(found) => {
                 let value = found.clone()?;
                 self.set_member(alloc, name, value)

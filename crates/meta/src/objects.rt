@@ -51,7 +51,7 @@ impl Model for Object {
 }
 
 impl Object {
-    /// Reads a value as an object of a kind. The errors are the part of the request at fault, and want of memory.
+    /// Reads a value as an object of a kind. The errors are the part of the request at fault, and running out of memory.
     pub fn from_value(alloc: Global, kind: Kind, value: Value) -> Result<Object, Fault>
         ensures read { IfOk result (λ o. reading kind (view value) ≡ Ok o.value) }
         ensures kind { IfOk result (λ o. o.kind ≡ kind) }
@@ -61,7 +61,7 @@ impl Object {
         Ok(Object { kind, value })
     }
 
-    /// A copy of the object. The error is want of memory.
+    /// Returns a copy of the object. The error is running out of memory.
     pub fn try_copy(&self) -> Result<Object, AllocError>
         ensures { IfOk result (λ o. o ≡ self.now) }
     {
@@ -72,7 +72,7 @@ impl Object {
         })
     }
 
-    /// The object's text, with no space, which is read back as the object. The error is want of memory.
+    /// Returns the object's text, with no space, which is read back as the object. The error is running out of memory.
     pub fn text(&self, alloc: Global) -> Result<String, AllocError>
         ensures text { IfOk result (λ s. string_bytes s ≡ compact_text self.now.value) }
         ensures order { IfOk result (λ s. IsInOrder (string_bytes s) self.now.value) }
@@ -83,7 +83,7 @@ impl Object {
         self.value.to_string(alloc)
     }
 
-    /// Adds the object's text as an item of a list, which has no `apiVersion` and no `kind`. The error is want of
+    /// Adds the object's text as an item of a list, which has no `apiVersion` and no `kind`. The error is running out of
     /// memory.
     pub fn push_item_text(&self, alloc: Global, text: &mut String) -> Result<(), AllocError>
         ensures { OnOk result (string_bytes text.new
@@ -95,7 +95,7 @@ impl Object {
         }
     }
 
-    /// All that the object says, lent.
+    /// Returns all that the object says, lent.
     pub(crate) fn value(&self) -> &Value
         ensures value { view result.now ≡ self.now.value }
         ensures no_float { has_float (view result.now) ≡ false }
@@ -104,7 +104,7 @@ impl Object {
         &self.value
     }
 
-    /// All that the object says.
+    /// Returns all that the object says.
     pub fn into_value(self) -> Value
         ensures value { view result ≡ self.value }
         ensures no_float { has_float (view result) ≡ false }
@@ -114,7 +114,7 @@ impl Object {
         value
     }
 
-    /// An object of a kind, that says what a value says.
+    /// Returns an object of a kind, that says what a value says.
     pub fn from_whole(kind: Kind, value: Value) -> Object
         requires no_float { has_float (view value) ≡ false }
         requires object { is_some (as_object (view value)) ≡ true }
@@ -124,7 +124,7 @@ impl Object {
         Object { kind, value }
     }
 
-    /// A member of the object, as `spec` and `status` are.
+    /// Returns a member of the object, as `spec` and `status` are.
     pub fn member(&self, name: &str) -> Option<&Value>
         ensures member { option_map (λ v. view v.now) result ≡ get name.now self.now.value }
         ensures no_float { IfSome result (λ v. has_float (view v.now) ≡ false) }
@@ -132,7 +132,7 @@ impl Object {
         member(&self.value, name)
     }
 
-    /// A member of the metadata.
+    /// Returns a member of the metadata.
     pub fn metadata_member(&self, name: &str) -> Option<&Value>
         ensures member { option_map (λ v. view v.now) result ≡ metadata name.now self.now.value }
         ensures no_float { IfSome result (λ v. has_float (view v.now) ≡ false) }
@@ -140,49 +140,49 @@ impl Object {
         metadata_member(&self.value, name)
     }
 
-    /// The object's kind.
+    /// Returns the object's kind.
     pub fn kind(&self) -> Kind
         ensures { result ≡ self.now.kind }
     {
         self.kind
     }
 
-    /// The object's name, unique in its namespace.
+    /// Returns the object's name, unique in its namespace.
     pub fn name(&self) -> Option<&str>
         ensures { option_map (λ s. s.now) result ≡ name self.now.value }
     {
         metadata_text(&self.value, "name")
     }
 
-    /// What the object's name is made of, where the server is to make one.
+    /// Returns what the object's name is made of, where the server is to make one.
     pub fn generate_name(&self) -> Option<&str>
         ensures { option_map (λ s. s.now) result ≡ generate_name self.now.value }
     {
         metadata_text(&self.value, "generateName")
     }
 
-    /// The namespace that the object is in.
+    /// Returns the namespace that the object is in.
     pub fn namespace(&self) -> Option<&str>
         ensures { option_map (λ s. s.now) result ≡ namespace self.now.value }
     {
         metadata_text(&self.value, "namespace")
     }
 
-    /// What tells the object from others that had its name before.
+    /// Returns what tells the object from others that had its name before.
     pub fn uid(&self) -> Option<&str>
         ensures { option_map (λ s. s.now) result ≡ uid self.now.value }
     {
         metadata_text(&self.value, "uid")
     }
 
-    /// The revision of the object's last write, in decimal.
+    /// Returns the revision of the object's last write, in decimal.
     pub fn resource_version(&self) -> Option<&str>
         ensures { option_map (λ s. s.now) result ≡ version self.now.value }
     {
         metadata_text(&self.value, "resourceVersion")
     }
 
-    /// How many specs the object has had, as its metadata says; 0 where it says none.
+    /// Returns how many specs the object has had, as its metadata says; 0 where it says none.
     pub fn generation(&self) -> u64
         ensures { result ≡ generation self.now.value }
     {
@@ -192,7 +192,8 @@ impl Object {
         }
     }
 
-    /// The generation after the object's; the greatest whole number that every reader of JSON holds exactly has none after it.
+    /// Returns the generation after the object's; the greatest whole number that every reader of JSON holds exactly has none
+    /// after it.
     pub fn next_generation(&self) -> u64
         ensures { result ≡ next_generation (generation self.now.value) }
     {
@@ -204,21 +205,21 @@ impl Object {
         }
     }
 
-    /// Whether the object is marked for deletion.
+    /// Returns whether the object is marked for deletion.
     pub fn is_being_deleted(&self) -> bool
         ensures { result ≡ is_being_deleted self.now.value }
     {
         metadata_text(&self.value, "deletionTimestamp").is_some()
     }
 
-    /// The value of a label.
+    /// Returns the value of a label.
     pub fn label(&self, name: &str) -> Option<&str>
         ensures { option_map (λ s. s.now) result ≡ label name.now self.now.value }
     {
         metadata_member(&self.value, "labels")?.get(name)?.as_str()
     }
 
-    /// The labels, each a name and a text.
+    /// Returns the labels, each a name and a text.
     pub fn labels(&self) -> Option<&Map<String, Value>>
         ensures { option_map (λ m. members_view m.now.entries) result
             ≡ option_and_then as_object (metadata (codes "labels") self.now.value) }
@@ -226,7 +227,7 @@ impl Object {
         metadata_member(&self.value, "labels")?.as_object()
     }
 
-    /// The owners that the object's references name, in their order. The error is want of memory.
+    /// Returns the owners that the object's references name, in their order. The error is running out of memory.
     pub fn owners(&self, alloc: Global) -> Result<Vec<OwnerReference<'_>>, AllocError>
         ensures { IfOk result (λ v. map owner_of v.items ≡ owners self.now.value) }
     {
@@ -237,7 +238,7 @@ impl Object {
     }
 }
 
-/// A text of an object's metadata.
+/// Returns a text of an object's metadata.
 fn metadata_text<'a>(value: &'a Value, name: &str) -> Option<&'a str>
     ensures { option_map (λ s. s.now) result ≡ metadata_text name.now (view value.now) }
 {
@@ -250,14 +251,14 @@ fn member<'a>(value: &'a Value, name: &str) -> Option<&'a Value>
     value.get(name)
 }
 
-/// A member of an object's metadata.
+/// Returns a member of an object's metadata.
 fn metadata_member<'a>(value: &'a Value, name: &str) -> Option<&'a Value>
     ensures { option_map (λ v. view v.now) result ≡ metadata name.now (view value.now) }
 {
     value.get("metadata")?.get(name)
 }
 
-/// The references to an object's owners.
+/// Returns the references to an object's owners.
 fn owner_references(value: &Value) -> Option<&Vec<Value>>
     ensures { option_map (λ v. items_view v.now.items) result
         ≡ option_and_then as_array (metadata (codes "ownerReferences") (view value.now)) }

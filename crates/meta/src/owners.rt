@@ -35,7 +35,7 @@ fn truth_at(value: &Value, name: &str) -> bool
     }
 }
 
-/// The owner that a reference names.
+/// Returns the owner that a reference names.
 pub fn owner(value: &Value) -> OwnerReference<'_>
     ensures { owner_of result ≡ owner (view value.now) }
 {
@@ -49,7 +49,7 @@ pub fn owner(value: &Value) -> OwnerReference<'_>
     }
 }
 
-/// The owners that references name, in their order.
+/// Returns the owners that references name, in their order.
 pub fn owners_in(alloc: Global, items: &Vec<Value>) -> Result<Vec<OwnerReference<'_>>, AllocError>
     ensures { IfOk result (λ v. map owner_of v.items ≡ owners_in (items_view items.now.items)) }
 {

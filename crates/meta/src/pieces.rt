@@ -27,7 +27,7 @@ pub(crate) enum Item {
 }
 
 impl Item {
-    /// What is to be kept of an item's text beside the object's text.
+    /// Returns what is to be kept of an item's text beside the object's text.
     pub(crate) fn new(kind: Kind, text: &str, shown: String) -> Item
         ensures { Says result text.now (string_bytes shown) }
     {
@@ -41,7 +41,7 @@ impl Item {
     }
 }
 
-/// Adds the pieces of a text. The error is want of memory.
+/// Adds the pieces of a text. The error is running out of memory.
 pub(crate) fn push_pieces(text: &str, pieces: Pieces, to: &mut String) -> Result<(), AllocError>
     requires { IsCut pieces text.now }
     ensures { OnOk result (string_bytes to.new ≡ string_bytes to.old ++ cut pieces text.now) }
@@ -51,7 +51,7 @@ pub(crate) fn push_pieces(text: &str, pieces: Pieces, to: &mut String) -> Result
     to.push_str(&text[pieces.third_start..])
 }
 
-/// The pieces between which the object's text has its version and its kind.
+/// Returns the pieces between which the object's text has its version and its kind.
 fn likely_pieces(kind: Kind, text: &[u8], shown: &[u8]) -> Pieces {
     let first_end = same_beginning(text, shown);
     let version_len = kind.api_version().len().saturating_add(VERSION_MEMBER_LEN);
@@ -66,7 +66,7 @@ fn likely_pieces(kind: Kind, text: &[u8], shown: &[u8]) -> Pieces {
     }
 }
 
-/// How long two texts are the same.
+/// Returns how long two texts are the same.
 fn same_beginning(one: &[u8], other: &[u8]) -> usize
     ensures one { result ≤ length one.now }
     ensures other { result ≤ length other.now }
@@ -80,7 +80,7 @@ fn same_beginning(one: &[u8], other: &[u8]) -> usize
     len
 }
 
-/// Whether the pieces of a text are the text that is shown.
+/// Returns whether the pieces of a text are the text that is shown.
 fn makes_up(text: &str, pieces: Pieces, shown: &str) -> bool
     ensures { IsTrue result → IsCut pieces text.now × (cut pieces text.now ≡ shown.now) }
 {
@@ -93,7 +93,7 @@ fn makes_up(text: &str, pieces: Pieces, shown: &str) -> bool
         )
 }
 
-/// Whether no character is cut.
+/// Returns whether no character is cut.
 fn is_cut(text: &str, pieces: Pieces) -> bool
     ensures { IsTrue result ↔ IsCut pieces text.now }
 {
@@ -104,7 +104,7 @@ fn is_cut(text: &str, pieces: Pieces) -> bool
         && text.is_char_boundary(pieces.third_start)
 }
 
-/// Whether the text is these three, one after another.
+/// Returns whether the text is these three, one after another.
 fn is_joined(text: &str, first: &str, second: &str, third: &str) -> bool
     ensures { IsTrue result → text.now ≡ first.now ++ (second.now ++ third.now) }
 {
@@ -117,7 +117,7 @@ fn is_joined(text: &str, first: &str, second: &str, third: &str) -> bool
     }
 }
 
-/// What follows the beginning of a text.
+/// Returns what follows the beginning of a text.
 fn after<'a>(text: &'a str, beginning: &str) -> Option<&'a str>
     ensures { IfSome result (λ rest. text.now ≡ beginning.now ++ rest.now) }
 {

@@ -17,7 +17,7 @@ use serde_json::{Map, Value};
 use std::alloc::{AllocError, Global};
 use std::default::Emptied;
 
-/// Whether a value has a shape.
+/// Returns whether a value has a shape.
 #[cycle(fits)]
 pub fn fits(value: &Value, shape: Shape) -> bool
     ensures { result ≡ fits shape (view value.now) }
@@ -63,7 +63,7 @@ fn members_fit(members: &Map<String, Value>, schema: Schema) -> bool
     true
 }
 
-/// Whether a value is a text, list or object with nothing in it.
+/// Returns whether a value is a text, list or object with nothing in it.
 fn is_empty(value: &Value) -> bool
     ensures { result ≡ is_empty (view value.now) }
 {
@@ -77,7 +77,7 @@ fn is_empty(value: &Value) -> bool
     }
 }
 
-/// Whether a member counts as absent.
+/// Returns whether a member counts as absent.
 fn is_absent(described: Member, value: &Value) -> bool
     ensures { result ≡ is_absent described (view value.now) }
 {
@@ -103,7 +103,7 @@ fn item_of(shape: Shape) -> Shape
     }
 }
 
-/// The value without the members, at every depth, that count as absent.
+/// Returns the value without the members, at every depth, that count as absent.
 #[cycle(tidy)]
 pub fn tidy(value: Value, shape: Shape) -> Result<Value, AllocError>
     ensures { IfOk result (λ v. view v ≡ tidied shape (view value)) }
@@ -171,7 +171,7 @@ fn with_spec(alloc: Global, kind: Kind, value: Value) -> Result<Value, AllocErro
     }
 }
 
-/// The value with what is filled in.
+/// Returns the value with what is filled in.
 fn fill(alloc: Global, kind: Kind, value: Value) -> Result<Value, AllocError>
     ensures { IfOk result (λ v. view v ≡ filled kind (view value)) }
 {
@@ -181,14 +181,14 @@ fn fill(alloc: Global, kind: Kind, value: Value) -> Result<Value, AllocError>
     with_text(alloc, value, "apiVersion", kind.api_version())
 }
 
-/// Whether a value is a JSON object that can be a body.
+/// Returns whether a value is a JSON object that can be a body.
 pub fn is_body(value: &Value) -> bool
     ensures { result ≡ is_body (view value.now) }
 {
     value.is_object() && !has_float(value) && nests_within(value, 100)
 }
 
-/// The value read as an object of a kind. The errors are the part of the request at fault, and want of memory.
+/// Returns the value read as an object of a kind. The errors are the part of the request at fault, and running out of memory.
 pub fn read(alloc: Global, kind: Kind, value: Value) -> Result<Value, Fault>
     ensures read { IfOk result (λ v. reading kind (view value) ≡ Ok (view v)) }
     ensures whole { IfOk result (λ v. has_float (view v) ≡ false) }

@@ -231,7 +231,7 @@ fn root_member(kind: Kind, name: &str) -> Member
     }
 }
 
-/// What is said of the member `name` of an object with this schema.
+/// Returns what is said of the member `name` of an object with this schema.
 pub fn member_at(schema: Schema, name: &str) -> Member
     ensures { result ≡ member_at schema name.now }
 {

@@ -33,7 +33,7 @@ impl Model for StoredObject {
 }
 
 impl StoredObject {
-    /// The object as it is to be kept. The error is want of memory.
+    /// Returns the object as it is to be kept. The error is running out of memory.
     pub fn new(alloc: Global, object: &Object) -> Result<StoredObject, AllocError>
         ensures { IfOk result (λ s. s ≡ object.now) }
     {
@@ -41,7 +41,7 @@ impl StoredObject {
         Ok(StoredObject { kept })
     }
 
-    /// A copy of the object, which shares its text. The error is want of memory.
+    /// Returns a copy of the object, which shares its text. The error is running out of memory.
     pub fn try_copy(&self) -> Result<StoredObject, AllocError>
         ensures { IfOk result (λ s. s ≡ self.now) }
     {
@@ -49,21 +49,21 @@ impl StoredObject {
         Ok(StoredObject { kept })
     }
 
-    /// The object, to be changed or compared. The error is want of memory.
+    /// Returns the object, to be changed or compared. The error is running out of memory.
     pub fn open(&self, alloc: Global) -> Result<Object, AllocError>
         ensures { IfOk result (λ o. o ≡ self.now) }
     {
         self.kept.open(alloc)
     }
 
-    /// The object's kind.
+    /// Returns the object's kind.
     pub fn kind(&self) -> Kind
         ensures { result ≡ self.now.kind }
     {
         self.kept.kind()
     }
 
-    /// The object's text, with no space, which is read back as the object.
+    /// Returns the object's text, with no space, which is read back as the object.
     pub fn text(&self) -> &str
         ensures text { result.now ≡ compact_text self.now.value }
         ensures order { IsInOrder result.now self.now.value }
@@ -73,7 +73,7 @@ impl StoredObject {
         self.kept.text()
     }
 
-    /// Adds the object's text as an item of a list, which has no `apiVersion` and no `kind`. The error is want of
+    /// Adds the object's text as an item of a list, which has no `apiVersion` and no `kind`. The error is running out of
     /// memory.
     pub fn push_item_text(&self, text: &mut String) -> Result<(), AllocError>
         ensures { OnOk result (string_bytes text.new
@@ -82,7 +82,7 @@ impl StoredObject {
         self.kept.push_item_text(text)
     }
 
-    /// The value of a label.
+    /// Returns the value of a label.
     pub fn label(&self, name: &str) -> Option<&str>
         ensures { option_map (λ s. s.now) result ≡ label name.now self.now.value }
     {

@@ -9,14 +9,14 @@ ghost use Rattle.definitions.specs.Values.{with_member, with_default};
 use serde_json::{Map, Value, json};
 use std::alloc::{AllocError, Global};
 
-/// A whole number as a value.
+/// Returns a whole number as a value.
 pub fn whole_number(alloc: Global, number: u64) -> Result<Value, AllocError>
     ensures { IfOk result (λ v. view v ≡ whole number) }
 {
     json!(in alloc; number)
 }
 
-/// The value with `inner` at the member `name`, where it is an object; another value stays.
+/// Returns the value with `inner` at the member `name`, where it is an object; another value stays.
 pub fn with_member(
     alloc: Global,
     value: Value,
@@ -35,7 +35,7 @@ pub fn with_member(
     }
 }
 
-/// Whether a number in the value is held as a float.
+/// Returns whether a number in the value is stored as a float.
 #[cycle(floats)]
 pub fn has_float(value: &Value) -> bool
     ensures { result ≡ has_float (view value.now) }
@@ -74,7 +74,7 @@ fn members_have_float(members: &Map<String, Value>) -> bool
     false
 }
 
-/// Whether arrays and objects nest at most `limit` deep.
+/// Returns whether arrays and objects nest at most `limit` deep.
 #[cycle(depths)]
 pub fn nests_within(value: &Value, limit: u32) -> bool
     ensures { IsTrue result ↔ (depth (view value.now) ≤ limit) }
@@ -113,7 +113,7 @@ fn members_nest_within(members: &Map<String, Value>, limit: u32) -> bool
     true
 }
 
-/// The value with an empty object at the member `name`, where it has none.
+/// Returns the value with an empty object at the member `name`, where it has none.
 pub fn with_object(alloc: Global, value: Value, name: &str) -> Result<Value, AllocError>
     ensures { IfOk result
         (λ v. view v ≡ with_default name.now (object no_members) (view value)) }
@@ -124,7 +124,7 @@ pub fn with_object(alloc: Global, value: Value, name: &str) -> Result<Value, All
     with_member(alloc, value, name, Value::Object(Map::new(alloc)))
 }
 
-/// The value with a text at the member `name`, where it has none.
+/// Returns the value with a text at the member `name`, where it has none.
 pub fn with_text(alloc: Global, value: Value, name: &str, text: &str) -> Result<Value, AllocError>
     ensures { IfOk result (λ v. view v ≡ with_default name.now (string text.now) (view value)) }
 {

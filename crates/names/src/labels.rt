@@ -1,7 +1,7 @@
 //! Labels of DNS names.
 ghost use Rattle.std.specs.Prelude.{◌≡◌, ◌||◌, ◌==◌};
 ghost use Rattle.std.specs.List.{list_all};
-ghost use Rattle.definitions.specs.Names.{is_letter_or_digit, is_label, is_namespace};
+ghost use Rattle.definitions.specs.Keys.{is_letter_or_digit, is_label, is_namespace};
 
 /// The greatest length of a namespace's name, in bytes.
 const LONGEST: usize = 63;
@@ -12,7 +12,7 @@ pub(crate) fn is_letter_or_digit(byte: u8) -> bool
     (b'a' <= byte && byte <= b'z') || (b'0' <= byte && byte <= b'9')
 }
 
-/// Whether each byte can stand in a label.
+/// Returns whether each byte can stand in a label.
 fn has_label_bytes(text: &str) -> bool
     ensures { result ≡ list_all (λ b. is_letter_or_digit b || (b == 45)) text.now }
 {
@@ -20,7 +20,7 @@ fn has_label_bytes(text: &str) -> bool
         .all(|byte| is_letter_or_digit(byte) || byte == b'-')
 }
 
-/// Whether the text is a DNS label of any length (RFC 1123, Host Names and Numbers).
+/// Returns whether the text is a DNS label of any length (RFC 1123, Host Names and Numbers).
 pub fn is_label(text: &str) -> bool
     ensures { result ≡ is_label text.now }
 {
@@ -37,7 +37,7 @@ pub fn is_label(text: &str) -> bool
     is_letter_or_digit(bytes[bytes.len() - 1])
 }
 
-/// Whether a namespace can have this name: a DNS label of at most 63 bytes.
+/// Returns whether a namespace can have this name: a DNS label of at most 63 bytes.
 pub fn is_namespace(text: &str) -> bool
     ensures { result ≡ is_namespace text.now }
 {

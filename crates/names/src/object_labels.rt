@@ -46,7 +46,7 @@ fn is_short_name(text: &str) -> bool
     is_alphanumeric(bytes[bytes.len() - 1])
 }
 
-/// Whether a label can have this value: at most 63 letters, digits, `-`, `_` and `.`, of which the first and the last
+/// Returns whether a label can have this value: at most 63 letters, digits, `-`, `_` and `.`, of which the first and the last
 /// are letters or digits (Kubernetes, Labels and Selectors, Syntax and character set).
 pub fn is_label_value(text: &str) -> bool
     ensures { result ≡ is_label_value text.now }
@@ -54,7 +54,7 @@ pub fn is_label_value(text: &str) -> bool
     text.is_empty() || is_short_name(text)
 }
 
-/// Whether a label can have this key: 1 to 63 bytes as in a value, before which a DNS subdomain and a `/` can stand.
+/// Returns whether a label can have this key: 1 to 63 bytes as in a value, before which a DNS subdomain and a `/` can stand.
 pub fn is_label_key(text: &str) -> bool
     ensures { result ≡ is_label_key text.now }
 {

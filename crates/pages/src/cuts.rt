@@ -2,7 +2,7 @@
 ghost use Rattle.std.specs.Prelude.{◌≡◌, ◌≤◌, length, map, drop};
 ghost use Rattle.definitions.specs.Pages as pages;
 ghost use Rattle.definitions.specs.Pages.{AreInPlace, place_of, place_cmp, after_place};
-ghost use Rattle.meta.specs.Keys.{name_of};
+ghost use Rattle.meta.specs.Keys.{key_of};
 ghost use Rattle.meta.specs.Members.{member_of};
 ghost use Rattle.pages.specs.Seen.{token_of, asked_place, is_passed, list_after};
 ghost use Rattle.definitions.specs.PageTokens.{token_place};
@@ -18,7 +18,7 @@ pub struct Page<'a> {
     pub remaining: usize,
 }
 
-/// The page of a list after the place that a token names, or the first page: at most `limit` objects, or all if it is
+/// Returns the page of a list after the place that a token names, or the first page: at most `limit` objects, or all if it is
 /// 0. The list is one of a kind, by namespace, then name. It takes no memory.
 pub fn page_of<'a>(list: &'a [Member<'a>], limit: usize, after: Option<&Token>) -> Page<'a>
     requires { AreInPlace (map member_of list.now) }
@@ -41,7 +41,7 @@ pub fn page_of<'a>(list: &'a [Member<'a>], limit: usize, after: Option<&Token>) 
     }
 }
 
-/// How many objects of a list come before the page that a token asks for.
+/// Returns how many objects of a list come before the page that a token asks for.
 fn start_of(list: &[Member<'_>], after: Option<&Token>) -> usize
     requires { AreInPlace (map member_of list.now) }
     ensures bound { result ≤ length list.now }
@@ -54,7 +54,7 @@ fn start_of(list: &[Member<'_>], after: Option<&Token>) -> usize
     }
 }
 
-/// How many objects of a list do not come after the place that a token names. They stand first, and are found by
+/// Returns how many objects of a list do not come after the place that a token names. They stand first, and are found by
 /// halving.
 fn passed(list: &[Member<'_>], token: &Token) -> usize
     requires { AreInPlace (map member_of list.now) }
@@ -69,9 +69,9 @@ fn passed(list: &[Member<'_>], token: &Token) -> usize
     )
 }
 
-/// The order of a token's place and a key's.
+/// Returns the order of a token's place and a key's.
 fn order(token: &Token, key: &Key) -> Ordering
-    ensures { result ≡ place_cmp (token_place (token_of token.now)) (place_of (name_of key.now)) }
+    ensures { result ≡ place_cmp (token_place (token_of token.now)) (place_of (key_of key.now)) }
 {
     token
         .namespace

@@ -16,7 +16,7 @@ use serde_json::{Category, Value};
 use stamps::revisions::read_revision;
 use std::alloc::{AllocError, Global};
 
-/// The value that a text holds in base64, of whichever form.
+/// Returns the value that a text holds in base64, of whichever form.
 pub fn value_of(alloc: Global, text: &str) -> Result<Value, Fault>
     ensures read { IfOk result (λ v. HoldsToken text.now (view v)) }
     ensures refused { IfErr result (RefusesToken text.now) }
@@ -43,7 +43,7 @@ pub struct Members<'a> {
     revision: u64,
 }
 
-/// The members of a page token that a value has.
+/// Returns the members of a page token that a value has.
 pub fn members_of(value: &Value) -> Option<Members<'_>>
     ensures { option_map lent_token result ≡ token_in (view value.now) }
 {
@@ -57,7 +57,7 @@ pub fn members_of(value: &Value) -> Option<Members<'_>>
     })
 }
 
-/// A member that is a text.
+/// Returns a member that is a text.
 fn text_at<'a>(value: &'a Value, name: &str) -> Option<&'a str>
     ensures { option_map (λ s. s.now) result ≡ text_at name.now (view value.now) }
 {
@@ -69,7 +69,7 @@ impl Members<'_> {
     ghost use Rattle.pages.specs.Seen.{token_of};
     ghost use Rattle.pages.specs.Read.{lent_token};
 
-    /// The token, with texts of its own.
+    /// Returns the token, with texts of its own.
     pub fn to_token(&self, alloc: Global) -> Result<Token, AllocError>
         ensures { IfOk result (λ t. token_of t ≡ lent_token self.now) }
     {

@@ -23,13 +23,14 @@ impl Token {
     ghost use Rattle.std.specs.Prelude.{◌≡◌, IfOk, IfErr, string_bytes};
     ghost use Rattle.definitions.specs.Pages.{place_of};
     ghost use Rattle.definitions.specs.PageTokens.{token_place, token_text, IsToken};
-    ghost use Rattle.meta.specs.Keys.{name_of};
+    ghost use Rattle.meta.specs.Keys.{key_of};
     ghost use Rattle.pages.specs.Seen.{token_of};
     ghost use Rattle.pages.specs.Refused.{RefusesToken};
 
-    /// The token that asks for what comes after an object, in the list of a revision. The error is want of memory.
+    /// Returns the token that asks for what comes after an object, in the list of a revision. The error is running out of
+    /// memory.
     pub fn after(member: &Member<'_>, revision: u64) -> Result<Token, AllocError>
-        ensures place { IfOk result (λ t. token_place (token_of t) ≡ place_of (name_of member.now.key.now)) }
+        ensures place { IfOk result (λ t. token_place (token_of t) ≡ place_of (key_of member.now.key.now)) }
         ensures revision { IfOk result (λ t. t.revision ≡ revision) }
     {
         Ok(Token {
@@ -39,7 +40,7 @@ impl Token {
         })
     }
 
-    /// The token's text. The error is want of memory.
+    /// Returns the token's text. The error is running out of memory.
     pub fn write(&self, alloc: Global) -> Result<String, AllocError>
         ensures { IfOk result (λ s. string_bytes s ≡ token_text (token_of self.now)) }
     {
@@ -54,8 +55,8 @@ impl Token {
         URL_SAFE_NO_PAD.encode(alloc, text.as_bytes())
     }
 
-    /// The token that a text is: just what `write` gives is read, up to the greatest revision. The errors are the page
-    /// token as the part of the request at fault, and want of memory.
+    /// Returns the token that a text is: just what `write` gives is read, up to the greatest revision. The errors are the page
+    /// token as the part of the request at fault, and running out of memory.
     pub fn read(alloc: Global, text: &str) -> Result<Token, Fault>
         ensures read { IfOk result (λ t. IsToken text.now (token_of t)) }
         ensures refused { IfErr result (RefusesToken text.now) }

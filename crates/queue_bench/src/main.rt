@@ -24,7 +24,7 @@ enum Way {
     Plain,
 }
 
-/// What the arguments ask for: what is measured, and how many thousand keys are added.
+/// Returns what the arguments ask for: what is measured, and how many thousand keys are added.
 fn asked(rt: &HostRuntime) -> io::Result<Option<(Way, u32)>> {
     let mut words = env::args(rt)?;
     let _program = words.next();
@@ -43,7 +43,7 @@ fn asked(rt: &HostRuntime) -> io::Result<Option<(Way, u32)>> {
     Ok(thousands.map(|count| (way, count)))
 }
 
-/// How many keys were handed out.
+/// Returns how many keys were handed out.
 fn handed_out(rt: &HostRuntime, way: Way, thousands: u32) -> Result<u64, AllocError> {
     match way {
         Way::Queue => rounds::run(rt.alloc(), &mut Queue::new(rt.alloc()), thousands),

@@ -12,7 +12,7 @@ pub struct Plain {
 }
 
 impl Plain {
-    /// An empty line.
+    /// Returns an empty line.
     pub fn new(alloc: Global) -> Plain {
         Plain {
             waiting: VecDeque::new(alloc),

@@ -47,7 +47,7 @@ fn take_all<L: Line>(line: &mut L, count: usize) -> Result<u64, AllocError> {
     Ok(handed_out)
 }
 
-/// All the keys.
+/// Returns all the keys.
 fn keys(alloc: Global) -> Result<Vec<WorkKey>, AllocError> {
     let mut keys = Vec::new(alloc);
     for number in 0..KEYS {

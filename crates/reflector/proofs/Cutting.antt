@@ -5,7 +5,7 @@ use Rattle.controllers.specs.declared.frame_fault.FrameFault.{FrameFault}
 use Rattle.controllers.specs.declared.reflectors.Phase.{Phase}
 use Rattle.controllers.specs.declared.reflectors.Phase.TheVariants.{Listing, Watching}
 use Rattle.controllers.specs.declared.reflectors.End.{End}
-use Rattle.definitions.specs.Frames.{Event}
+use Rattle.definitions.specs.Frames.{Frame}
 use Rattle.controllers.specs.ReadFrames.{Read, reading, onto}
 use Rattle.controllers.specs.Reflectors.{Delta, Step, Run, run, step, going_on, first_delta, Reflector, Fed, nothing, ran, watched, fed, joined, all_fed}
 use Rattle.framing.specs.Decoders.{fed_after}
@@ -30,13 +30,13 @@ first_then : (e : Option End) (d : Delta) (t u : Run) → first_delta d (run_the
 first_then (Some e) d t u = refl
 first_then None d t u = refl
 
-step_on : (k : Kind) (last : ℕ) (es fs : List Event) (o : Result Step End)
+step_on : (k : Kind) (last : ℕ) (es fs : List Frame) (o : Result Step End)
     → ((r : ℕ) → run k r (es ++ fs) ≡ run_then (run k r es).ended (run k r es) (run k (run k r es).revision fs))
     → (let t = going_on last (λ r. run k r es) o in going_on last (λ r. run k r (es ++ fs)) o ≡ run_then t.ended t (run k t.revision fs))
 step_on k last es fs (Err e) h = refl
 step_on k last es fs (Ok s) h = ap (first_delta s.delta) (h s.revision) ∙ first_then (run k s.revision es).ended s.delta (run k s.revision es) (run k (run k s.revision es).revision fs)
 
-pub run_on : (k : Kind) (es fs : List Event) (last : ℕ) → run k last (es ++ fs) ≡ run_then (run k last es).ended (run k last es) (run k (run k last es).revision fs)
+pub run_on : (k : Kind) (es fs : List Frame) (last : ℕ) → run k last (es ++ fs) ≡ run_then (run k last es).ended (run k last es) (run k (run k last es).revision fs)
 run_on k [] fs last = refl
 run_on k (e ∷ es) fs last = step_on k last es fs (step k last e) (λ r. run_on k es fs r)
 
@@ -46,7 +46,7 @@ abbrev pub at_revision : Kind → ℕ → Phase → List ℕ → Reflector
 at_revision k r p held = record { kind = k; revision = r; phase = p; held = held }
 
 -- what was read first, and what is read then
-parts : (k : Kind) (r : ℕ) (h : List ℕ) (ended : Option End) (fault : Option FrameFault) (ds : List Delta) (last : ℕ) (es : List Event) (held q : List ℕ)
+parts : (k : Kind) (r : ℕ) (h : List ℕ) (ended : Option End) (fault : Option FrameFault) (ds : List Delta) (last : ℕ) (es : List Frame) (held q : List ℕ)
     → (let t : Run = record { deltas = ds; revision = last; ended = ended } in let first : Read = record { events = es; held = held; fault = fault } in
     let s = at_revision k r Watching h in let then = onto es (fed_after fault (held ++ q)) in
     joined (ran t first s) (fed (ran t first s).after q) ≡ ran (run_then ended t (run k last (fed_after fault (held ++ q)).events)) then s)

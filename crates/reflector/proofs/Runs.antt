@@ -2,7 +2,7 @@
 use Rattle.std.proofs.Common.{◌≡◌, ℕ, List, [], ◌∷◌, ◌++◌, Some, None, Ok, Err, sym, ap, ◌∙◌, append_assoc, append-nil}
 use Rattle.definitions.specs.declared.kinds.Kind.{Kind}
 use Rattle.controllers.specs.declared.reflectors.End.{End}
-use Rattle.definitions.specs.Frames.{Event}
+use Rattle.definitions.specs.Frames.{Frame}
 use Rattle.controllers.specs.Reflectors.{Delta, Step, Run, run, step, going_on}
 
 -- a run after these deltas
@@ -14,13 +14,13 @@ abbrev pub stopped : ℕ → End → Run
 stopped last e = record { deltas = []; revision = last; ended = Some e }
 
 -- a frame that is taken in, and one that is an end
-pub run_goes : (ds : List Delta) (k : Kind) (last : ℕ) (e : Event) (es : List Event) (t : Step) (new : List Delta) → Ok t ≡ step k last e → new ≡ ds ++ t.delta ∷ []
+pub run_goes : (ds : List Delta) (k : Kind) (last : ℕ) (e : Frame) (es : List Frame) (t : Step) (new : List Delta) → Ok t ≡ step k last e → new ≡ ds ++ t.delta ∷ []
     → after_deltas new (run k t.revision es) ≡ after_deltas ds (run k last (e ∷ es))
 run_goes ds k last e es t new h n =
     ap (λ z. after_deltas z (run k t.revision es)) n ∙ ap (λ z. record { deltas = z; revision = (run k t.revision es).revision; ended = (run k t.revision es).ended }) (append_assoc ds (t.delta ∷ []) (run k t.revision es).deltas)
     ∙ ap (λ o. after_deltas ds (going_on last (λ r. run k r es) o)) h
 
-pub run_stops : (ds : List Delta) (k : Kind) (last : ℕ) (e : Event) (es : List Event) (end : End) → Err end ≡ step k last e
+pub run_stops : (ds : List Delta) (k : Kind) (last : ℕ) (e : Frame) (es : List Frame) (end : End) → Err end ≡ step k last e
     → record { deltas = ds; revision = last; ended = Some end } ≡ after_deltas ds (run k last (e ∷ es))
 run_stops ds k last e es end h =
     ap (λ z. record { deltas = z; revision = last; ended = Some end }) (sym (append-nil ds)) ∙ ap (λ o. after_deltas ds (going_on last (λ r. run k r es) o)) h

@@ -5,12 +5,12 @@ use Rattle.serde_json.specs.Written.{compact_text}
 use Rattle.definitions.specs.declared.kinds.Kind.{Kind}
 use Rattle.definitions.specs.declared.frames.FrameKind.{FrameKind}
 use Rattle.definitions.specs.declared.frames.FrameKind.TheVariants.{Added, Modified, Deleted, Bookmark, Error}
-use Rattle.definitions.specs.Changes.{Change, changes}
+use Rattle.definitions.specs.Events.{Event, events}
 use Rattle.definitions.specs.Frames.{kind_text, frame_kind}
 use Rattle.definitions.specs.History.{History, present}
 use Rattle.controllers.specs.Reflectors.{with_list, all_fed, play_deltas}
 use Rattle.laws.specs.SentLaws.{whole, IsShort, listed_at}
-use Rattle.definitions.specs.Streams.{Line, change, bookmark, initial, initial_end, Goes, event_of}
+use Rattle.definitions.specs.Streams.{Line, event, bookmark, initial, initial_end, Goes, frame_of}
 use Rattle.laws.proofs.Limited.{limited}
 use Rattle.laws.proofs.SentChanges.{changes_told}
 use Rattle.laws.proofs.SentLists.{lists_put, lists_read}
@@ -29,7 +29,7 @@ length-framed Bookmark t = omega (arith, length-append t (codes ",\"type\":\"BOO
 length-framed Error t = omega (arith, length-append t (codes ",\"type\":\"ERROR\"}\n"))
 
 -- a line has room for a short change
-pub within : (c : Change) → IsShort c → IsWithin (event_of c.key.kind (change c))
+pub within : (c : Event) → IsShort c → IsWithin (frame_of c.key.kind (event c))
 within c short =
     let kind = frame_kind c.kind in
     record {
@@ -39,11 +39,11 @@ within c short =
     }
 
 -- each line of a stream is read back
-all_back : (k : Kind) (ls : List Line) (at b : ℕ) (cs : List Change) → b ≤ 9007199254740991 → Goes at b cs ls → AllByRecursion IsShort cs → AllByRecursion (IsReadWithin k) ls → AllByRecursion (IsReadBack k) ls
+all_back : (k : Kind) (ls : List Line) (at b : ℕ) (cs : List Event) → b ≤ 9007199254740991 → Goes at b cs ls → AllByRecursion IsShort cs → AllByRecursion (IsReadWithin k) ls → AllByRecursion (IsReadBack k) ls
 all_back k [] at b cs low g short read = tt
-all_back k (change d ∷ ls) at b [] low g short read = absurd g
-all_back k (change d ∷ ls) at b (c ∷ cs) low g short read =
-    (read.0 (subst (λ x. IsWithin (event_of k (change x))) (sym g.0) (within c short.0)), all_back k ls c.revision b cs low g.1 short.1 read.1)
+all_back k (event d ∷ ls) at b [] low g short read = absurd g
+all_back k (event d ∷ ls) at b (c ∷ cs) low g short read =
+    (read.0 (subst (λ x. IsWithin (frame_of k (event x))) (sym g.0) (within c short.0)), all_back k ls c.revision b cs low g.1 short.1 read.1)
 all_back k (bookmark r ∷ ls) at b [] low g short read =
     (read.0 (IsWithin-bookmark k false r (omega (arith, g.1, low))), all_back k ls r b [] low g.2 short read.1)
 all_back k (bookmark r ∷ ls) at b (c ∷ cs) low g short read =
@@ -64,7 +64,7 @@ sent h k a b ls served =
       low = low;
       stream = served.stream;
       told = told.0;
-      read = all_back k ls a b (changes h (whole k) a b) low served.stream told.1 served.read;
+      read = all_back k ls a b (events h (whole k) a b) low served.stream told.1 served.read;
     }
 
 pub cut_served : CutServedStreamsAreFollowed

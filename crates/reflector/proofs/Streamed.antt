@@ -5,10 +5,10 @@ use Rattle.definitions.specs.declared.kinds.Kind.{Kind}
 use Rattle.controllers.specs.declared.frame_fault.FrameFault.{FrameFault}
 use Rattle.controllers.specs.declared.reflectors.Phase.TheVariants.{Watching}
 use Rattle.definitions.specs.History.{History, list}
-use Rattle.definitions.specs.Frames.{Event, frame_text}
+use Rattle.definitions.specs.Frames.{Frame, frame_text}
 use Rattle.controllers.specs.ReadFrames.{Read, reading, onto}
-use Rattle.definitions.specs.Streams.{Line, event_of, text_of}
-use Rattle.definitions.specs.Changes.{changes}
+use Rattle.definitions.specs.Streams.{Line, frame_of, text_of}
+use Rattle.definitions.specs.Events.{events as changes}
 use Rattle.controllers.specs.Reflectors.{Reflector, Fed, Run, run, ran, all_fed, play_deltas}
 use Rattle.framing.specs.Decoders.{fed_after}
 use Rattle.laws.specs.SentLaws.{whole}
@@ -17,14 +17,14 @@ use Rattle.reflector.proofs.Cutting.{reading_twice, flat, no_cutting_at, at_revi
 use Rattle.reflector.proofs.Followed.{Reaches, follows}
 
 -- the lines are read back as their events
-pub read_back : (k : Kind) (ls : List Line) (more : List ℕ) → AllByRecursion (IsReadBack k) ls → reading (text_of k ls ++ more) ≡ onto (map (event_of k) ls) (reading more)
+pub read_back : (k : Kind) (ls : List Line) (more : List ℕ) → AllByRecursion (IsReadBack k) ls → reading (text_of k ls ++ more) ≡ onto (map (frame_of k) ls) (reading more)
 read_back k [] more h = refl
 read_back k (l ∷ ls) more h =
-    ap reading (append_assoc (frame_text (event_of k l)) (text_of k ls) more) ∙ h.0 (text_of k ls ++ more) ∙ ap (onto (event_of k l ∷ [])) (read_back k ls more h.1)
+    ap reading (append_assoc (frame_text (frame_of k l)) (text_of k ls) more) ∙ h.0 (text_of k ls ++ more) ∙ ap (onto (frame_of k l ∷ [])) (read_back k ls more h.1)
 
-all_back : (k : Kind) (ls : List Line) → AllByRecursion (IsReadBack k) ls → reading (text_of k ls) ≡ record { events = map (event_of k) ls; held = []; fault = None }
+all_back : (k : Kind) (ls : List Line) → AllByRecursion (IsReadBack k) ls → reading (text_of k ls) ≡ record { events = map (frame_of k) ls; held = []; fault = None }
 all_back k ls h =
-    ap reading (sym (append-nil (text_of k ls))) ∙ read_back k ls [] h ∙ ap (λ es. record { events = es; held = []; fault = None }) (append-nil (map (event_of k) ls))
+    ap reading (sym (append-nil (text_of k ls))) ∙ read_back k ls [] h ∙ ap (λ es. record { events = es; held = []; fault = None }) (append-nil (map (frame_of k) ls))
 
 -- what is wrong stays wrong
 no_fault : (f : Option FrameFault) (bytes : List ℕ) → (fed_after f bytes).fault ≡ None → f ≡ None
@@ -32,15 +32,15 @@ no_fault None bytes h = refl
 no_fault (Some e) bytes h = h
 
 -- a beginning of the bytes: some of the events, and no fault
-record Begins (es : List Event) (bytes more : List ℕ) : Type 0 where
-  pub later : List Event
+record Begins (es : List Frame) (bytes more : List ℕ) : Type 0 where
+  pub later : List Frame
   pub events : (reading bytes).events ++ later ≡ es
   pub fault : (reading bytes).fault ≡ None
 
-begins : (k : Kind) (ls : List Line) (bytes more : List ℕ) → AllByRecursion (IsReadBack k) ls → bytes ++ more ≡ text_of k ls → Begins (map (event_of k) ls) bytes more
+begins : (k : Kind) (ls : List Line) (bytes more : List ℕ) → AllByRecursion (IsReadBack k) ls → bytes ++ more ≡ text_of k ls → Begins (map (frame_of k) ls) bytes more
 begins k ls bytes more h e =
     let first = reading bytes in
-    let all : onto first.events (fed_after first.fault (first.held ++ more)) ≡ record { events = map (event_of k) ls; held = []; fault = None } =
+    let all : onto first.events (fed_after first.fault (first.held ++ more)) ≡ record { events = map (frame_of k) ls; held = []; fault = None } =
     sym (reading_twice bytes more) ∙ ap reading e ∙ all_back k ls h in
     record {
       later = (fed_after first.fault (first.held ++ more)).events;
@@ -49,11 +49,11 @@ begins k ls bytes more h e =
     }
 
 -- what is taken in, where there was no fault
-taken : (h : History) (k : Kind) (a b : ℕ) (later : List Event) (r : Read) (t : Run) → r.fault ≡ None → Reaches h (whole k) a b later t → GoesOn h k a b (ran t r (at_revision k a Watching []))
+taken : (h : History) (k : Kind) (a b : ℕ) (later : List Frame) (r : Read) (t : Run) → r.fault ≡ None → Reaches h (whole k) a b later t → GoesOn h k a b (ran t r (at_revision k a Watching []))
 taken h k a b later r t none reaches =
     rw (reaches.ended, none) (record { ended = refl; watches = refl; above = reaches.above; below = reaches.below; plays = reaches.plays })
 
-nothing_after : (es later : List Event) → es ++ later ≡ es → later ≡ []
+nothing_after : (es later : List Frame) → es ++ later ≡ es → later ≡ []
 nothing_after [] later h = h
 nothing_after (e ∷ es) later h = nothing_after es later cc
 
@@ -61,7 +61,7 @@ module _ (h : History) (k : Kind) (a b : ℕ) (ls : List Line) (pieces : List (L
   abbrev s : Reflector
   s = at_revision k a Watching []
 
-  reaches : (more : List ℕ) (start : Begins (map (event_of k) ls) (flat pieces) more) → Reaches h (whole k) a b start.later (run k a (reading (flat pieces)).events)
+  reaches : (more : List ℕ) (start : Begins (map (frame_of k) ls) (flat pieces) more) → Reaches h (whole k) a b start.later (run k a (reading (flat pieces)).events)
   reaches more start = follows ls (reading (flat pieces)).events start.later h k a b (changes h (whole k) a b) sent.forward sent.low refl sent.stream sent.told start.events
 
   pub cut_followed : (more : List ℕ) → flat pieces ++ more ≡ text_of k ls → GoesOn h k a b (all_fed s pieces)
@@ -75,7 +75,7 @@ module _ (h : History) (k : Kind) (a b : ℕ) (ls : List Line) (pieces : List (L
       let ends : flat pieces ++ [] ≡ text_of k ls = append-nil (flat pieces) ∙ e in
       let start = begins k ls (flat pieces) [] sent.read ends in
       let reach = reaches [] start in
-      let all : (reading (flat pieces)).events ≡ map (event_of k) ls = ap (λ (r : Read). r.events) (ap reading e ∙ all_back k ls sent.read) in
+      let all : (reading (flat pieces)).events ≡ map (frame_of k) ls = ap (λ (r : Read). r.events) (ap reading e ∙ all_back k ls sent.read) in
       let none : start.later ≡ [] = nothing_after (reading (flat pieces)).events start.later (start.events ∙ sym all) in (
         cut_followed [] ends,
         ap (λ (f : Fed). play_deltas (list h (whole k) a) f.deltas) (no_cutting_at k a Watching pieces) ∙ reach.plays ∙ reach.last none,

@@ -5,7 +5,7 @@ use Rattle.controllers.specs.ReadFrames.{reading}
 use Rattle.controllers.specs.Reflectors as reflectors
 use Rattle.controllers.specs.Reflectors.{replace, put, remove, mark, list_of, run, end_of, phase_after, held_after}
 use Rattle.controllers.specs.declared.reflectors.End.{End}
-use Rattle.meta.specs.Keys.{name_of}
+use Rattle.meta.specs.Keys.{key_of}
 use Rattle.reflector.specs.declared.deltas.Delta.{Delta}
 use Rattle.reflector.specs.declared.deltas.Delta.TheVariants as delta
 use Rattle.reflector.specs.declared.shown.Shown.{Shown}
@@ -19,7 +19,7 @@ use Rattle.reflector.specs.declared.faults.ListFault.TheVariants as fault
 abbrev pub delta_of : Delta → reflectors.Delta
 delta_of (delta.Replace r os) = replace r os.items
 delta_of (delta.Put o) = put o
-delta_of (delta.Remove r k) = remove r (name_of k)
+delta_of (delta.Remove r k) = remove r (key_of k)
 delta_of (delta.Mark r) = mark r
 
 abbrev pub deltas_of : List Delta → List reflectors.Delta

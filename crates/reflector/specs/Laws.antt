@@ -4,9 +4,9 @@ use Rattle.std.specs.List.{AllByRecursion}
 use Rattle.definitions.specs.declared.kinds.Kind.{Kind}
 use Rattle.controllers.specs.declared.reflectors.Phase.TheVariants.{Watching}
 use Rattle.definitions.specs.History.{History, Members, list, present}
-use Rattle.definitions.specs.Changes.{changes}
+use Rattle.definitions.specs.Events.{events}
 use Rattle.definitions.specs.Frames.{frame_text}
-use Rattle.definitions.specs.Streams.{Line, IsStream, event_of, text_of}
+use Rattle.definitions.specs.Streams.{Line, IsStream, frame_of, text_of}
 use Rattle.definitions.specs.Revisions.{greatest_revision}
 use Rattle.controllers.specs.Reflectors.{Reflector, Fed, Listed, list_of, list_delta, with_list, play_deltas, fed, all_fed}
 use Rattle.definitions.specs.Reached.{IsReached}
@@ -19,14 +19,14 @@ NoCuttingMatters = (s : Reflector) (pieces : List (List ℕ)) → s.held ≡ [] 
 
 -- the line is read back as what it shows, whatever follows
 abbrev pub IsReadBack : Kind → Line → Type 0
-IsReadBack k l = ReadsAs (frame_text (event_of k l)) (event_of k l)
+IsReadBack k l = ReadsAs (frame_text (frame_of k l)) (frame_of k l)
 
 -- lines that go from a to b are sent to who watches from a; each can be read
 pub record IsSent (h : History) (k : Kind) (a b : ℕ) (ls : List Line) : Type 0 where
   pub forward : a ≤ b
   pub low : b ≤ greatest_revision
   pub stream : IsStream h (whole k) a b ls
-  pub told : AllByRecursion (IsTold k) (changes h (whole k) a b)
+  pub told : AllByRecursion (IsTold k) (events h (whole k) a b)
   pub read : AllByRecursion (IsReadBack k) ls
 
 -- a reflector that watches from a, and holds nothing of a frame
@@ -59,7 +59,7 @@ StreamsAreFollowed =
 
 -- the line is read back, if it is within the limits of a line (as each line is that `framing` writes)
 abbrev pub IsReadWithin : Kind → Line → Type 0
-IsReadWithin k l = IsWithin (event_of k l) → IsReadBack k l
+IsReadWithin k l = IsWithin (frame_of k l) → IsReadBack k l
 
 -- lines that go from a to b, of what has happened at a server, whoever asked, are sent to who watches from a
 pub record IsServed (h : History) (k : Kind) (a b : ℕ) (ls : List Line) : Type 0 where

@@ -30,7 +30,7 @@ pub struct Run {
     pub end: Option<End>,
 }
 
-/// The object of a kind that a value shows at a revision above the last one, if it shows one.
+/// Returns the object of a kind that a value shows at a revision above the last one, if it shows one.
 fn show_above(alloc: Global, kind: Kind, last: u64, value: Value) -> Result<Option<Shown>, Want>
     ensures { IfOk result (λ s. option_map shown_of s ≡ shown_above kind last (view value)) }
 {
@@ -40,7 +40,7 @@ fn show_above(alloc: Global, kind: Kind, last: u64, value: Value) -> Result<Opti
     }
 }
 
-/// An object that is there.
+/// Returns an object that is there.
 fn put_step(alloc: Global, kind: Kind, last: u64, value: Value) -> Result<Option<Step>, Want>
     ensures { IfOk result (λ t. option_map step_of t ≡ option_map put_step (shown_above kind last (view value))) }
 {
@@ -53,7 +53,7 @@ fn put_step(alloc: Global, kind: Kind, last: u64, value: Value) -> Result<Option
     }
 }
 
-/// An object that is gone.
+/// Returns an object that is gone.
 fn remove_step(alloc: Global, kind: Kind, last: u64, value: Value) -> Result<Option<Step>, Want>
     ensures { IfOk result (λ t. option_map step_of t ≡ option_map remove_step (shown_above kind last (view value))) }
 {
@@ -69,14 +69,14 @@ fn remove_step(alloc: Global, kind: Kind, last: u64, value: Value) -> Result<Opt
     }
 }
 
-/// Whether a value calls itself of the kind.
+/// Returns whether a value calls itself of the kind.
 fn is_of(kind: Kind, value: &Value) -> bool
     ensures { result ≡ is_of kind (view value.now) }
 {
     says(value, "kind", kind.name()) && says(value, "apiVersion", kind.api_version())
 }
 
-/// The revision of a bookmark of the kind, which may be the last one again.
+/// Returns the revision of a bookmark of the kind, which may be the last one again.
 fn marked(kind: Kind, last: u64, value: &Value) -> Option<u64>
     ensures { result ≡ marked kind last (view value.now) }
 {
@@ -91,7 +91,7 @@ fn marked(kind: Kind, last: u64, value: &Value) -> Option<u64>
     }
 }
 
-/// A bookmark.
+/// Returns a bookmark.
 fn mark_step(kind: Kind, last: u64, value: &Value) -> Option<Step>
     ensures { option_map step_of result ≡ option_map mark_step (marked kind last (view value.now)) }
 {
@@ -102,7 +102,7 @@ fn mark_step(kind: Kind, last: u64, value: &Value) -> Option<Step>
     })
 }
 
-/// Whether a Status says that the changes asked for are gone.
+/// Returns whether a Status says that the changes asked for are gone.
 fn is_expiry(value: &Value) -> bool
     ensures { result ≡ is_expiry (view value.now) }
 {
@@ -112,14 +112,14 @@ fn is_expiry(value: &Value) -> bool
     }
 }
 
-/// The code of a Status.
+/// Returns the code of a Status.
 fn code(value: &Value) -> Option<u64>
     ensures { result ≡ code (view value.now) }
 {
     value.get("code")?.as_u64()
 }
 
-/// The end that an error is.
+/// Returns the end that an error is.
 fn error_end(value: &Value) -> End
     ensures { result ≡ error_end (view value.now) }
 {
@@ -130,7 +130,7 @@ fn error_end(value: &Value) -> End
     }
 }
 
-/// A step, or that there is none that can be read.
+/// Returns a step, or that there is none that can be read.
 fn or_unreadable(step: Option<Step>) -> Result<Step, End>
     ensures { IsStep result (or_unreadable (option_map step_of step)) }
 {
@@ -140,7 +140,7 @@ fn or_unreadable(step: Option<Step>) -> Result<Step, End>
     }
 }
 
-/// What a frame does where the last revision is `last`, or the end that it is.
+/// Returns what a frame does where the last revision is `last`, or the end that it is.
 pub fn take_frame(
     alloc: Global,
     kind: Kind,

@@ -20,7 +20,7 @@ pub struct Listed {
     pub objects: Vec<Object>,
 }
 
-/// The member `kind` of a list.
+/// Returns the member `kind` of a list.
 fn list_kind(kind: Kind) -> &'static str
     ensures { result.now ≡ list_kind kind }
 {
@@ -32,14 +32,14 @@ fn list_kind(kind: Kind) -> &'static str
     }
 }
 
-/// Whether a value calls itself a list of the kind.
+/// Returns whether a value calls itself a list of the kind.
 fn is_list(kind: Kind, value: &Value) -> bool
     ensures { result ≡ is_list kind (view value.now) }
 {
     says(value, "kind", list_kind(kind)) && says(value, "apiVersion", kind.api_version())
 }
 
-/// The objects that items show, if each of them shows one.
+/// Returns the objects that items show, if each of them shows one.
 fn show_all(alloc: Global, kind: Kind, items: Vec<Value>) -> Result<Option<Vec<Object>>, Want>
     ensures { IfOk result (λ found. option_map (λ v. v.items) found ≡ all_shown kind (items_view items.items)) }
 {
@@ -53,7 +53,7 @@ fn show_all(alloc: Global, kind: Kind, items: Vec<Value>) -> Result<Option<Vec<O
     Ok(Some(objects))
 }
 
-/// Whether two of the objects have one key.
+/// Returns whether two of the objects have one key.
 fn repeats(alloc: Global, objects: &[Object]) -> Result<bool, Want>
     ensures { IfOk result (λ b. b ≡ repeats (map name_in objects.now)) }
 {
@@ -76,7 +76,7 @@ fn into_items(value: Value) -> Option<Vec<Value>>
     }
 }
 
-/// The objects, if no two have one key.
+/// Returns the objects, if no two have one key.
 fn apart(alloc: Global, objects: Vec<Object>) -> Result<Option<Vec<Object>>, Want>
     ensures { IfOk result (λ found. option_map (λ v. v.items) found ≡ apart objects.items) }
 {
@@ -86,7 +86,7 @@ fn apart(alloc: Global, objects: Vec<Object>) -> Result<Option<Vec<Object>>, Wan
     Ok(Some(objects))
 }
 
-/// The objects that the items of a list show, if each of them shows one, and no two have one key.
+/// Returns the objects that the items of a list show, if each of them shows one, and no two have one key.
 fn show_items(alloc: Global, kind: Kind, value: Value) -> Result<Option<Vec<Object>>, Want>
     ensures { IfOk result (λ found. option_map (λ v. v.items) found ≡ items_shown kind (view value)) }
 {
@@ -100,7 +100,7 @@ fn show_items(alloc: Global, kind: Kind, value: Value) -> Result<Option<Vec<Obje
     }
 }
 
-/// The list of the kind that a value says, if it says one.
+/// Returns the list of the kind that a value says, if it says one.
 fn list_in(alloc: Global, kind: Kind, value: Value) -> Result<Option<Listed>, Want>
     ensures { IfOk result (λ found. option_map listed_of found ≡ list_in kind (view value)) }
 {
@@ -116,7 +116,7 @@ fn list_in(alloc: Global, kind: Kind, value: Value) -> Result<Option<Listed>, Wa
     }
 }
 
-/// The list of the kind that a body says, if it says one.
+/// Returns the list of the kind that a body says, if it says one.
 pub fn read_list(alloc: Global, kind: Kind, body: &[u8]) -> Result<Option<Listed>, Want>
     ensures { IfOk result (λ found. option_map listed_of found ≡ list_of kind body.now) }
 {

@@ -26,7 +26,7 @@ pub struct Taken {
     pub kept: usize,
 }
 
-/// The end among the frames, or that of the bytes after them.
+/// Returns the end among the frames, or that of the bytes after them.
 fn end_of(end: Option<End>, fault: Option<FrameFault>) -> Option<End>
     ensures { result ≡ end_of end fault }
 {
@@ -37,7 +37,7 @@ fn end_of(end: Option<End>, fault: Option<FrameFault>) -> Option<End>
     }
 }
 
-/// How far a reflector is after that.
+/// Returns how far a reflector is after that.
 fn phase_after(end: Option<End>) -> Phase
     ensures { result ≡ phase_after end }
 {
@@ -47,7 +47,7 @@ fn phase_after(end: Option<End>) -> Phase
     }
 }
 
-/// How many bytes are kept after that.
+/// Returns how many bytes are kept after that.
 fn kept_after(end: Option<End>, kept: usize) -> usize
     ensures { result ≡ kept_after end kept }
 {

@@ -44,7 +44,7 @@ impl Reflector {
     ghost use Rattle.controllers.specs.declared.reflectors.Phase.TheVariants.{Watching};
     ghost use Rattle.reflector.specs.Deltas.{delta_of, deltas_of, RefusesList};
 
-    /// A reflector that took nothing in yet: it wants a list, and its revision is 0.
+    /// Returns a reflector that took nothing in yet: it wants a list, and its revision is 0.
     pub fn new(alloc: Global, kind: Kind) -> Reflector
         ensures { result ≡ begun kind }
     {
@@ -56,7 +56,7 @@ impl Reflector {
         }
     }
 
-    /// What is to be asked of the server next. It takes no memory.
+    /// Returns what is to be asked of the server next. It takes no memory.
     pub fn next(&self) -> Ask
         ensures { result ≡ asks self.now }
     {
@@ -66,7 +66,8 @@ impl Reflector {
         }
     }
 
-    /// The revision of the last list, change or bookmark that was taken in; 0 before the first list. It takes no memory.
+    /// Returns the revision of the last list, change or bookmark that was taken in; 0 before the first list. It takes no
+    /// memory.
     pub fn revision(&self) -> u64
         ensures { result ≡ self.now.revision }
     {
@@ -89,9 +90,9 @@ impl Reflector {
         }
     }
 
-    /// Takes in the next piece of a watch, cut anywhere, and gives a delta for each frame that is whole now. While a list
-    /// is asked for, what comes is passed over. An end asks for a list, and drops what is held of a frame; the frames
-    /// before it are taken in. The error is want of memory, and changes nothing: the same piece can be fed again.
+    /// Takes in the next piece of a watch, cut anywhere, and gives a delta for each frame that is whole now. While a list is
+    /// asked for, what comes is passed over. An end asks for a list, and drops what is stored of a frame; the frames before it
+    /// are taken in. The error is running out of memory, and changes nothing: the same piece can be fed again.
     pub fn feed(&mut self, alloc: Global, piece: &[u8]) -> Result<Fed, Want>
         ensures deltas { IfOk result (λ f. deltas_of f.deltas.items ≡ (fed self.old piece.now).deltas) }
         ensures end { IfOk result (λ f. f.end ≡ (fed self.old piece.now).ended) }
@@ -136,7 +137,7 @@ impl Reflector {
         }
     }
 
-    /// Takes the end of a connection: what is held of a frame is dropped, for the next watch begins with a whole one. It
+    /// Takes the end of a connection: what is stored of a frame is dropped, for the next watch begins with a whole one. It
     /// takes no memory.
     pub fn on_cut(&mut self)
         ensures { self.new ≡ cut self.old }

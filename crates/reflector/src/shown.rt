@@ -3,7 +3,7 @@ ghost use Rattle.std.specs.Prelude.{◌≡◌, IfOk, Ok, option_map};
 ghost use Rattle.serde_json.specs.View.{view};
 ghost use Rattle.definitions.specs.Metadata.{text_at};
 ghost use Rattle.controllers.specs.Reflectors.{says, revision, shown, shown_read, name_in, has_identity};
-ghost use Rattle.meta.specs.Keys.{name_of};
+ghost use Rattle.meta.specs.Keys.{key_of as name_of};
 ghost use Rattle.reflector.specs.Deltas.{shown_of};
 
 use framing::Want;
@@ -19,7 +19,7 @@ pub struct Shown {
     pub revision: u64,
 }
 
-/// Whether the member is this text.
+/// Returns whether the member is this text.
 pub fn says(value: &Value, name: &str, text: &str) -> bool
     ensures { result ≡ says name.now text.now (view value.now) }
 {
@@ -29,28 +29,28 @@ pub fn says(value: &Value, name: &str, text: &str) -> bool
     }
 }
 
-/// A member that is a text.
+/// Returns a member that is a text.
 fn text_at<'a>(value: &'a Value, name: &str) -> Option<&'a str>
     ensures { option_map (λ s. s.now) result ≡ text_at name.now (view value.now) }
 {
     value.get(name)?.as_str()
 }
 
-/// The revision that a value's metadata says.
+/// Returns the revision that a value's metadata says.
 pub fn revision(value: &Value) -> Option<u64>
     ensures { result ≡ revision (view value.now) }
 {
     read_revision(text_at(value.get("metadata")?, "resourceVersion")?)
 }
 
-/// Whether the object says which object it is.
+/// Returns whether the object says which object it is.
 fn has_identity(object: &Object) -> bool
     ensures { result ≡ has_identity object.now.value }
 {
     object.name().is_some() && object.namespace().is_some() && object.uid().is_some()
 }
 
-/// An object that was read, if it says which object it is, and its revision.
+/// Returns an object that was read, if it says which object it is, and its revision.
 fn with_revision(object: Object) -> Option<Shown>
     ensures { option_map shown_of result ≡ shown_read object.kind (Ok object.value) }
 {
@@ -61,7 +61,7 @@ fn with_revision(object: Object) -> Option<Shown>
     Some(Shown { object, revision })
 }
 
-/// The object of a kind that a value shows, if it shows one.
+/// Returns the object of a kind that a value shows, if it shows one.
 pub fn show(alloc: Global, kind: Kind, value: Value) -> Result<Option<Shown>, Want>
     ensures { IfOk result (λ s. option_map shown_of s ≡ shown kind (view value)) }
 {
@@ -72,7 +72,7 @@ pub fn show(alloc: Global, kind: Kind, value: Value) -> Result<Option<Shown>, Wa
     }
 }
 
-/// The key that an object says.
+/// Returns the key that an object says.
 pub fn key_of(alloc: Global, object: &Object) -> Result<Key, AllocError>
     ensures { IfOk result (λ k. name_of k ≡ name_in object.now) }
 {

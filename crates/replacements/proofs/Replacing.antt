@@ -6,7 +6,7 @@ use Rattle.definitions.proofs.JsonMembers.{apart, get_member-without_other}
 use Rattle.definitions.specs.declared.refusals.Mismatch.{Mismatch}
 use Rattle.definitions.specs.declared.refusals.Mismatch.TheVariants as why
 use Rattle.definitions.specs.Metadata.{metadata_of, uid, version, differs}
-use Rattle.definitions.specs.Names.{Name}
+use Rattle.definitions.specs.Keys.{Key}
 use Rattle.definitions.specs.Refusals.{conflict}
 use Rattle.definitions.specs.Replacements.{as_held}
 use Rattle.definitions.specs.Values.{members_of, inner_of}
@@ -15,28 +15,28 @@ use Rattle.meta.proofs.PutAndTaken.{get-members_of}
 use Rattle.answers.specs.Naming.{mismatch}
 
 -- what is another is refused
-abbrev or_conflict : Name → Option Mismatch → Outcome → Outcome
+abbrev or_conflict : Key → Option Mismatch → Outcome → Outcome
 or_conflict k None next = next
 or_conflict k (Some w) next = refused (conflict k w)
 
-by_tests : (a b : Bool) (k : Name) (next : Outcome)
+by_tests : (a b : Bool) (k : Key) (next : Outcome)
     → refuse_if a (conflict k why.Uid) (refuse_if b (conflict k why.Modified) next) ≡ or_conflict k (if a then Some why.Uid else (if b then Some why.Modified else None)) next
 by_tests true b k next = refl
 by_tests false true k next = refl
 by_tests false false k next = refl
 
-found_so : (k : Name) (o held : Data) (next : Outcome) (found other : Option Mismatch) → found ≡ mismatch o held → found ≡ other → if_same k o held next ≡ or_conflict k other next
-found_so k o held next found other is so =
-    by_tests (differs (uid o) (uid held)) (differs (version o) (version held)) k next ∙ ap (λ m. or_conflict k m next) (sym is ∙ so)
+found_so : (k : Key) (o existing : Data) (next : Outcome) (found other : Option Mismatch) → found ≡ mismatch o existing → found ≡ other → if_same k o existing next ≡ or_conflict k other next
+found_so k o existing next found other is so =
+    by_tests (differs (uid o) (uid existing)) (differs (version o) (version existing)) k next ∙ ap (λ m. or_conflict k m next) (sym is ∙ so)
 
 -- the object that is held is another
-pub if_same-other : (k : Name) (o held : Data) (next : Outcome) (found : Option Mismatch) (w : Mismatch) → found ≡ mismatch o held → found ≡ Some w
-    → if_same k o held next ≡ refused (conflict k w)
-if_same-other k o held next found w is so = found_so k o held next found (Some w) is so
+pub if_same-other : (k : Key) (o existing : Data) (next : Outcome) (found : Option Mismatch) (w : Mismatch) → found ≡ mismatch o existing → found ≡ Some w
+    → if_same k o existing next ≡ refused (conflict k w)
+if_same-other k o existing next found w is so = found_so k o existing next found (Some w) is so
 
 -- it is the one that is named
-pub if_same-same : (k : Name) (o held : Data) (next : Outcome) (found : Option Mismatch) → found ≡ mismatch o held → found ≡ None → if_same k o held next ≡ next
-if_same-same k o held next found is so = found_so k o held next found None is so
+pub if_same-same : (k : Key) (o existing : Data) (next : Outcome) (found : Option Mismatch) → found ≡ mismatch o existing → found ≡ None → if_same k o existing next ≡ next
+if_same-same k o existing next found is so = found_so k o existing next found None is so
 
 -- the metadata stays where the status is kept
 pub metadata_of-as_held : (found : Option Data) (d : Data) → metadata_of (object (as_held (codes "status") found (members_of d))) ≡ metadata_of d

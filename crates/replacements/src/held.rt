@@ -1,11 +1,11 @@
-//! The object that is held.
+//! The object that is stored.
 ghost use Rattle.std.specs.Prelude.{◌≡◌, IfOk};
 ghost use Rattle.serde_json.specs.Written.{compact_text};
 
 use meta::{Object, StoredObject};
 use std::alloc::{AllocError, Global};
 
-/// The object that is held: as it is kept, to be told as it stands, and opened, to be compared and changed.
+/// The object that is stored: as it is kept, to be told as it stands, and opened, to be compared and changed.
 #[derive(Drop)]
 pub(crate) struct Held<'a> {
     pub(crate) kept: &'a StoredObject,
@@ -14,7 +14,7 @@ pub(crate) struct Held<'a> {
 }
 
 impl Held<'_> {
-    /// What is kept, opened. The error is want of memory.
+    /// Returns what is kept, opened. The error is running out of memory.
     pub(crate) fn open(alloc: Global, kept: &StoredObject) -> Result<Held<'_>, AllocError>
         ensures { IfOk result (λ h. h.object.value ≡ kept.now.value) }
     {

@@ -3,13 +3,13 @@ ghost use Rattle.std.specs.Prelude.{◌≡◌, ◌≤◌, List, ℕ};
 ghost use Rattle.serde_json.specs.View.{view};
 ghost use Rattle.definitions.specs.Revisions.{greatest_revision};
 ghost use Rattle.definitions.specs.Values.{merged};
-ghost use Rattle.definitions.specs.Verbs.{accept_at, said};
+ghost use Rattle.definitions.specs.Verbs.{accept_at, object_in};
 ghost use Rattle.definitions.specs.ObjectRequests.{patch_object};
 ghost use Rattle.definitions.proofs.VerbSteps.{patch_read};
-ghost use Rattle.meta.specs.Keys.{name_of};
+ghost use Rattle.meta.specs.Keys.{key_of};
 ghost use Rattle.answers.specs.Serves.{Serves};
 
-use crate::held::Held;
+use crate::existing::Held;
 use crate::update::replace_held;
 use answers::bodies::said;
 use answers::names_given::names_path;
@@ -21,14 +21,14 @@ use serde_json::Value;
 use std::alloc::Global;
 use store::Store;
 
-/// The object under a key as a merge patch (RFC 7396) changes it, in its own place.
+/// Returns the object under a key as a merge patch (RFC 7396) changes it, in its own place.
 pub fn patch(
     alloc: Global,
     store: &Store,
     key: Key,
     body: Value,
 ) -> Result<(Reply, Option<Write>), Fault>
-    ensures { (moment : List ℕ) → Serves (accept_at (patch_object (name_of key) (view body)) store.now.members store.now.revision moment) result }
+    ensures { (moment : List ℕ) → Serves (accept_at (patch_object (key_of key) (view body)) store.now.members store.now.revision moment) result }
 {
     if !is_body(&body) {
         return Err(Fault::BadRequest(Part::Body));
@@ -36,28 +36,28 @@ pub fn patch(
     match store.get(&key) {
         None => Err(Fault::NotFound(key)),
         Some(kept) => {
-            let held = Held::open(alloc, kept)?;
-            patch_held(alloc, key, body, store.revision(), &held)
+            let existing = Held::open(alloc, kept)?;
+            patch_held(alloc, key, body, store.revision(), &existing)
         }
     }
 }
 
-/// The object that is held as a patch changes it, read as a body that names the object of its path.
+/// Returns the stored object as a patch changes it, read as a body that names the object of its path.
 fn patch_held(
     alloc: Global,
     key: Key,
     body: Value,
     before: u64,
-    held: &Held<'_>,
+    existing: &Held<'_>,
 ) -> Result<(Reply, Option<Write>), Fault>
     requires { before ≤ greatest_revision }
-    ensures { Serves (patch_read (name_of key) before held.now.object.value (said key.kind (merged held.now.object.value (view body)))) result }
+    ensures { Serves (patch_read (key_of key) before existing.now.object.value (object_in key.kind (merged existing.now.object.value (view body)))) result }
 {
-    let target = held.object.try_copy()?.into_value();
+    let target = existing.object.try_copy()?.into_value();
     let changed = merge(alloc, body, target)?;
     let object = said(alloc, key.kind, changed)?;
     if !names_path(&key, &object) {
         return Err(Fault::BadRequest(Part::Object));
     }
-    replace_held(alloc, key, object, before, held)
+    replace_held(alloc, key, object, before, existing)
 }

@@ -3,15 +3,15 @@ ghost use Rattle.std.specs.Prelude.{◌≡◌, ◌≤◌, List, ℕ, IfOk, IfSom
 ghost use Rattle.serde_json.specs.Find.{get};
 ghost use Rattle.serde_json.specs.View.{view};
 ghost use Rattle.serde_json.specs.Written.{has_float};
-ghost use Rattle.definitions.specs.Replacements.{said_status, with_said_status};
+ghost use Rattle.definitions.specs.Replacements.{status_in, with_status_in};
 ghost use Rattle.definitions.specs.Revisions.{greatest_revision};
 ghost use Rattle.definitions.specs.Verbs.{accept_at, replace_status};
 ghost use Rattle.definitions.specs.ObjectRequests.{update_status};
 ghost use Rattle.definitions.proofs.VerbSteps.{restate};
-ghost use Rattle.meta.specs.Keys.{name_of};
+ghost use Rattle.meta.specs.Keys.{key_of};
 ghost use Rattle.answers.specs.Serves.{Serves};
 
-use crate::held::Held;
+use crate::existing::Held;
 use answers::first_status::first_status;
 use answers::generations::at_revision;
 use answers::names_given::{mismatch, names_path};
@@ -25,7 +25,7 @@ use std::alloc::{AllocError, Global};
 use store::Store;
 use validate::is_status_valid;
 
-/// The status that a body says, in the place of that of the object under a key. Nothing else of the body is taken. Of a
+/// Returns the status that a body says, in the place of that of the object under a key. Nothing else of the body is taken. Of a
 /// kind that has no status none is found.
 pub fn update_status(
     alloc: Global,
@@ -33,7 +33,7 @@ pub fn update_status(
     key: Key,
     body: Value,
 ) -> Result<(Reply, Option<Write>), Fault>
-    ensures { (moment : List ℕ) → Serves (accept_at (update_status (name_of key) (view body)) store.now.members store.now.revision moment) result }
+    ensures { (moment : List ℕ) → Serves (accept_at (update_status (key_of key) (view body)) store.now.members store.now.revision moment) result }
 {
     if !key.kind.has_status() {
         return Err(Fault::NotFound(key));
@@ -45,35 +45,35 @@ pub fn update_status(
     match store.get(&key) {
         None => Err(Fault::NotFound(key)),
         Some(kept) => {
-            let held = Held::open(alloc, kept)?;
-            restate_with(alloc, key, object, store.revision(), &held)
+            let existing = Held::open(alloc, kept)?;
+            restate_with(alloc, key, object, store.revision(), &existing)
         }
     }
 }
 
-/// The status of an object in the place of that of the one that is held, if that is the one that it names.
+/// Returns the status of an object in the place of that of the stored one, if that is the one that it names.
 fn restate_with(
     alloc: Global,
     key: Key,
     object: Object,
     before: u64,
-    held: &Held<'_>,
+    existing: &Held<'_>,
 ) -> Result<(Reply, Option<Write>), Fault>
     requires { before ≤ greatest_revision }
-    ensures { Serves (replace_status (name_of key) object.value before held.now.object.value) result }
+    ensures { Serves (replace_status (key_of key) object.value before existing.now.object.value) result }
 {
-    match mismatch(&object, &held.object) {
+    match mismatch(&object, &existing.object) {
         Some(why) => Err(Fault::Conflict(key, why)),
         None => {
-            let object = with_said_status(alloc, key.kind, &held.object, &object)?;
-            restate(alloc, key, held, object, before)
+            let object = with_said_status(alloc, key.kind, &existing.object, &object)?;
+            restate(alloc, key, existing, object, before)
         }
     }
 }
 
-/// The status that an object says, or the first one of its kind where it says none.
+/// Returns the status that an object says, or the first one of its kind where it says none.
 fn said_status(alloc: Global, kind: Kind, object: &Object) -> Result<Option<Value>, AllocError>
-    ensures status { IfOk result (λ s. option_map (λ v. view v) s ≡ said_status kind (get (codes "status") object.now.value)) }
+    ensures status { IfOk result (λ s. option_map (λ v. view v) s ≡ status_in kind (get (codes "status") object.now.value)) }
     ensures no_float { IfOk result (λ s. IfSome s (λ v. has_float (view v) ≡ false)) }
 {
     match object.member("status") {
@@ -82,16 +82,16 @@ fn said_status(alloc: Global, kind: Kind, object: &Object) -> Result<Option<Valu
     }
 }
 
-/// The object that is held, with the status that another says.
+/// Returns the stored object, with the status that another says.
 fn with_said_status(
     alloc: Global,
     kind: Kind,
-    held: &Object,
+    existing: &Object,
     object: &Object,
 ) -> Result<Object, AllocError>
-    ensures { IfOk result (λ o. o.value ≡ with_said_status kind held.now.value object.now.value) }
+    ensures { IfOk result (λ o. o.value ≡ with_status_in kind existing.now.value object.now.value) }
 {
-    let value = held.try_copy()?.into_value();
+    let value = existing.try_copy()?.into_value();
     let copy = Object::from_whole(kind, value);
     match said_status(alloc, kind, object)? {
         Some(status) => copy.set_member(alloc, "status", status),
@@ -99,22 +99,22 @@ fn with_said_status(
     }
 }
 
-/// The object that is held with its new status, or the first refusal: of a count, the length, the room. Where the status
-/// says the same nothing is written.
+/// Returns the stored object with its new status, or the first refusal: of a count, the length, the room. Where the status says
+/// the same nothing is written.
 fn restate(
     alloc: Global,
     key: Key,
-    held: &Held<'_>,
+    existing: &Held<'_>,
     object: Object,
     before: u64,
 ) -> Result<(Reply, Option<Write>), Fault>
     requires { before ≤ greatest_revision }
-    ensures { Serves (restate (name_of key) held.now.object.value object.value before) result }
+    ensures { Serves (restate (key_of key) existing.now.object.value object.value before) result }
 {
     if !is_status_valid(key.kind, &object) {
         return Err(Fault::Invalid(key, Field::Status));
     }
-    if let Some(text) = unchanged(alloc, held.kept, &object)? {
+    if let Some(text) = unchanged(alloc, existing.kept, &object)? {
         return Ok((Reply { code: 200, text }, None));
     }
     let object = at_revision(alloc, object, before)?;

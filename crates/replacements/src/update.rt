@@ -8,10 +8,10 @@ ghost use Rattle.definitions.specs.Values.{members_of};
 ghost use Rattle.definitions.specs.Verbs.{accept_at, replace};
 ghost use Rattle.definitions.specs.ObjectRequests.{update_object};
 ghost use Rattle.definitions.proofs.VerbSteps.{replace_with, replace_changed};
-ghost use Rattle.meta.specs.Keys.{name_of};
+ghost use Rattle.meta.specs.Keys.{key_of};
 ghost use Rattle.answers.specs.Serves.{Serves};
 
-use crate::held::Held;
+use crate::existing::Held;
 use answers::bodies::said;
 use answers::generations::updated;
 use answers::names_given::{mismatch, names_path};
@@ -24,14 +24,14 @@ use std::alloc::{AllocError, Global};
 use store::Store;
 use validate::check_update;
 
-/// An object as a body says it, in the place of the one under a key.
+/// Returns an object as a body says it, in the place of the one under a key.
 pub fn update(
     alloc: Global,
     store: &Store,
     key: Key,
     body: Value,
 ) -> Result<(Reply, Option<Write>), Fault>
-    ensures { (moment : List ℕ) → Serves (accept_at (update_object (name_of key) (view body)) store.now.members store.now.revision moment) result }
+    ensures { (moment : List ℕ) → Serves (accept_at (update_object (key_of key) (view body)) store.now.members store.now.revision moment) result }
 {
     let object = said(alloc, key.kind, body)?;
     if !names_path(&key, &object) {
@@ -43,7 +43,7 @@ pub fn update(
     }
 }
 
-/// An object in the place of the one that is kept, if that is the one that it names.
+/// Returns an object in the place of the one that is kept, if that is the one that it names.
 fn replace(
     alloc: Global,
     key: Key,
@@ -53,102 +53,102 @@ fn replace(
 ) -> Result<(Reply, Option<Write>), Fault>
     requires revision { before ≤ greatest_revision }
     requires kind { object.kind ≡ key.kind }
-    ensures { Serves (replace (name_of key) object.value before kept.now.value) result }
+    ensures { Serves (replace (key_of key) object.value before kept.now.value) result }
 {
-    let held = Held::open(alloc, kept)?;
-    replace_held(alloc, key, object, before, &held)
+    let existing = Held::open(alloc, kept)?;
+    replace_held(alloc, key, object, before, &existing)
 }
 
-/// An object in the place of the one that is held, if that is the one that it names.
+/// Returns an object in the place of the stored one, if that is the one that it names.
 pub(crate) fn replace_held(
     alloc: Global,
     key: Key,
     object: Object,
     before: u64,
-    held: &Held<'_>,
+    existing: &Held<'_>,
 ) -> Result<(Reply, Option<Write>), Fault>
     requires revision { before ≤ greatest_revision }
     requires kind { object.kind ≡ key.kind }
-    ensures { Serves (replace (name_of key) object.value before held.now.object.value) result }
+    ensures { Serves (replace (key_of key) object.value before existing.now.object.value) result }
 {
-    match mismatch(&object, &held.object) {
+    match mismatch(&object, &existing.object) {
         Some(why) => Err(Fault::Conflict(key, why)),
         None => {
-            let object = in_place(alloc, object, &held.object)?;
-            replace_with(alloc, key, held, object, before)
+            let object = in_place(alloc, object, &existing.object)?;
+            replace_with(alloc, key, existing, object, before)
         }
     }
 }
 
-/// The object with the status that is held, if its kind has one.
-fn keep_status(alloc: Global, object: Object, held: &Object) -> Result<Object, AllocError>
-    ensures members { IfOk result (λ o. members_of o.value ≡ keeping (kept_of object.kind) (members_of held.now.value) (members_of object.value)) }
+/// Returns the object with the status that is stored, if its kind has one.
+fn keep_status(alloc: Global, object: Object, existing: &Object) -> Result<Object, AllocError>
+    ensures members { IfOk result (λ o. members_of o.value ≡ keeping (kept_of object.kind) (members_of existing.now.value) (members_of object.value)) }
     ensures metadata { IfOk result (λ o. metadata_of o.value ≡ metadata_of object.value) }
     ensures kind { IfOk result (λ o. o.kind ≡ object.kind) }
 {
     if !object.kind().has_status() {
         return Ok(object);
     }
-    let kept = object.keep_member(alloc, "status", held)?;
+    let kept = object.keep_member(alloc, "status", existing)?;
     Ok(kept)
 }
 
-/// The object with what an update leaves of the metadata that is held.
-fn keep_metadata(alloc: Global, object: Object, held: &Object) -> Result<Object, AllocError>
-    ensures value { IfOk result (λ o. o.value ≡ with_metadata (keeping kept (metadata_of held.now.value) (metadata_of object.value)) object.value) }
+/// Returns the object with what an update leaves of the metadata that is stored.
+fn keep_metadata(alloc: Global, object: Object, existing: &Object) -> Result<Object, AllocError>
+    ensures value { IfOk result (λ o. o.value ≡ with_metadata (keeping kept (metadata_of existing.now.value) (metadata_of object.value)) object.value) }
     ensures kind { IfOk result (λ o. o.kind ≡ object.kind) }
 {
     let mut draft = object.open(alloc)?;
-    draft.keep(alloc, "namespace", held)?;
-    draft.keep(alloc, "uid", held)?;
-    draft.keep(alloc, "creationTimestamp", held)?;
-    draft.keep(alloc, "deletionTimestamp", held)?;
-    draft.keep(alloc, "generation", held)?;
-    draft.keep(alloc, "resourceVersion", held)?;
+    draft.keep(alloc, "namespace", existing)?;
+    draft.keep(alloc, "uid", existing)?;
+    draft.keep(alloc, "creationTimestamp", existing)?;
+    draft.keep(alloc, "deletionTimestamp", existing)?;
+    draft.keep(alloc, "generation", existing)?;
+    draft.keep(alloc, "resourceVersion", existing)?;
     let made = draft.close(alloc)?;
     Ok(made)
 }
 
-/// The object in the place of the one that is held, so far at its version.
-fn in_place(alloc: Global, object: Object, held: &Object) -> Result<Object, AllocError>
-    ensures value { IfOk result (λ o. o.value ≡ in_place object.kind held.now.value object.value) }
+/// Returns the object in the place of the stored one, so far at its version.
+fn in_place(alloc: Global, object: Object, existing: &Object) -> Result<Object, AllocError>
+    ensures value { IfOk result (λ o. o.value ≡ in_place object.kind existing.now.value object.value) }
     ensures kind { IfOk result (λ o. o.kind ≡ object.kind) }
 {
-    let with_status = keep_status(alloc, object, held)?;
-    keep_metadata(alloc, with_status, held)
+    let with_status = keep_status(alloc, object, existing)?;
+    keep_metadata(alloc, with_status, existing)
 }
 
-/// The object in the place of the one that is held, if each of its fields is as it has to be.
+/// Returns the object in the place of the stored one, if each of its fields is as it has to be.
 fn replace_with(
     alloc: Global,
     key: Key,
-    held: &Held<'_>,
+    existing: &Held<'_>,
     object: Object,
     before: u64,
 ) -> Result<(Reply, Option<Write>), Fault>
     requires revision { before ≤ greatest_revision }
     requires kind { object.kind ≡ key.kind }
-    ensures { Serves (replace_with (name_of key) held.now.object.value object.value before) result }
+    ensures { Serves (replace_with (key_of key) existing.now.object.value object.value before) result }
 {
-    check_update(alloc, &held.object, &object, &key, before)?;
-    replace_changed(alloc, key, held, object, before)
+    check_update(alloc, &existing.object, &object, &key, before)?;
+    replace_changed(alloc, key, existing, object, before)
 }
 
-/// The object in the place of the one that is held: where it says the same nothing is written, and where nothing keeps it
-/// any more it is removed.
+/// Returns the object in the place of the stored one: where it says the same nothing is written, and where nothing keeps it any
+/// more it is removed.
 fn replace_changed(
     alloc: Global,
     key: Key,
-    held: &Held<'_>,
+    existing: &Held<'_>,
     object: Object,
     before: u64,
 ) -> Result<(Reply, Option<Write>), Fault>
     requires { before ≤ greatest_revision }
-    ensures { Serves (replace_changed (name_of key) held.now.object.value object.value before) result }
+    ensures { Serves (replace_changed (key_of key) existing.now.object.value object.value before) result }
 {
-    if let Some(text) = unchanged(alloc, held.kept, &object)? {
+    if let Some(text) = unchanged(alloc, existing.kept, &object)? {
         return Ok((Reply { code: 200, text }, None));
     }
-    let object = updated(alloc, key.kind, object, &held.object, before)?;
-    replaced(alloc, key, &held.object, &object, before)
+    let object = updated(alloc, key.kind, object, &existing.object, before)?;
+    replaced(alloc, key, &existing.object, &object, before)
 }

@@ -2,20 +2,20 @@
 ghost use Rattle.std.specs.Prelude.{◌≡◌, IfOk, string_bytes};
 ghost use Rattle.definitions.specs.Refusals.{message, quoted_name};
 ghost use Rattle.meta.specs.Faults.{refusal_of};
-ghost use Rattle.meta.specs.Keys.{name_of};
+ghost use Rattle.meta.specs.Keys.{key_of};
 
 use meta::{Fault, Key};
 use std::alloc::{AllocError, Global};
 
-/// A resource and a name in quotes, as `configmaps "a"`. The error is want of memory.
+/// Returns a resource and a name in quotes, as `configmaps "a"`. The error is running out of memory.
 fn quoted_name(alloc: Global, key: &Key) -> Result<String, AllocError>
-    ensures { IfOk result (λ text. string_bytes text ≡ quoted_name (name_of key.now)) }
+    ensures { IfOk result (λ text. string_bytes text ≡ quoted_name (key_of key.now)) }
 {
     let resource = key.kind.resource();
     format!(in alloc; "{resource} \"{}\"", key.name)
 }
 
-/// A sentence that tells people of the fault. The error is want of memory.
+/// Returns a sentence that tells people of the fault. The error is running out of memory.
 pub fn message(alloc: Global, fault: &Fault) -> Result<String, AllocError>
     ensures { IfOk result (λ text. string_bytes text ≡ message (refusal_of fault.now)) }
 {

@@ -19,7 +19,7 @@ impl Reply {
     ghost use Rattle.definitions.specs.Refusals.{code, status_body};
     ghost use Rattle.meta.specs.Faults.{refusal_of};
 
-    /// The reply that refuses a request. The error is want of memory.
+    /// Returns the reply that refuses a request. The error is running out of memory.
     pub fn refusal(alloc: Global, fault: &Fault) -> Result<Reply, AllocError>
         ensures code { IfOk result (λ reply. reply.code ≡ code (refusal_of fault.now)) }
         ensures text { IfOk result (λ reply. string_bytes reply.text

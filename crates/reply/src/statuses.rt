@@ -6,7 +6,7 @@ ghost use Rattle.serde_json.specs.Written.{compact_text};
 ghost use Rattle.definitions.specs.Refusals.{code, told, details, status_body, success_body};
 ghost use Rattle.reply.specs.Bare.{bare_body};
 ghost use Rattle.meta.specs.Faults.{refusal_of};
-ghost use Rattle.meta.specs.Keys.{name_of};
+ghost use Rattle.meta.specs.Keys.{key_of};
 
 use crate::messages::message;
 use meta::values::with_member;
@@ -14,7 +14,7 @@ use meta::{Fault, Key};
 use serde_json::{Value, json};
 use std::alloc::{AllocError, Global};
 
-/// The HTTP status code of a fault.
+/// Returns the HTTP status code of a fault.
 pub fn code(fault: &Fault) -> u16
     ensures { result ≡ code (refusal_of fault.now) }
 {
@@ -34,7 +34,7 @@ pub fn code(fault: &Fault) -> u16
     }
 }
 
-/// The reason, a word for programs.
+/// Returns the reason, a word for programs.
 fn reason(fault: &Fault) -> &'static str
     ensures { result.now ≡ (told (refusal_of fault.now)).reason }
 {
@@ -55,9 +55,9 @@ fn reason(fault: &Fault) -> &'static str
     }
 }
 
-/// The key that the details of a fault name, if it has details.
+/// Returns the key that the details of a fault name, if it has details.
 fn about(fault: &Fault) -> Option<&Key>
-    ensures { option_map (λ key. name_of key.now) result ≡ (told (refusal_of fault.now)).about }
+    ensures { option_map (λ key. key_of key.now) result ≡ (told (refusal_of fault.now)).about }
 {
     match fault {
         Fault::NotFound(key) => Some(key),
@@ -67,9 +67,9 @@ fn about(fault: &Fault) -> Option<&Key>
     }
 }
 
-/// The details that name an object.
+/// Returns the details that name an object.
 fn details(alloc: Global, key: &Key) -> Result<Value, AllocError>
-    ensures { IfOk result (λ value. view value ≡ details (name_of key.now) no_members) }
+    ensures { IfOk result (λ value. view value ≡ details (key_of key.now) no_members) }
 {
     let named = json!(in alloc; {"kind": key.kind.plural(), "name": key.name.as_str()})?;
     let group = key.kind.group_name();
@@ -79,16 +79,16 @@ fn details(alloc: Global, key: &Key) -> Result<Value, AllocError>
     with_member(alloc, named, "group", Value::try_from_str(alloc, group)?)
 }
 
-/// The details that name an object and its uid.
+/// Returns the details that name an object and its uid.
 fn details_with_uid(alloc: Global, key: &Key, uid: &str) -> Result<Value, AllocError>
     ensures { IfOk result (λ value. view value
-        ≡ details (name_of key.now) (member (codes "uid") (string uid.now) no_members)) }
+        ≡ details (key_of key.now) (member (codes "uid") (string uid.now) no_members)) }
 {
     let details = details(alloc, key)?;
     with_member(alloc, details, "uid", Value::try_from_str(alloc, uid)?)
 }
 
-/// The body of a refusal, without details.
+/// Returns the body of a refusal, without details.
 fn bare_body(alloc: Global, fault: &Fault) -> Result<Value, AllocError>
     ensures { IfOk result (λ value. view value ≡ bare_body (refusal_of fault.now)) }
 {
@@ -105,7 +105,7 @@ fn bare_body(alloc: Global, fault: &Fault) -> Result<Value, AllocError>
     })
 }
 
-/// The body of a refusal, a Status. The error is want of memory.
+/// Returns the body of a refusal, a Status. The error is running out of memory.
 pub fn body(alloc: Global, fault: &Fault) -> Result<Value, AllocError>
     ensures { IfOk result (λ value. view value ≡ status_body (refusal_of fault.now)) }
 {
@@ -116,7 +116,7 @@ pub fn body(alloc: Global, fault: &Fault) -> Result<Value, AllocError>
     }
 }
 
-/// The body of a refusal as compact JSON, a Status. The error is want of memory.
+/// Returns the body of a refusal as compact JSON, a Status. The error is running out of memory.
 pub fn text(alloc: Global, fault: &Fault) -> Result<String, AllocError>
     ensures { IfOk result (λ text. string_bytes text
         ≡ compact_text (status_body (refusal_of fault.now))) }
@@ -125,10 +125,10 @@ pub fn text(alloc: Global, fault: &Fault) -> Result<String, AllocError>
     body.to_string(alloc)
 }
 
-/// The body of a success that answers no object.
+/// Returns the body of a success that answers no object.
 fn success_body(alloc: Global, removed: Option<(&Key, &str)>) -> Result<Value, AllocError>
     ensures { IfOk result (λ value. view value
-        ≡ success_body (option_map (λ object. (name_of object.0.now, object.1.now)) removed.entry)) }
+        ≡ success_body (option_map (λ object. (key_of object.0.now, object.1.now)) removed.entry)) }
 {
     let status = json!(in alloc; {
         "apiVersion": "v1",
@@ -145,11 +145,11 @@ fn success_body(alloc: Global, removed: Option<(&Key, &str)>) -> Result<Value, A
     }
 }
 
-/// The body of a success that answers no object, as compact JSON: of a removal, with the key and the uid of what was
-/// removed, or of a compaction, with none. The error is want of memory.
+/// Returns the body of a success that answers no object, as compact JSON: of a removal, with the key and the uid of what was
+/// removed, or of a compaction, with none. The error is running out of memory.
 pub fn success_text(alloc: Global, removed: Option<(&Key, &str)>) -> Result<String, AllocError>
     ensures { IfOk result (λ text. string_bytes text
-        ≡ compact_text (success_body (option_map (λ object. (name_of object.0.now, object.1.now)) removed.entry))) }
+        ≡ compact_text (success_body (option_map (λ object. (key_of object.0.now, object.1.now)) removed.entry))) }
 {
     let body = success_body(alloc, removed)?;
     body.to_string(alloc)

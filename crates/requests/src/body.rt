@@ -12,7 +12,7 @@ use std::alloc::Global;
 /// The greatest length of a body, in bytes.
 pub const LONGEST_BODY: usize = 1_048_576;
 
-/// Whether a body is longer than `LONGEST_BODY`.
+/// Returns whether a body is longer than `LONGEST_BODY`.
 pub fn is_too_long(text: &[u8]) -> bool
     ensures { result ≡ is_too_long text.now }
 {
@@ -28,7 +28,7 @@ pub enum BodyFault {
     NoMemory,
 }
 
-/// The JSON of a body in UTF-8.
+/// Returns the JSON of a body in UTF-8.
 pub fn read_body(alloc: Global, text: &[u8]) -> Result<Value, BodyFault>
     ensures body { ReadsBody text.now result }
     ensures nests { IfOk result (λ value. depth (view value) ≤ max_depth) }

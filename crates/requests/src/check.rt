@@ -41,7 +41,7 @@ impl From<CheckFault> for Fault {
     }
 }
 
-/// The path of a target: what stands before the first `?`.
+/// Returns the path of a target: what stands before the first `?`.
 fn path_of<'t>(target: &'t str) -> &'t str
     ensures { result.now ≡ path_of target.now }
 {
@@ -51,7 +51,7 @@ fn path_of<'t>(target: &'t str) -> &'t str
     }
 }
 
-/// Whether what a path names serves the method.
+/// Returns whether what a path names serves the method.
 fn is_allowed(method: Method, target: Target<'_>) -> bool
     ensures { result ≡ is_allowed method (route_seen target.entry) }
 {
@@ -64,7 +64,7 @@ fn is_allowed(method: Method, target: Target<'_>) -> bool
     }
 }
 
-/// What a request's target names, if the request passes the checks: of the path, of the path's namespace, and of the
+/// Returns what a request's target names, if the request passes the checks: of the path, of the path's namespace, and of the
 /// method, in this order. The target is a path, and a query after a `?`.
 pub fn check_request<'t>(
     routes: &Routes,
@@ -85,7 +85,7 @@ pub fn check_request<'t>(
     Ok(named)
 }
 
-/// A target as text: where its bytes are no UTF-8, each part that is none becomes U+FFFD. Memory is taken only then.
+/// Returns a target as text: where its bytes are no UTF-8, each part that is none becomes U+FFFD. Memory is taken only then.
 pub fn decode<'t>(alloc: Global, target: &'t [u8]) -> Result<CowStr<'t, Global>, AllocError>
     ensures text { IfOk result (λ text. cow_str_bytes text ≡ decoded target.now) }
     ensures needs_no_memory { IsUtf8 target.now → IsOk result }

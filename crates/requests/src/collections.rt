@@ -28,7 +28,7 @@ impl Collection {
     ghost use Rattle.definitions.specs.Collections.{everything};
     ghost use Rattle.requests.specs.Collected.{collection_seen};
 
-    /// All objects, as they are at present.
+    /// Returns all objects, as they are at present.
     pub fn everything(alloc: Global) -> Collection
         ensures { collection_seen result ≡ everything }
     {
@@ -53,7 +53,7 @@ pub enum Read {
     Watch(WatchOptions),
 }
 
-/// Whether a query lists or watches.
+/// Returns whether a query lists or watches.
 fn read_options(alloc: Global, query: &[u8]) -> Result<Read, QueryFault>
     ensures { Gives read_seen (read_by (raw_pairs query.now)) result }
 {
@@ -64,8 +64,8 @@ fn read_options(alloc: Global, query: &[u8]) -> Result<Read, QueryFault>
     }
 }
 
-/// The query of a collection: what stands after the first `?` of its target. Members that are not known say nothing, and
-/// of those with one name the first counts. A fault of the page token is told only where all else is understood.
+/// Returns the query of a collection: what stands after the first `?` of its target. Members that are not known say nothing,
+/// and of those with one name the first counts. A fault of the page token is told only where all else is understood.
 pub fn read_collection(alloc: Global, query: &[u8]) -> Result<Collection, QueryFault>
     ensures { Gives collection_seen (collection_of (raw_pairs query.now)) result }
 {

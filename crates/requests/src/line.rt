@@ -27,7 +27,7 @@ pub enum Line<'l> {
     Unreadable,
 }
 
-/// What stands before and after the first space, if there is one.
+/// Returns what stands before and after the first space, if there is one.
 fn cut<'l>(line: &'l [u8]) -> Option<(&'l [u8], &'l [u8])>
     ensures { option_map both_now result ≡ cut line.now }
 {
@@ -46,7 +46,7 @@ fn is(word: &[u8], text: &str) -> bool
     word == text.as_bytes()
 }
 
-/// A request, whose target may not be empty.
+/// Returns a request, whose target may not be empty.
 fn ask<'l>(method: Method, target: &'l [u8], body: &'l [u8]) -> Line<'l>
     ensures { line_seen result ≡ ask_if method target.now body.now }
 {
@@ -103,7 +103,7 @@ fn compact<'l>(rest: &'l [u8]) -> Line<'l>
     }
 }
 
-/// What a line says, without the newline at its end.
+/// Returns what a line says, without the newline at its end.
 pub fn read_line<'l>(line: &'l [u8]) -> Line<'l>
     ensures { line_seen result ≡ line_of line.now }
 {

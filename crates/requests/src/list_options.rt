@@ -29,14 +29,14 @@ pub struct ListOptions {
     pub after: Option<Token>,
 }
 
-/// Whether each byte of the text is a decimal digit.
+/// Returns whether each byte of the text is a decimal digit.
 fn has_digits(text: &str) -> bool
     ensures { result ≡ list_all is_digit text.now }
 {
     text.bytes().all(|byte| b'0' <= byte && byte <= b'9')
 }
 
-/// The limit that a text names; no text names none, which is 0.
+/// Returns the limit that a text names; no text names none, which is 0.
 fn limit_of(text: Option<CowStr<'_>>) -> Option<usize>
     ensures { result ≡ limit_of (option_map cow_str_bytes text.entry) }
 {
@@ -46,7 +46,7 @@ fn limit_of(text: Option<CowStr<'_>>) -> Option<usize>
     }
 }
 
-/// The number that one to nine digits write.
+/// Returns the number that one to nine digits write.
 fn read_limit(text: &str) -> Option<usize>
     ensures { result ≡ limit_of (Some text.now) }
 {
@@ -62,7 +62,7 @@ fn read_limit(text: &str) -> Option<usize>
     }
 }
 
-/// The limit that a query names.
+/// Returns the limit that a query names.
 fn limit(alloc: Global, query: &[u8]) -> Result<usize, MemberFault>
     ensures { Reads (limit_of (member (codes "limit") (raw_pairs query.now))) result }
 {
@@ -81,7 +81,7 @@ fn match_of(name: Option<CowStr<'_>>) -> Option<Match>
     }
 }
 
-/// How a query says that the revision is to be matched.
+/// Returns how a query says that the revision is to be matched.
 fn matched(alloc: Global, query: &[u8]) -> Result<Match, MemberFault>
     ensures { Reads (match_of (member (codes "resourceVersionMatch") (raw_pairs query.now))) result }
 {
@@ -91,8 +91,8 @@ fn matched(alloc: Global, query: &[u8]) -> Result<Match, MemberFault>
     }
 }
 
-/// At which revision a list is, if how it is to be matched goes with the revision that is named. Where that is not said,
-/// a limited list is exact: its pages are pages of one list.
+/// Returns at which revision a list is, if how it is to be matched goes with the revision that is named. Where that is not
+/// said, a limited list is exact: its pages are pages of one list.
 fn list_at(limited: bool, matched: Match, version: Option<u64>) -> Option<At>
     ensures { result ≡ list_at limited matched version }
 {
@@ -113,7 +113,7 @@ fn list_at(limited: bool, matched: Match, version: Option<u64>) -> Option<At>
     }
 }
 
-/// A list that goes on after a token names no revision of its own: the token has it.
+/// Returns a list that goes on after a token names no revision of its own: the token has it.
 fn names_no_other(version: Option<u64>) -> bool
     ensures { result ≡ (unwrap_or version 0 == 0) }
 {
@@ -123,7 +123,7 @@ fn names_no_other(version: Option<u64>) -> bool
     }
 }
 
-/// The list that goes on after a token's place, at the token's revision.
+/// Returns the list that goes on after a token's place, at the token's revision.
 fn going_on(alloc: Global, limit: usize, text: &str) -> Result<ListOptions, QueryFault>
     ensures { Gives list_seen (going_on limit (token_of text.now)) result }
 {
@@ -139,7 +139,7 @@ fn going_on(alloc: Global, limit: usize, text: &str) -> Result<ListOptions, Quer
     }
 }
 
-/// The list by its page token, if it has one.
+/// Returns the list by its page token, if it has one.
 fn by_token(
     alloc: Global,
     limit: usize,
@@ -165,7 +165,7 @@ fn by_token(
     }
 }
 
-/// The options of a list. Its page token is looked at last.
+/// Returns the options of a list. Its page token is looked at last.
 pub(crate) fn list_options(alloc: Global, query: &[u8]) -> Result<ListOptions, QueryFault>
     ensures { Gives list_seen (list_options (raw_pairs query.now)) result }
 {

@@ -6,8 +6,8 @@ ghost use Rattle.std.specs.Str.{bytes_eq};
 ghost use Rattle.form_urlencoded.specs.Form.{raw_pairs};
 ghost use Rattle.definitions.specs.Collections.{is_asked, version_of};
 ghost use Rattle.definitions.specs.Queries.{has_any, member, or_empty};
-ghost use Rattle.definitions.specs.SelectorFields.{said_of_fields};
-ghost use Rattle.definitions.specs.SelectorTexts.{said_by_text};
+ghost use Rattle.definitions.specs.SelectorFields.{fields_of_text};
+ghost use Rattle.definitions.specs.SelectorTexts.{selector_of_text};
 ghost use Rattle.requests.specs.Queried.{Reads, names_seen};
 
 use crate::faults::MemberFault;
@@ -63,7 +63,7 @@ fn is_of_no_watch(name: &str) -> bool
     name == "resourceVersionMatch"
 }
 
-/// Whether a member has one of these names.
+/// Returns whether a member has one of these names.
 pub(crate) fn has_any(alloc: Global, query: &[u8], names: Names) -> Result<bool, AllocError>
     ensures { IfOk result (λ b. b ≡ has_any (names_seen names) (raw_pairs query.now)) }
 {
@@ -76,7 +76,7 @@ pub(crate) fn has_any(alloc: Global, query: &[u8], names: Names) -> Result<bool,
     Ok(false)
 }
 
-/// The value of a member: of those with its name the first counts.
+/// Returns the value of a member: of those with its name the first counts.
 pub(crate) fn member<'q>(
     alloc: Global,
     query: &'q [u8],
@@ -99,7 +99,7 @@ pub(crate) fn is_true(value: &str) -> bool
     value == "true" || value == "1"
 }
 
-/// Whether a member is there and true.
+/// Returns whether a member is there and true.
 pub(crate) fn is_asked(alloc: Global, query: &[u8], name: &str) -> Result<bool, AllocError>
     ensures { IfOk result (λ b. b ≡ is_asked (member name.now (raw_pairs query.now))) }
 {
@@ -109,7 +109,7 @@ pub(crate) fn is_asked(alloc: Global, query: &[u8], name: &str) -> Result<bool, 
     }
 }
 
-/// The revision that a text names; no text and an empty one name none.
+/// Returns the revision that a text names; no text and an empty one name none.
 fn version_of(text: Option<CowStr<'_>>) -> Option<Option<u64>>
     ensures { result ≡ version_of (option_map cow_str_bytes text.entry) }
 {
@@ -120,7 +120,7 @@ fn version_of(text: Option<CowStr<'_>>) -> Option<Option<u64>>
     }
 }
 
-/// The revision that a query names, if any.
+/// Returns the revision that a query names, if any.
 pub(crate) fn version(alloc: Global, query: &[u8]) -> Result<Option<u64>, MemberFault>
     ensures { Reads (version_of (member (codes "resourceVersion") (raw_pairs query.now))) result }
 {
@@ -130,7 +130,7 @@ pub(crate) fn version(alloc: Global, query: &[u8]) -> Result<Option<u64>, Member
     }
 }
 
-/// A text that is absent counts as empty.
+/// Returns a text that is absent counts as empty.
 fn or_empty<'t>(text: &'t Option<CowStr<'_>>) -> &'t str
     ensures { result.now ≡ or_empty (option_map cow_str_bytes text.now) }
 {
@@ -140,9 +140,9 @@ fn or_empty<'t>(text: &'t Option<CowStr<'_>>) -> &'t str
     }
 }
 
-/// The selector of labels in a query.
+/// Returns the selector of labels in a query.
 pub(crate) fn labels(alloc: Global, query: &[u8]) -> Result<Selector, MemberFault>
-    ensures { Reads (said_by_text (or_empty (member (codes "labelSelector") (raw_pairs query.now)))) result }
+    ensures { Reads (selector_of_text (or_empty (member (codes "labelSelector") (raw_pairs query.now)))) result }
 {
     let text = member(alloc, query, "labelSelector")?;
     match Selector::parse(alloc, or_empty(&text)) {
@@ -152,9 +152,9 @@ pub(crate) fn labels(alloc: Global, query: &[u8]) -> Result<Selector, MemberFaul
     }
 }
 
-/// The selector of fields in a query.
+/// Returns the selector of fields in a query.
 pub(crate) fn fields(alloc: Global, query: &[u8]) -> Result<Fields, MemberFault>
-    ensures { Reads (said_of_fields (or_empty (member (codes "fieldSelector") (raw_pairs query.now)))) result }
+    ensures { Reads (fields_of_text (or_empty (member (codes "fieldSelector") (raw_pairs query.now)))) result }
 {
     let text = member(alloc, query, "fieldSelector")?;
     match Fields::parse(alloc, or_empty(&text)) {

@@ -2,7 +2,7 @@
 ghost use Rattle.std.specs.Prelude.{◌≡◌, IfOk, codes};
 ghost use Rattle.std.specs.Result.{result_map_both};
 ghost use Rattle.form_urlencoded.specs.Form.{raw_pairs};
-ghost use Rattle.definitions.specs.DeleteOptions.{policy_said};
+ghost use Rattle.definitions.specs.DeleteOptions.{stated_policy};
 ghost use Rattle.definitions.specs.Collections.{collection_of};
 ghost use Rattle.definitions.specs.Queries.{query_of, member};
 ghost use Rattle.definitions.specs.Targets.{only_policy, query_for};
@@ -27,7 +27,7 @@ pub struct Query {
     pub policy: PolicySaid,
 }
 
-/// The query of a list or a watch.
+/// Returns the query of a list or a watch.
 fn collection_query(alloc: Global, query: &[u8]) -> Result<Query, QueryFault>
     ensures { Gives query_seen (result_map_both (λ c. record { collection = c; policy = PolicySaid.Nothing }) (λ p. p) (collection_of (raw_pairs query.now))) result }
 {
@@ -38,9 +38,9 @@ fn collection_query(alloc: Global, query: &[u8]) -> Result<Query, QueryFault>
     })
 }
 
-/// What is said of a delete's policy.
+/// Returns what is said of a delete's policy.
 fn policy(alloc: Global, query: &[u8]) -> Result<PolicySaid, AllocError>
-    ensures { IfOk result (λ said. said ≡ policy_said (member (codes "propagationPolicy") (raw_pairs query.now))) }
+    ensures { IfOk result (λ said. said ≡ stated_policy (member (codes "propagationPolicy") (raw_pairs query.now))) }
 {
     match member(alloc, query, "propagationPolicy")? {
         Some(name) => Ok(PolicySaid::read(Some(name.as_str()))),
@@ -48,7 +48,7 @@ fn policy(alloc: Global, query: &[u8]) -> Result<PolicySaid, AllocError>
     }
 }
 
-/// A query of which nothing counts but what is said of a delete's policy.
+/// Returns a query of which nothing counts but what is said of a delete's policy.
 fn only_policy(alloc: Global, query: &[u8], policy: PolicySaid) -> Result<Query, QueryFault>
     ensures { Gives query_seen (only_policy (raw_pairs query.now) policy) result }
 {
@@ -61,15 +61,15 @@ fn only_policy(alloc: Global, query: &[u8], policy: PolicySaid) -> Result<Query,
     })
 }
 
-/// The query of a delete.
+/// Returns the query of a delete.
 fn delete_query(alloc: Global, query: &[u8]) -> Result<Query, QueryFault>
-    ensures { Gives query_seen (only_policy (raw_pairs query.now) (policy_said (member (codes "propagationPolicy") (raw_pairs query.now)))) result }
+    ensures { Gives query_seen (only_policy (raw_pairs query.now) (stated_policy (member (codes "propagationPolicy") (raw_pairs query.now)))) result }
 {
     let said = policy(alloc, query)?;
     only_policy(alloc, query, said)
 }
 
-/// What stands after the first `?` of a target.
+/// Returns what stands after the first `?` of a target.
 fn query_of<'t>(target: &'t str) -> &'t str
     ensures { result.now ≡ query_of target.now }
 {
@@ -79,7 +79,7 @@ fn query_of<'t>(target: &'t str) -> &'t str
     }
 }
 
-/// What a target's query adds to what a method asks of the route. Members that are not known say nothing, and of those
+/// Returns what a target's query adds to what a method asks of the route. Members that are not known say nothing, and of those
 /// with one name the first counts.
 pub fn read_query(
     alloc: Global,

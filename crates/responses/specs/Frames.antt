@@ -2,12 +2,12 @@
 use Rattle.std.specs.Prelude.{ℕ, List, map}
 use Rattle.serde_json.specs.Data.{Data}
 use Rattle.definitions.specs.declared.frames.FrameKind.TheVariants.{Added}
-use Rattle.definitions.specs.Changes.{Change}
+use Rattle.definitions.specs.Events.{Event}
 use Rattle.definitions.specs.Frames.{frame_kind, frame_text}
 use Rattle.chunked.specs.Bodies.{chunks_text}
 
 -- those of changes
-abbrev pub change_frames : List Change → List ℕ
+abbrev pub change_frames : List Event → List ℕ
 change_frames cs = chunks_text (map (λ c. frame_text (record { kind = frame_kind c.kind; object = c.object })) cs)
 
 -- those of objects that are there as a watch begins

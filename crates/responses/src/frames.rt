@@ -2,10 +2,10 @@
 //! memory; some of the frames may then have been added.
 ghost use Rattle.std.specs.Prelude.{◌≡◌, ◌++◌, OnOk, map, false};
 ghost use Rattle.chunked.specs.Bodies.{chunk_text};
-ghost use Rattle.definitions.specs.Frames.{frame_text, bookmark_event, error_event};
+ghost use Rattle.definitions.specs.Frames.{frame_text, bookmark_frame, error_frame};
 ghost use Rattle.meta.specs.Faults.{refusal_of};
 ghost use Rattle.responses.specs.Frames.{change_frames, object_frames};
-ghost use Rattle.revisions.specs.Events.{change_seen};
+ghost use Rattle.revisions.specs.Events.{event_seen};
 
 use chunked::push_chunk;
 use definitions::kinds::Kind;
@@ -15,7 +15,7 @@ use std::alloc::{AllocError, Global};
 
 /// Adds the frames of changes.
 pub fn push_changes(alloc: Global, text: &mut Vec<u8>, events: &[Event]) -> Result<(), AllocError>
-    ensures { OnOk result (text.new.items ≡ text.old.items ++ change_frames (map change_seen events.now)) }
+    ensures { OnOk result (text.new.items ≡ text.old.items ++ change_frames (map event_seen events.now)) }
 {
     for event in events {
         let line = framing::frame_text(alloc, event)?;
@@ -47,7 +47,7 @@ pub fn push_bookmark(
     revision: u64,
 ) -> Result<(), AllocError>
     ensures { OnOk result (text.new.items
-        ≡ text.old.items ++ chunk_text (frame_text (bookmark_event kind false revision))) }
+        ≡ text.old.items ++ chunk_text (frame_text (bookmark_frame kind false revision))) }
 {
     let line = framing::bookmark_text(alloc, kind, false, revision)?;
     push_chunk(alloc, text, line.as_bytes())
@@ -56,7 +56,7 @@ pub fn push_bookmark(
 /// Adds the frame that says why a watch ends.
 pub fn push_error(alloc: Global, text: &mut Vec<u8>, fault: &Fault) -> Result<(), AllocError>
     ensures { OnOk result (text.new.items
-        ≡ text.old.items ++ chunk_text (frame_text (error_event (refusal_of fault.now)))) }
+        ≡ text.old.items ++ chunk_text (frame_text (error_frame (refusal_of fault.now)))) }
 {
     let line = framing::error_text(alloc, fault)?;
     push_chunk(alloc, text, line.as_bytes())

@@ -5,7 +5,7 @@ use Rattle.std.proofs.lemmas.Bool.{cases_lt}
 use Rattle.serde_json.specs.Data.{Data}
 use Rattle.std.specs.Prelude.{Option}
 use Rattle.definitions.specs.History.{Write, View, Members, found, seen, last_of, after, after_all}
-use Rattle.definitions.specs.Changes.{Change, change_of, write_change, changes_after}
+use Rattle.definitions.specs.Events.{Event, event_of, write_change, changes_after}
 use Rattle.definitions.proofs.PutLaws.{found-after_all}
 
 -- cutting at the length of a beginning is cutting where it ends
@@ -47,16 +47,16 @@ module _ (v : View) (before ws : List Write) (i : ℕ) (w : Write) (within : i <
   pub state_after : (ms new : Members) → ms ≡ after_all [] (before ++ take i ws) → new ≡ after ms w → new ≡ after_all [] (before ++ take (i + 1) ws)
   state_after ms new h k = k ∙ ap (λ z. after z w) h ∙ sym (after_all-push [] (before ++ take i ws)) ∙ ap (after_all []) (sym gone_through)
 
-  pub told : (so_far new : List Change) (r : ℕ) (ms : Members) (old now : Option Data) → r ≡ length before + i + 2 → ms ≡ after_all [] (before ++ take i ws)
-      → old ≡ seen v w.key (found w.key ms) → now ≡ seen v w.key w.put → new ≡ so_far ++ change_of r w.key old now
+  pub told : (so_far new : List Event) (r : ℕ) (ms : Members) (old now : Option Data) → r ≡ length before + i + 2 → ms ≡ after_all [] (before ++ take i ws)
+      → old ≡ seen v w.key (found w.key ms) → now ≡ seen v w.key w.put → new ≡ so_far ++ event_of r w.key old now
       → so_far ++ changes_after v (before ++ take i ws) (drop i ws) ≡ new ++ changes_after v (before ++ take (i + 1) ws) (drop (i + 1) ws)
   told so_far new r ms old now r_is state was is_now new_is =
       let b = before ++ take i ws in
       let short : length (take i ws) ≡ i = length-take-le i ws (omega arith) in
       let place : r ≡ length b + 2 = omega (arith, r_is, short, length-append before (take i ws)) in
       let found_is : old ≡ seen v w.key (last_of None w.key b) = was ∙ ap (λ z. seen v w.key (found w.key z)) state ∙ ap (seen v w.key) (found-after_all w.key [] b tt) in
-      let change_is : change_of r w.key old now ≡ write_change v b w =
-      ap (λ n. change_of n w.key old now) place ∙ ap (λ o. change_of (length b + 2) w.key o now) found_is ∙ ap (change_of (length b + 2) w.key (seen v w.key (last_of None w.key b))) is_now in
+      let change_is : event_of r w.key old now ≡ write_change v b w =
+      ap (λ n. event_of n w.key old now) place ∙ ap (λ o. event_of (length b + 2) w.key o now) found_is ∙ ap (event_of (length b + 2) w.key (seen v w.key (last_of None w.key b))) is_now in
       ap (λ us. so_far ++ changes_after v b us) left
       ∙ sym (append_assoc so_far (write_change v b w) (changes_after v (b ++ w ∷ []) (drop (i + 1) ws)))
       ∙ ap (λ cs. (so_far ++ cs) ++ changes_after v (b ++ w ∷ []) (drop (i + 1) ws)) (sym change_is)

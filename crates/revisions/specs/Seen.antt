@@ -1,10 +1,10 @@
 -- A map from keys to objects, both lent, as its members.
 use Rattle.std.specs.Prelude.{List, map}
 use denote.Ref.{Bor}
-use Rattle.meta.specs.Keys.{name_of}
+use Rattle.meta.specs.Keys.{key_of}
 use Rattle.definitions.specs.History.{Members}
 use Rattle.meta.specs.declared.keys.Key.{Key}
 use Rattle.meta.specs.declared.stored.StoredObject.{StoredObject}
 
 abbrev pub seen : List (Bor Key × Bor StoredObject) → Members
-seen es = map (λ e. (name_of e.0.now, e.1.now.value)) es
+seen es = map (λ e. (key_of e.0.now, e.1.now.value)) es

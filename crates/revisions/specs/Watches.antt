@@ -2,11 +2,11 @@
 use Rattle.std.specs.Prelude.{ℕ, List, [], ◌∷◌, map, Option, Some, None}
 use Rattle.definitions.specs.Streams.{Line, bookmark}
 use Rattle.definitions.specs.Versions as versions
-use Rattle.revisions.specs.Events.{change_seen}
+use Rattle.revisions.specs.Events.{event_seen}
 use Rattle.revisions.specs.declared.watched.Watched.{Watched}
 
 abbrev pub watched_of : Watched → versions.Watched
-watched_of w = record { changes = map change_seen w.events.items; stands = w.stands }
+watched_of w = record { changes = map event_seen w.events.items; stands = w.stands }
 
 -- the bookmark that comes last, if any does
 abbrev pub last_bookmark : Option ℕ → List Line

@@ -1,10 +1,10 @@
 //! The changes of a view.
 ghost use Rattle.std.specs.Prelude.{◌≡◌, IfOk, map, option_map};
 ghost use Rattle.definitions.specs.History.{found};
-ghost use Rattle.definitions.specs.Changes.{changes};
-ghost use Rattle.meta.specs.Keys.{name_of};
+ghost use Rattle.definitions.specs.Events.{events};
+ghost use Rattle.meta.specs.Keys.{key_of};
 ghost use Rattle.selector.specs.Views.{view_of};
-ghost use Rattle.revisions.specs.Events.{change_seen};
+ghost use Rattle.revisions.specs.Events.{event_seen};
 ghost use Rattle.revisions.specs.Journals.{history_of};
 ghost use Rattle.revisions.specs.Seen.{seen};
 
@@ -18,7 +18,7 @@ use selector::View;
 use std::alloc::{AllocError, Global};
 use std::collections::BTreeMap;
 
-/// The changes of a view by the writes with a revision above `from` and up to `to`. The writes are gone through once.
+/// Returns the changes of a view by the writes with a revision above `from` and up to `to`. The writes are gone through once.
 pub fn changes_between(
     alloc: Global,
     writes: &[Write],
@@ -26,8 +26,8 @@ pub fn changes_between(
     from: u64,
     to: u64,
 ) -> Result<Vec<Event>, AllocError>
-    ensures { IfOk result (λ found. map change_seen found.items
-        ≡ changes (history_of writes.now) (view_of view.now) from to) }
+    ensures { IfOk result (λ found. map event_seen found.items
+        ≡ events (history_of writes.now) (view_of view.now) from to) }
 {
     let writes = up_to(writes, to);
     let (before, after) = writes.split_at(up_to(writes, from).len());
@@ -43,12 +43,12 @@ pub fn changes_between(
     Ok(changes)
 }
 
-/// The object under a key.
+/// Returns the object under a key.
 fn found_in<'a>(
     state: &BTreeMap<&'a Key, &'a StoredObject>,
     key: &'a Key,
 ) -> Option<&'a StoredObject>
-    ensures { option_map (λ o. o.now.value) result ≡ found (name_of key.now) (seen state.now.entries) }
+    ensures { option_map (λ o. o.now.value) result ≡ found (key_of key.now) (seen state.now.entries) }
 {
     state.get(&key).copied()
 }

@@ -35,10 +35,10 @@ impl Journal {
     ghost use Rattle.selector.specs.Views.{view_of};
     ghost use Rattle.definitions.specs.History as history;
     ghost use Rattle.definitions.specs.History.{writes, list};
-    ghost use Rattle.definitions.specs.Changes.{changes};
-    ghost use Rattle.revisions.specs.Events.{change_seen};
+    ghost use Rattle.definitions.specs.Events.{events};
+    ghost use Rattle.revisions.specs.Events.{event_seen};
 
-    /// A journal of no writes.
+    /// Returns a journal of no writes.
     pub fn new(alloc: Global) -> Journal
         ensures { result ≡ [] }
     {
@@ -47,14 +47,14 @@ impl Journal {
         }
     }
 
-    /// How many writes there are.
+    /// Returns how many writes there are.
     pub fn len(&self) -> usize
         ensures { result ≡ length (writes self.now) }
     {
         self.writes.as_slice().len()
     }
 
-    /// Adds a write. The error is want of memory, and changes nothing.
+    /// Adds a write. The error is running out of memory, and changes nothing.
     pub fn push(&mut self, write: Write) -> Result<(), AllocError>
         ensures ok { OnOk result (self.new ≡ self.old ++ history.write (write_of write) ∷ []) }
         ensures err { OnErr result (self.new ≡ self.old) }
@@ -70,15 +70,15 @@ impl Journal {
         drop(self.writes.pop());
     }
 
-    /// The object that the write at a place put, the first place being 0. It takes no memory.
+    /// Returns the object that the write at a place put, the first place being 0. It takes no memory.
     pub fn put_at(&self, place: usize) -> Option<&StoredObject>
         ensures { option_map (λ o. o.now.value) result ≡ put_at self.now place }
     {
         put_in(self.writes.as_slice(), place)
     }
 
-    /// The objects of a view as they were at a revision, each with its key, in the order of the keys. The error is want of
-    /// memory.
+    /// Returns the objects of a view as they were at a revision, each with its key, in the order of the keys. The error is
+    /// running out of memory.
     pub fn list_at<'a>(
         &'a self,
         alloc: Global,
@@ -101,8 +101,8 @@ impl Journal {
         Ok(found)
     }
 
-    /// The changes of a view by the writes with a revision above `from` and up to `to`, in order. The writes are gone
-    /// through once. The error is want of memory.
+    /// Returns the changes of a view by the writes with a revision above `from` and up to `to`, in order. The writes are gone
+    /// through once. The error is running out of memory.
     pub fn changes(
         &self,
         alloc: Global,
@@ -110,8 +110,8 @@ impl Journal {
         from: u64,
         to: u64,
     ) -> Result<Vec<Event>, AllocError>
-        ensures { IfOk result (λ found. map change_seen found.items
-            ≡ changes self.now (view_of view.now) from to) }
+        ensures { IfOk result (λ found. map event_seen found.items
+            ≡ events self.now (view_of view.now) from to) }
     {
         changes_between(alloc, self.writes.as_slice(), view, from, to)
     }

@@ -1,10 +1,10 @@
 //! How changes are made: what a view shows, and the event from what it showed to what it shows.
 ghost use Rattle.std.specs.Prelude.{◌≡◌, ◌++◌, IfOk, OnOk, map, option_map};
 ghost use Rattle.definitions.specs.History.{seen as shown};
-ghost use Rattle.definitions.specs.Changes.{change_of, gone_at};
-ghost use Rattle.meta.specs.Keys.{name_of};
+ghost use Rattle.definitions.specs.Events.{event_of, gone_at};
+ghost use Rattle.meta.specs.Keys.{key_of};
 ghost use Rattle.selector.specs.Views.{view_of};
-ghost use Rattle.revisions.specs.Events.{change_seen};
+ghost use Rattle.revisions.specs.Events.{event_seen};
 
 use crate::events::Event;
 use definitions::frames::ChangeKind;
@@ -14,14 +14,14 @@ use meta::stored::StoredObject;
 use selector::View;
 use std::alloc::{AllocError, Global};
 
-/// The object, if the view asks for it. It takes no memory.
+/// Returns the object, if the view asks for it. It takes no memory.
 pub fn shown<'a>(
     view: &View,
     key: &Key,
     object: Option<&'a StoredObject>,
 ) -> Option<&'a StoredObject>
     ensures { option_map (λ o. o.now.value) result
-        ≡ shown (view_of view.now) (name_of key.now) (option_map (λ o. o.now.value) object.entry) }
+        ≡ shown (view_of view.now) (key_of key.now) (option_map (λ o. o.now.value) object.entry) }
 {
     match object {
         Some(object) => {
@@ -35,7 +35,8 @@ pub fn shown<'a>(
     }
 }
 
-/// Adds the change, if there is one, from what was shown under a key to what is shown there. The error is want of memory.
+/// Adds the change, if there is one, from what was shown under a key to what is shown there. The error is running out of
+/// memory.
 pub fn push_change(
     alloc: Global,
     changes: &mut Vec<Event>,
@@ -44,8 +45,8 @@ pub fn push_change(
     old: Option<&StoredObject>,
     new: Option<&StoredObject>,
 ) -> Result<(), AllocError>
-    ensures { OnOk result (map change_seen changes.new.items ≡ map change_seen changes.old.items
-        ++ change_of revision (name_of key.now) (option_map (λ o. o.now.value) old.entry) (option_map (λ o. o.now.value) new.entry)) }
+    ensures { OnOk result (map event_seen changes.new.items ≡ map event_seen changes.old.items
+        ++ event_of revision (key_of key.now) (option_map (λ o. o.now.value) old.entry) (option_map (λ o. o.now.value) new.entry)) }
 {
     let (kind, object) = match (old, new) {
         (None, None) => return Ok(()),
@@ -63,7 +64,7 @@ pub fn push_change(
     Ok(())
 }
 
-/// A copy of an object, at the revision of the write by which it is gone.
+/// Returns a copy of an object, at the revision of the write by which it is gone.
 fn gone_at(alloc: Global, revision: u64, object: &StoredObject) -> Result<StoredObject, AllocError>
     ensures value { IfOk result (λ o. o.value ≡ gone_at revision object.now.value) }
     ensures kind { IfOk result (λ o. o.kind ≡ object.now.kind) }
@@ -72,7 +73,7 @@ fn gone_at(alloc: Global, revision: u64, object: &StoredObject) -> Result<Stored
     StoredObject::new(alloc, &gone)
 }
 
-/// The object, at another revision.
+/// Returns the object, at another revision.
 fn at_revision(alloc: Global, revision: u64, object: Object) -> Result<Object, AllocError>
     ensures value { IfOk result (λ o. o.value ≡ gone_at revision object.value) }
     ensures kind { IfOk result (λ o. o.kind ≡ object.kind) }

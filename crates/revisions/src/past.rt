@@ -1,6 +1,6 @@
 //! What was there after some writes.
 ghost use Rattle.std.specs.Prelude.{◌≡◌, IfOk, OnOk, ◌-◌, take, option_map};
-ghost use Rattle.meta.specs.Keys.{name_of};
+ghost use Rattle.meta.specs.Keys.{key_of};
 ghost use Rattle.meta.specs.Writes.{write_of};
 ghost use Rattle.definitions.specs.History.{members, after, put_or_remove};
 ghost use Rattle.revisions.specs.Journals.{history_of, put_at};
@@ -12,7 +12,7 @@ use meta::writes::Write;
 use std::alloc::{AllocError, Global};
 use std::collections::BTreeMap;
 
-/// The objects there after the writes up to a revision.
+/// Returns the objects there after the writes up to a revision.
 pub(crate) fn state_at<'a>(
     alloc: Global,
     writes: &'a [Write],
@@ -37,14 +37,14 @@ pub(crate) fn apply<'a>(
     put_or_remove(state, &write.key, write.put.as_ref())
 }
 
-/// Puts an object under a key, or, with none, removes the one that is there. The error is want of memory.
+/// Puts an object under a key, or, with none, removes the one that is there. The error is running out of memory.
 pub fn put_or_remove<'a>(
     state: &mut BTreeMap<&'a Key, &'a StoredObject>,
     key: &'a Key,
     object: Option<&'a StoredObject>,
 ) -> Result<(), AllocError>
     ensures { OnOk result (seen state.new.entries
-        ≡ put_or_remove (seen state.old.entries) (name_of key.now) (option_map (λ o. o.now.value) object.entry)) }
+        ≡ put_or_remove (seen state.old.entries) (key_of key.now) (option_map (λ o. o.now.value) object.entry)) }
 {
     match object {
         Some(object) => {
@@ -57,7 +57,7 @@ pub fn put_or_remove<'a>(
     Ok(())
 }
 
-/// The writes up to a revision: the n-th has revision n + 1.
+/// Returns the writes up to a revision: the n-th has revision n + 1.
 pub(crate) fn up_to(writes: &[Write], revision: u64) -> &[Write]
     ensures { result.now ≡ take (revision - 1) writes.now }
 {
@@ -69,7 +69,7 @@ pub(crate) fn up_to(writes: &[Write], revision: u64) -> &[Write]
     }
 }
 
-/// The object that the write at a place put.
+/// Returns the object that the write at a place put.
 pub(crate) fn put_in(writes: &[Write], place: usize) -> Option<&StoredObject>
     ensures { option_map (λ o. o.now.value) result ≡ put_at (history_of writes.now) place }
 {

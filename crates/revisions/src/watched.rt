@@ -1,9 +1,9 @@
 //! What watches are given.
 ghost use Rattle.std.specs.Prelude.{◌≡◌, ◌++◌, map};
-ghost use Rattle.definitions.specs.Streams.{change};
+ghost use Rattle.definitions.specs.Streams.{event as change};
 ghost use Rattle.definitions.specs.Versions.{last_change};
 ghost use Rattle.definitions.specs.WatchReplies.{told_lines};
-ghost use Rattle.revisions.specs.Events.{change_seen};
+ghost use Rattle.revisions.specs.Events.{event_seen};
 ghost use Rattle.revisions.specs.Watches.{watched_of, last_bookmark};
 
 use crate::events::Event;
@@ -17,10 +17,10 @@ pub struct Watched {
     pub stands: u64,
 }
 
-/// The revision of the last event; without any, that after which they come. A watch that stands above it has seen more
+/// Returns the revision of the last event; without any, that after which they come. A watch that stands above it has seen more
 /// than it was given.
 pub fn last_revision(events: &[Event], after: u64) -> u64
-    ensures { result ≡ last_change after (map change_seen events.now) }
+    ensures { result ≡ last_change after (map event_seen events.now) }
 {
     match events.last() {
         None => after,
@@ -28,8 +28,8 @@ pub fn last_revision(events: &[Event], after: u64) -> u64
     }
 }
 
-/// The revision of the bookmark after what a watch from a revision is given: where the watch then stands, if bookmarks are
-/// shown and it stands above the last change.
+/// Returns the revision of the bookmark after what a watch from a revision is given: where the watch then stands, if bookmarks
+/// are shown and it stands above the last change.
 pub fn last_bookmark(bookmarks: bool, from: u64, watched: &Watched) -> Option<u64>
     ensures { told_lines bookmarks from (watched_of watched.now)
         ≡ map change (watched_of watched.now).changes ++ last_bookmark result }

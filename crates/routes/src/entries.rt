@@ -25,7 +25,7 @@ impl Entry {
     ghost use Rattle.std.specs.Prelude.{◌≡◌};
     ghost use Rattle.routes.specs.Table.{route_text};
 
-    /// The route that leads here, in the router's notation.
+    /// Returns the route that leads here, in the router's notation.
     pub fn path(self) -> &'static str
         ensures { result.now ≡ route_text self.group self.layout }
     {

@@ -44,7 +44,7 @@ impl Routes {
     ghost use Rattle.definitions.specs.Targets.{route};
     ghost use Rattle.routes.specs.Seen.{route_seen};
 
-    /// The table. It fails only where memory runs out.
+    /// Returns the table. It fails only where memory runs out.
     pub fn new(alloc: Global) -> Result<Routes, AllocError> {
         let mut router = Router::new(alloc);
         insert_group(&mut router, Group::Core)?;
@@ -52,8 +52,8 @@ impl Routes {
         Ok(Routes { router })
     }
 
-    /// What a path names; nothing, where it has no route. No part of the path is decoded,
-    /// and the namespace may be any text: see `Target::names_namespace`.
+    /// Returns what a path names; nothing, where it has no route. No part of the path is decoded, and the namespace may be any
+    /// text: see `Target::names_namespace`.
     pub fn read<'p>(&self, path: &'p str) -> Option<Target<'p>>
         ensures { option_map route_seen result ≡ route path.now }
     {

@@ -24,7 +24,7 @@ impl Target<'_> {
     ghost use Rattle.definitions.specs.Targets.{names_namespace};
     ghost use Rattle.routes.specs.Seen.{route_seen};
 
-    /// Whether the namespace, where there is one, is a DNS label of at most 63 bytes.
+    /// Returns whether the namespace, where there is one, is a DNS label of at most 63 bytes.
     pub fn names_namespace(&self) -> bool
         ensures { result ≡ names_namespace (route_seen self.now) }
     {
@@ -59,7 +59,7 @@ fn status<'p>(group: Group, resource: &str, namespace: &'p str, name: &'p str) -
     status_of(group.kind_named(resource)?, namespace, name)
 }
 
-/// The status of an object, where its kind has one.
+/// Returns the status of an object, where its kind has one.
 fn status_of<'p>(kind: Kind, namespace: &'p str, name: &'p str) -> Option<Target<'p>>
     ensures { option_map route_seen result
         ≡ option_map (λ k. status_of (record { kind = k; namespace = namespace.now; name = name.now })) (with_status kind) }
@@ -70,7 +70,7 @@ fn status_of<'p>(kind: Kind, namespace: &'p str, name: &'p str) -> Option<Target
     Some(Target::Status(kind, namespace, name))
 }
 
-/// What a path with these parameters names.
+/// Returns what a path with these parameters names.
 pub(crate) fn assemble<'p>(
     entry: Entry,
     resource: Option<&'p str>,

@@ -7,7 +7,7 @@ use Rattle.std.proofs.lemmas.Str.Ascii.{IsAscii-nil, IsAscii-cons}
 use Rattle.std.proofs.lemmas.List.Sums.{split_at_first, passes_at_first, fails_before_first}
 use Rattle.std.specs.List.{list_all, list_any, slice_split, onto_first, before_first, after_first, position_or_len}
 use Rattle.std.specs.Str.{IsAscii, IsUtf8}
-use Rattle.definitions.specs.Names.{is_letter_or_digit, is_label, is_subdomain}
+use Rattle.definitions.specs.Keys.{is_letter_or_digit, is_label, is_subdomain}
 use Rattle.definitions.specs.Labels.{is_name_byte, is_alphanumeric, is_short_name, is_label_value, is_label_key, is_slash}
 use Rattle.definitions.specs.Selectors.{label_key, label_value}
 

@@ -4,7 +4,7 @@ ghost use Rattle.definitions.specs.SelectorTexts.{is_blank, without_first_blanks
 ghost use Rattle.selector.specs.Cuts.{IsCut, IsFirstPart};
 ghost use Rattle.selector.specs.Seen.{now};
 
-/// Whether a byte is a space or a tab.
+/// Returns whether a byte is a space or a tab.
 pub(crate) fn is_blank(byte: u8) -> bool
     ensures { result ≡ is_blank byte }
 {
@@ -37,14 +37,14 @@ fn trim_end<'t>(text: &'t [u8]) -> &'t [u8]
     rest
 }
 
-/// The text without the blanks around it.
+/// Returns the text without the blanks around it.
 pub(crate) fn trim<'t>(text: &'t [u8]) -> &'t [u8]
     ensures { result.now ≡ trimmed text.now }
 {
     trim_end(trim_start(text))
 }
 
-/// The text before the first such byte, and the text after it.
+/// Returns the text before the first such byte, and the text after it.
 pub(crate) fn cut_at<'t>(text: &'t [u8], byte: u8) -> Option<(&'t [u8], &'t [u8])>
     ensures { IsCut (λ b. b == byte) text.now result }
 {
@@ -57,7 +57,7 @@ pub(crate) fn cut_at<'t>(text: &'t [u8], byte: u8) -> Option<(&'t [u8], &'t [u8]
     None
 }
 
-/// The text before the first blank, and the text after it.
+/// Returns the text before the first blank, and the text after it.
 pub(crate) fn cut_at_blank<'t>(text: &'t [u8]) -> Option<(&'t [u8], &'t [u8])>
     ensures { IsCut is_blank text.now result }
 {
@@ -70,7 +70,7 @@ pub(crate) fn cut_at_blank<'t>(text: &'t [u8]) -> Option<(&'t [u8], &'t [u8])>
     None
 }
 
-/// The text before the last byte, where that is as given.
+/// Returns the text before the last byte, where that is as given.
 pub(crate) fn before_last<'t>(text: &'t [u8], byte: u8) -> Option<&'t [u8]>
     ensures { option_map now result ≡ before_last byte text.now }
 {
@@ -86,14 +86,14 @@ fn ends_part(inside: bool, byte: u8) -> bool
     byte == b',' && !inside
 }
 
-/// Whether the byte after this one stands in parentheses.
+/// Returns whether the byte after this one stands in parentheses.
 fn still_inside(inside: bool, byte: u8) -> bool
     ensures { result ≡ still_inside inside byte }
 {
     byte == b'(' || (inside && !(byte == b')'))
 }
 
-/// The part before the first comma outside parentheses, and the text after it.
+/// Returns the part before the first comma outside parentheses, and the text after it.
 pub(crate) fn first_part<'t>(text: &'t [u8]) -> Option<(&'t [u8], &'t [u8])>
     ensures { IsFirstPart text.now result }
 {

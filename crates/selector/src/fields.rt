@@ -1,7 +1,7 @@
 //! Selectors of fields.
 ghost use Rattle.std.specs.Prelude.{◌≡◌, [], Some, IfOk, IfErr, length, ◌==◌};
 ghost use Rattle.std.specs.List.{list_any, slice_split};
-ghost use Rattle.definitions.specs.SelectorFields.{field_meets, field_named, field_requirement, fields_meet, is_wanted, said_of_fields};
+ghost use Rattle.definitions.specs.SelectorFields.{field_meets, field_named, field_requirement, fields_meet, is_wanted, fields_of_text};
 ghost use Rattle.definitions.specs.SelectorTexts.{is_blank, is_comma};
 ghost use Rattle.definitions.specs.Selectors.{each_read};
 ghost use Rattle.selector.specs.Seen.{Reads, RefusesText, field_requirement_of, field_requirements_of};
@@ -94,7 +94,7 @@ fn field_requirement(alloc: Global, part: &[u8]) -> Result<FieldRequirement, Sto
     }
 }
 
-/// The requirements of a text that is not empty.
+/// Returns the requirements of a text that is not empty.
 fn field_requirements(alloc: Global, text: &[u8]) -> Result<Vec<FieldRequirement>, Stop>
     ensures { Reads (λ v. field_requirements_of v.items) result (each_read field_requirement (slice_split is_comma text.now)) }
 {
@@ -122,7 +122,7 @@ impl FieldRequirement {
     }
 }
 
-/// Whether a name and a namespace meet each requirement.
+/// Returns whether a name and a namespace meet each requirement.
 fn all_are_met(requirements: &Vec<FieldRequirement>, name: &str, namespace: &str) -> bool
     ensures { result ≡ fields_meet (field_requirements_of requirements.now.items) name.now namespace.now }
 {
@@ -135,7 +135,7 @@ fn all_are_met(requirements: &Vec<FieldRequirement>, name: &str, namespace: &str
 }
 
 impl Fields {
-    /// The selector that matches all. It takes no memory.
+    /// Returns the selector that matches all. It takes no memory.
     pub fn everything(alloc: Global) -> Fields
         ensures { result ≡ [] }
     {
@@ -145,10 +145,10 @@ impl Fields {
     }
 
     /// Reads a text, as the query parameter `fieldSelector` has it. The empty text matches all. The errors are a text of
-    /// another form, and want of memory.
+    /// another form, and running out of memory.
     pub fn parse(alloc: Global, text: &str) -> Result<Fields, Fault>
-        ensures read { IfOk result (λ s. said_of_fields text.now ≡ Some s) }
-        ensures refused { IfErr result (RefusesText (said_of_fields text.now)) }
+        ensures read { IfOk result (λ s. fields_of_text text.now ≡ Some s) }
+        ensures refused { IfErr result (RefusesText (fields_of_text text.now)) }
     {
         if text.is_empty() {
             return Ok(Fields::everything(alloc));
@@ -160,14 +160,14 @@ impl Fields {
         }
     }
 
-    /// Whether it has no requirement, and so matches all.
+    /// Returns whether it has no requirement, and so matches all.
     pub fn is_empty(&self) -> bool
         ensures { result ≡ (length self.now == 0) }
     {
         self.requirements.is_empty()
     }
 
-    /// Whether it selects what has this name, in this namespace. It takes no memory.
+    /// Returns whether it selects what has this name, in this namespace. It takes no memory.
     pub fn matches(&self, name: &str, namespace: &str) -> bool
         ensures { result ≡ fields_meet self.now name.now namespace.now }
     {

@@ -7,7 +7,7 @@ use crate::faults::Stop;
 use names::{is_label_key, is_label_value};
 use std::alloc::Global;
 
-/// The bytes as a text, where a label can have them as its key.
+/// Returns the bytes as a text, where a label can have them as its key.
 pub(crate) fn own_key(alloc: Global, bytes: &[u8]) -> Result<String, Stop>
     ensures { Reads string_bytes result (label_key bytes.now) }
 {
@@ -22,7 +22,7 @@ pub(crate) fn own_key(alloc: Global, bytes: &[u8]) -> Result<String, Stop>
     }
 }
 
-/// The bytes as a text, where a label can have them as its value.
+/// Returns the bytes as a text, where a label can have them as its value.
 pub(crate) fn own_value(alloc: Global, bytes: &[u8]) -> Result<String, Stop>
     ensures { Reads string_bytes result (label_value bytes.now) }
 {

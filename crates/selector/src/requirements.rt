@@ -29,7 +29,7 @@ fn is_among(values: &Vec<String>, text: &str) -> bool
     false
 }
 
-/// The value of the label with this key.
+/// Returns the value of the label with this key.
 fn label_at<'l>(labels: Option<&'l Value>, key: &str) -> Option<&'l str>
     ensures { option_map now result ≡ label_at key.now (labels_in labels.entry) }
 {
@@ -60,14 +60,14 @@ impl Requirement {
         }
     }
 
-    /// Whether labels, the value of a `metadata.labels`, meet it. It takes no memory.
+    /// Returns whether labels, the value of a `metadata.labels`, meet it. It takes no memory.
     pub fn is_met(&self, labels: Option<&Value>) -> bool
         ensures { result ≡ meets (requirement_of self.now) (labels_in labels.entry) }
     {
         self.holds(label_at(labels, self.key.as_str()))
     }
 
-    /// Whether an object's labels meet it. It takes no memory.
+    /// Returns whether an object's labels meet it. It takes no memory.
     pub fn is_met_by(&self, object: &StoredObject) -> bool
         ensures { result ≡ meets (requirement_of self.now) (labels_of object.now.value) }
     {

@@ -2,8 +2,8 @@
 ghost use Rattle.std.specs.Prelude.{◌≡◌, [], Some, Ok, IfOk, IfErr, length, ◌==◌};
 ghost use Rattle.serde_json.specs.View.{view};
 ghost use Rattle.definitions.specs.Metadata.{labels_of};
-ghost use Rattle.definitions.specs.SelectorTexts.{said_by_text};
-ghost use Rattle.definitions.specs.SelectorValues.{said_by_value};
+ghost use Rattle.definitions.specs.SelectorTexts.{selector_of_text};
+ghost use Rattle.definitions.specs.SelectorValues.{selector_of_value};
 ghost use Rattle.definitions.specs.Selectors.{meets_all};
 ghost use Rattle.selector.specs.Seen.{RefusesText, RefusesValue, labels_in, requirements_of};
 
@@ -35,7 +35,7 @@ impl Model for Selector {
     ghost view = { λ s. requirements_of s.requirements.items };
 }
 
-/// Whether labels meet each requirement.
+/// Returns whether labels meet each requirement.
 fn all_are_met(requirements: &Vec<Requirement>, labels: Option<&Value>) -> bool
     ensures { result ≡ meets_all (requirements_of requirements.now.items) (labels_in labels.entry) }
 {
@@ -47,7 +47,7 @@ fn all_are_met(requirements: &Vec<Requirement>, labels: Option<&Value>) -> bool
     true
 }
 
-/// Whether an object's labels meet each requirement.
+/// Returns whether an object's labels meet each requirement.
 fn all_are_met_by(requirements: &Vec<Requirement>, object: &StoredObject) -> bool
     ensures { result ≡ meets_all (requirements_of requirements.now.items) (labels_of object.now.value) }
 {
@@ -60,7 +60,7 @@ fn all_are_met_by(requirements: &Vec<Requirement>, object: &StoredObject) -> boo
 }
 
 impl Selector {
-    /// The selector that matches all. It takes no memory.
+    /// Returns the selector that matches all. It takes no memory.
     pub fn everything(alloc: Global) -> Selector
         ensures { result ≡ [] }
     {
@@ -69,11 +69,11 @@ impl Selector {
         }
     }
 
-    /// Reads a text, as the query parameter `labelSelector` has it. The empty text matches all. The errors are a text
-    /// of another form, and want of memory.
+    /// Reads a text, as the query parameter `labelSelector` has it. The empty text matches all. The errors are a text of
+    /// another form, and running out of memory.
     pub fn parse(alloc: Global, text: &str) -> Result<Selector, Fault>
-        ensures read { IfOk result (λ s. said_by_text text.now ≡ Some s) }
-        ensures refused { IfErr result (RefusesText (said_by_text text.now)) }
+        ensures read { IfOk result (λ s. selector_of_text text.now ≡ Some s) }
+        ensures refused { IfErr result (RefusesText (selector_of_text text.now)) }
     {
         if text.is_empty() {
             return Ok(Selector::everything(alloc));
@@ -85,12 +85,12 @@ impl Selector {
         }
     }
 
-    /// Reads a value, as a `spec.selector` is: a member that is null counts as absent. An empty object matches all. The
-    /// errors are a number that is no whole number of 64 bits or a member of a wrong type; a key, an operator or values
-    /// that do not go; and want of memory.
+    /// Reads a value, as a `spec.selector` is: a member that is null counts as absent. An empty object matches all. The errors
+    /// are a number that is no whole number of 64 bits or a member of a wrong type; a key, an operator or values that do not
+    /// go; and running out of memory.
     pub fn of_value(alloc: Global, value: &Value) -> Result<Selector, Fault>
-        ensures read { IfOk result (λ s. said_by_value (view value.now) ≡ Ok s) }
-        ensures refused { IfErr result (RefusesValue (said_by_value (view value.now))) }
+        ensures read { IfOk result (λ s. selector_of_value (view value.now) ≡ Ok s) }
+        ensures refused { IfErr result (RefusesValue (selector_of_value (view value.now))) }
     {
         if !values::is_whole(value) {
             return Err(Fault::Malformed);
@@ -102,21 +102,21 @@ impl Selector {
         }
     }
 
-    /// Whether it has no requirement, and so matches all.
+    /// Returns whether it has no requirement, and so matches all.
     pub fn is_empty(&self) -> bool
         ensures { result ≡ (length self.now == 0) }
     {
         self.requirements.is_empty()
     }
 
-    /// Whether it selects what has these labels, the value of a `metadata.labels`. It takes no memory.
+    /// Returns whether it selects what has these labels, the value of a `metadata.labels`. It takes no memory.
     pub fn matches(&self, labels: Option<&Value>) -> bool
         ensures { result ≡ meets_all self.now (labels_in labels.entry) }
     {
         all_are_met(&self.requirements, labels)
     }
 
-    /// Whether it selects an object. It takes no memory.
+    /// Returns whether it selects an object. It takes no memory.
     pub fn selects(&self, object: &StoredObject) -> bool
         ensures { result ≡ meets_all self.now (labels_of object.now.value) }
     {

@@ -12,7 +12,7 @@ use crate::requirements::Requirement;
 use definitions::selectors::Operator;
 use std::alloc::Global;
 
-/// A requirement without values.
+/// Returns a requirement without values.
 fn bare(alloc: Global, key: &[u8], operator: Operator) -> Result<Requirement, Stop>
     ensures { Reads requirement_of result (requiring (label_key key.now) operator (Some [])) }
 {
@@ -24,7 +24,7 @@ fn bare(alloc: Global, key: &[u8], operator: Operator) -> Result<Requirement, St
     })
 }
 
-/// A requirement with one value.
+/// Returns a requirement with one value.
 pub(crate) fn single(
     alloc: Global,
     key: &[u8],
@@ -59,7 +59,7 @@ fn own_values(alloc: Global, list: &[u8]) -> Result<Vec<String>, Stop>
     Ok(values)
 }
 
-/// The values between parentheses.
+/// Returns the values between parentheses.
 fn listed(alloc: Global, list: &[u8]) -> Result<Vec<String>, Stop>
     ensures { Reads (λ v. texts_of v.items) result (listed_values list.now) }
 {
@@ -118,7 +118,7 @@ pub(crate) fn compare<'t>(left: &'t [u8], right: &'t [u8]) -> (&'t [u8], Operato
     }
 }
 
-/// A requirement that begins with neither a blank nor `!`.
+/// Returns a requirement that begins with neither a blank nor `!`.
 fn plain(alloc: Global, text: &[u8]) -> Result<Requirement, Stop>
     ensures { Reads requirement_of result (plain_requirement text.now) }
 {
@@ -148,7 +148,7 @@ fn requirement(alloc: Global, part: &[u8]) -> Result<Requirement, Stop>
     }
 }
 
-/// The requirements of a text that is not empty.
+/// Returns the requirements of a text that is not empty.
 pub(crate) fn requirements(alloc: Global, text: &[u8]) -> Result<Vec<Requirement>, Stop>
     ensures { Reads (λ v. requirements_of v.items) result (each_read requirement (parts text.now)) }
 {

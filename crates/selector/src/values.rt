@@ -22,7 +22,7 @@ use std::alloc::Global;
 /// What a selector has to be.
 const SHAPE: Shape = Shape::Object(Schema::Selector);
 
-/// A text, or the empty one where none is.
+/// Returns a text, or the empty one where none is.
 fn text_in<'v>(found: Option<&'v Value>) -> &'v str
     ensures { result.now ≡ text_in (found_value found.entry) }
 {
@@ -51,7 +51,7 @@ fn operator_named(word: &str) -> Option<Operator>
     }
 }
 
-/// The requirement of one of `matchLabels`.
+/// Returns the requirement of one of `matchLabels`.
 fn label_requirement(alloc: Global, key: &str, value: &Value) -> Result<Requirement, Stop>
     ensures { Reads requirement_of result (requiring (label_key key.now) Operator.In (each_read label_value (text_in (Some (view value.now)) ∷ []))) }
 {
@@ -97,7 +97,7 @@ fn listed(alloc: Global, found: Option<&Value>) -> Result<Vec<String>, Stop>
     }
 }
 
-/// Whether values go with an operator: some, or none.
+/// Returns whether values go with an operator: some, or none.
 fn goes_with(operator: Operator, values: &Vec<String>) -> bool
     ensures { fitting operator (texts_of values.now.items) ≡ (if result then Some (texts_of values.now.items) else None) }
 {
@@ -118,7 +118,7 @@ fn fitting(operator: Operator, values: Vec<String>) -> Result<Vec<String>, Stop>
     Ok(values)
 }
 
-/// One of `matchExpressions`.
+/// Returns one of `matchExpressions`.
 fn expression(alloc: Global, value: &Value) -> Result<Requirement, Stop>
     ensures { Reads requirement_of result (expression_requirement (view value.now)) }
 {
@@ -172,7 +172,7 @@ fn expressions_in(alloc: Global, found: Option<&Value>) -> Result<Vec<Requiremen
     }
 }
 
-/// The requirements of a value without null members, whose known members have their types.
+/// Returns the requirements of a value without null members, whose known members have their types.
 fn requirements_in(alloc: Global, value: &Value) -> Result<Vec<Requirement>, Stop>
     ensures { Reads (λ v. requirements_of v.items) result (requirements_in (view value.now)) }
 {
@@ -182,14 +182,14 @@ fn requirements_in(alloc: Global, value: &Value) -> Result<Vec<Requirement>, Sto
     Ok(found)
 }
 
-/// Whether each number in a selector's value is whole, and its known members have their types.
+/// Returns whether each number in a selector's value is whole, and its known members have their types.
 pub(crate) fn is_whole(value: &Value) -> bool
     ensures { result ≡ (not (has_float (view value.now)) && fits selector_shape (view value.now)) }
 {
     !has_float(value) && fits(value, SHAPE)
 }
 
-/// The requirements of such a value, of which the members that are null count as absent.
+/// Returns the requirements of such a value, of which the members that are null count as absent.
 pub(crate) fn requirements(alloc: Global, value: &Value) -> Result<Vec<Requirement>, Stop>
     ensures { Reads (λ v. requirements_of v.items) result (requirements_in (tidied selector_shape (view value.now))) }
 {

@@ -1,7 +1,7 @@
 //! Views.
 ghost use Rattle.std.specs.Prelude.{◌≡◌};
 ghost use Rattle.definitions.specs.History.{in_view};
-ghost use Rattle.meta.specs.Keys.{name_of};
+ghost use Rattle.meta.specs.Keys.{key_of};
 
 use crate::fields::Fields;
 use crate::selectors::Selector;
@@ -28,7 +28,7 @@ impl View {
     ghost use Rattle.definitions.specs.Lists.{is_selective};
     ghost use Rattle.selector.specs.Views.{view_of};
 
-    /// All objects of a kind, in one namespace or in all. It takes no memory.
+    /// Returns all objects of a kind, in one namespace or in all. It takes no memory.
     pub fn whole(alloc: Global, kind: Kind, namespace: Option<String>) -> View
         ensures { view_of result ≡ whole kind (option_map string_bytes namespace) }
     {
@@ -40,14 +40,14 @@ impl View {
         }
     }
 
-    /// Whether the view selects by labels or fields, and not by kind and namespace alone. It takes no memory.
+    /// Returns whether the view selects by labels or fields, and not by kind and namespace alone. It takes no memory.
     pub fn is_selective(&self) -> bool
         ensures { result ≡ is_selective (view_of self.now) }
     {
         !(self.labels.is_empty() && self.fields.is_empty())
     }
 
-    /// Whether the view asks for a namespace.
+    /// Returns whether the view asks for a namespace.
     fn has_namespace(&self, namespace: &str) -> bool
         ensures { result ≡ in_namespace (option_map string_bytes self.now.namespace) namespace.now }
     {
@@ -57,9 +57,9 @@ impl View {
         }
     }
 
-    /// Whether the view asks for an object under a key. It takes no memory.
+    /// Returns whether the view asks for an object under a key. It takes no memory.
     pub fn contains(&self, key: &Key, object: &StoredObject) -> bool
-        ensures { result ≡ in_view (view_of self.now) (name_of key.now) object.now.value }
+        ensures { result ≡ in_view (view_of self.now) (key_of key.now) object.now.value }
     {
         self.kind == key.kind
             && self.has_namespace(key.namespace.as_str())

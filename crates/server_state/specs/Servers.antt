@@ -13,8 +13,8 @@ use Rattle.definitions.specs.WatchReplies.{lines_by}
 use Rattle.server_state.specs.Snapshots.{Snapshot, empty, snapshot, written}
 use Rattle.definitions.specs.declared.versions.At.{At}
 use Rattle.definitions.specs.Versions.{Listed, Watched, once_present, listed_at, watched}
-use Rattle.definitions.specs.Windows.{Kept}
-use Rattle.server_state.specs.Recorded.{Window, opened, recorded, compacted_to, since_kept, list_kept, Tracks}
+use Rattle.definitions.specs.Windows.{Change}
+use Rattle.server_state.specs.Recorded.{Window, opened, recorded, compacted_to, recorded_since, recorded_list, IsWindowAfter}
 
 -- what is there, and the last writes of each kind
 pub record Server : Type 0 where
@@ -46,12 +46,12 @@ with_window Deployment w s = record s { deployments = w }
 -- ---- what happens
 
 -- the next write, as a window keeps it
-abbrev pub kept_at : Snapshot → Write → Kept
-kept_at s w = record { revision = s.revision + 1; key = w.key; old = found w.key s.members; new = w.put }
+abbrev pub change_at : Snapshot → Write → Change
+change_at s w = record { revision = s.revision + 1; key = w.key; old = found w.key s.members; new = w.put }
 
 -- a write changes what is there, and the window of its kind records it
 abbrev pub after_write : Server → Write → Server
-after_write s w = with_window w.key.kind (recorded (window_of w.key.kind s) (kept_at s.snapshot w)) (record s { snapshot = written s.snapshot w })
+after_write s w = with_window w.key.kind (recorded (window_of w.key.kind s) (change_at s.snapshot w)) (record s { snapshot = written s.snapshot w })
 
 -- after an answer's write, if it has one
 abbrev pub after_writing : Server → Option Write → Server
@@ -81,11 +81,11 @@ after_entries s (compaction r ∷ h) = after_entries (after_compaction s r) h
 abbrev pub list_by : Server → View → At → Result Listed Refusal
 list_by s v at =
     let listed = viewed v s.snapshot.members in
-    listed_at s.snapshot.revision listed (list_kept (window_of v.kind s) s.snapshot.revision listed v) at
+    listed_at s.snapshot.revision listed (recorded_list (window_of v.kind s) s.snapshot.revision listed v) at
 
 -- the first n changes of the view after a, and where the watch then stands
 abbrev pub watch_by : Server → View → ℕ → ℕ → Result Watched Refusal
-watch_by s v a n = result_map_both (watched s.snapshot.revision a n) (λ f. f) (since_kept (window_of v.kind s) s.snapshot.revision v a (n + 1))
+watch_by s v a n = result_map_both (watched s.snapshot.revision a n) (λ f. f) (recorded_since (window_of v.kind s) s.snapshot.revision v a (n + 1))
 
 -- the page of a list that is asked
 abbrev pub list_served : Server → View → ListOptions → Outcome
@@ -103,8 +103,8 @@ compact_by s r = once_present s.snapshot.revision r (after_compaction s r)
 
 -- a window of the kind and of this size that follows the history
 abbrev pub IsWindow : ℕ → Kind → History → Window → Type 0
-IsWindow size k h w = (w.kind ≡ k) × (w.size ≡ size) × Tracks w h
+IsWindow size k h w = (w.kind ≡ k) × (w.size ≡ size) × IsWindowAfter w h
 
 -- what is there is what the history left there, and each window is of its kind and follows the history
-abbrev pub Holds : ℕ → Server → History → Type 0
-Holds size s h = (s.snapshot ≡ snapshot h) × ((k : Kind) → IsWindow size k h (window_of k s))
+abbrev pub IsServerAfter : ℕ → Server → History → Type 0
+IsServerAfter size s h = (s.snapshot ≡ snapshot h) × ((k : Kind) → IsWindow size k h (window_of k s))

@@ -10,7 +10,7 @@ use Rattle.definitions.specs.Replies.{outcome, watch_reply, compact_reply, histo
 use Rattle.definitions.specs.Lists.{list_answer}
 use Rattle.definitions.specs.Refusals.{Refusal}
 use Rattle.laws.specs.ServerLaws.{HoldOrRefuse}
-use Rattle.server_state.specs.Servers.{Server, Holds, after_writing, list_by, compact_by, watch_served}
+use Rattle.server_state.specs.Servers.{Server, IsServerAfter, after_writing, list_by, compact_by, watch_served}
 use Rattle.definitions.specs.Streams as streams
 use Rattle.definitions.specs.Targets.{Asked, request, list, watch, read_request}
 use Rattle.definitions.specs.Verbs.{refused, write_of, accept_at, accept, history_after}
@@ -37,15 +37,15 @@ same_reply held s is (Ok (list v o)) = ap outcome (pages_held s.window held.serv
 same_reply held s is (Ok (watch v o)) = ap (watch_reply v.kind) (lines_held s.window held.server s.history v o is.0)
 
 -- lists and watches write nothing
-list_still : (v : View) (o : ListOptions) (size : ℕ) (s : Server) (h : History) (served listed : Result Listed Refusal) → Holds size s h
-    → Holds size (server_from s (outcome (list_answer v o served))) (history_from h (outcome (list_answer v o listed)))
+list_still : (v : View) (o : ListOptions) (size : ℕ) (s : Server) (h : History) (served listed : Result Listed Refusal) → IsServerAfter size s h
+    → IsServerAfter size (server_from s (outcome (list_answer v o served))) (history_from h (outcome (list_answer v o listed)))
 list_still v o size s h (Err f) (Err g) is = is
 list_still v o size s h (Err f) (Ok l) is = is
 list_still v o size s h (Ok l) (Err g) is = is
 list_still v o size s h (Ok l) (Ok m) is = is
 
-watch_still : (k : Kind) (size : ℕ) (s : Server) (h : History) (served shown : Result (List streams.Line) Refusal) → Holds size s h
-    → Holds size (server_from s (watch_reply k served)) (history_from h (watch_reply k shown))
+watch_still : (k : Kind) (size : ℕ) (s : Server) (h : History) (served shown : Result (List streams.Line) Refusal) → IsServerAfter size s h
+    → IsServerAfter size (server_from s (watch_reply k served)) (history_from h (watch_reply k shown))
 watch_still k size s h (Err f) (Err g) is = is
 watch_still k size s h (Err f) (Ok ls) is = is
 watch_still k size s h (Ok ls) (Err g) is = is
@@ -53,10 +53,10 @@ watch_still k size s h (Ok ls) (Ok ms) is = is
 
 -- what is held after what is asked
 holds_after : (held : Held) (s : answers.Session) → Follows held s → (a : Result Asked Refusal)
-    → Holds s.window (server_from held.server (reply_for held a)) (history_from s.history (answers.reply_for s a))
+    → IsServerAfter s.window (server_from held.server (reply_for held a)) (history_from s.history (answers.reply_for s a))
 holds_after held s is (Err f) = is.0
 holds_after held s is (Ok (request q)) =
-    subst (λ o. Holds s.window (after_writing held.server (write_of o)) (history_after s.history (accept q s.history s.moment))) (sym (same_outcome held s is q))
+    subst (λ o. IsServerAfter s.window (after_writing held.server (write_of o)) (history_after s.history (accept q s.history s.moment))) (sym (same_outcome held s is q))
     (accepted_holds s.window held.server s.history q s.moment is.0).1
 holds_after held s is (Ok (list v o)) =
     list_still v o s.window held.server s.history (list_by held.server v o.at) (list_for s.window s.history v o.at) is.0
@@ -71,8 +71,8 @@ same_compaction size (Err f) (Ok h) e = absurd e
 same_compaction size (Ok s) (Err g) e = absurd e
 same_compaction size (Ok s) (Ok h) e = refl
 
-holds_compacted : (size : ℕ) (s : Server) (h : History) (a : Result Server Refusal) (b : Result History Refusal) → HoldOrRefuse size a b → Holds size s h
-    → Holds size (server_or s a) (history_from h (compact_reply b))
+holds_compacted : (size : ℕ) (s : Server) (h : History) (a : Result Server Refusal) (b : Result History Refusal) → HoldOrRefuse size a b → IsServerAfter size s h
+    → IsServerAfter size (server_or s a) (history_from h (compact_reply b))
 holds_compacted size s h (Err f) (Err g) e is = is
 holds_compacted size s h (Err f) (Ok more) e is = absurd e
 holds_compacted size s h (Ok t) (Err g) e is = absurd e

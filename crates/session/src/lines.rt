@@ -4,12 +4,12 @@ ghost use Rattle.definitions.specs.Frames.{frame_text};
 ghost use Rattle.line_protocol.specs.Lines.{line_text, reply_text};
 ghost use Rattle.definitions.specs.Replies.{outcome, shown};
 ghost use Rattle.definitions.specs.Refusals.{success_body};
-ghost use Rattle.definitions.specs.Streams.{change, event_of, text_of, added_lines};
+ghost use Rattle.definitions.specs.Streams.{event as change, frame_of, text_of, added_lines};
 ghost use Rattle.definitions.specs.Verbs.{refused};
 ghost use Rattle.meta.specs.Faults.{refusal_of};
 ghost use Rattle.meta.specs.Members.{member_of};
 ghost use Rattle.meta.specs.declared.faults.Fault.TheVariants as faults;
-ghost use Rattle.revisions.specs.Events.{change_seen};
+ghost use Rattle.revisions.specs.Events.{event_seen};
 ghost use Rattle.revisions.specs.Watches.{last_bookmark};
 ghost use Rattle.session.specs.Shown.{line_seen};
 
@@ -33,7 +33,7 @@ enum Shown<'a> {
 /// How many bytes a reply line has more than its text: a code's five digits at the most, the space and the end of the line.
 const MOST_ADDED: usize = 7;
 
-/// A code, a space, a text and the end of the line.
+/// Returns a code, a space, a text and the end of the line.
 pub fn line(alloc: Global, code: u16, text: &str) -> Result<Vec<u8>, AllocError>
     ensures { IfOk result (λ l. l.items ≡ decimal code ++ (32 ∷ (text.now ++ 10 ∷ []))) }
 {
@@ -46,7 +46,7 @@ pub fn line(alloc: Global, code: u16, text: &str) -> Result<Vec<u8>, AllocError>
     Ok(line)
 }
 
-/// The line that refuses a request.
+/// Returns the line that refuses a request.
 pub fn refusal_line(alloc: Global, fault: &Fault) -> Result<Vec<u8>, AllocError>
     ensures { IfOk result (λ l. l.items ≡ reply_text (outcome (refused (refusal_of fault.now)))) }
 {
@@ -54,7 +54,7 @@ pub fn refusal_line(alloc: Global, fault: &Fault) -> Result<Vec<u8>, AllocError>
     line(alloc, reply.code, reply.text.as_str())
 }
 
-/// The line that refuses what a fault refuses. Want of memory is no refusal, and stays an error.
+/// Returns the line that refuses what a fault refuses. Running out of memory is no refusal, and stays an error.
 pub fn fault_line(alloc: Global, fault: &Fault) -> Result<Vec<u8>, AllocError>
     ensures text { IfOk result (λ l. l.items ≡ reply_text (outcome (refused (refusal_of fault.now)))) }
     ensures memory { IfOk result (λ l. fault.now ≢ faults.NoMemory) }
@@ -65,7 +65,7 @@ pub fn fault_line(alloc: Global, fault: &Fault) -> Result<Vec<u8>, AllocError>
     }
 }
 
-/// The line of a success that answers no object.
+/// Returns the line of a success that answers no object.
 pub fn success_line(alloc: Global) -> Result<Vec<u8>, AllocError>
     ensures { IfOk result (λ l. l.items ≡ line_text 200 (success_body None)) }
 {
@@ -73,9 +73,9 @@ pub fn success_line(alloc: Global) -> Result<Vec<u8>, AllocError>
     line(alloc, 200, text.as_str())
 }
 
-/// The text of a line of a watch of a kind.
+/// Returns the text of a line of a watch of a kind.
 fn shown_text(alloc: Global, kind: Kind, shown: Shown<'_>) -> Result<String, AllocError>
-    ensures { IfOk result (λ t. string_bytes t ≡ frame_text (event_of kind (line_seen shown.entry))) }
+    ensures { IfOk result (λ t. string_bytes t ≡ frame_text (frame_of kind (line_seen shown.entry))) }
 {
     match shown {
         Shown::Change(event) => framing::frame_text(alloc, event),
@@ -91,7 +91,7 @@ fn push_shown(
     shown: Shown<'_>,
     text: &mut Vec<u8>,
 ) -> Result<(), AllocError>
-    ensures { OnOk result (text.new.items ≡ text.old.items ++ frame_text (event_of kind (line_seen shown.entry))) }
+    ensures { OnOk result (text.new.items ≡ text.old.items ++ frame_text (frame_of kind (line_seen shown.entry))) }
 {
     let line = shown_text(alloc, kind, shown)?;
     text.extend_from_slice(line.as_bytes())?;
@@ -105,7 +105,7 @@ fn push_changes(
     events: &[Event],
     text: &mut Vec<u8>,
 ) -> Result<(), AllocError>
-    ensures { OnOk result (text.new.items ≡ text.old.items ++ text_of kind (map change (map change_seen events.now))) }
+    ensures { OnOk result (text.new.items ≡ text.old.items ++ text_of kind (map change (map event_seen events.now))) }
 {
     for event in events {
         push_shown(alloc, kind, Shown::Change(event), text)?;
@@ -128,7 +128,7 @@ fn push_members(
     Ok(())
 }
 
-/// The line that says how many lines of a watch follow.
+/// Returns the line that says how many lines of a watch follow.
 fn count_line(alloc: Global, count: usize) -> Result<Vec<u8>, AllocError>
     ensures { IfOk result (λ l. l.items ≡ codes "200 watch " ++ (decimal count ++ 10 ∷ [])) }
 {
@@ -140,7 +140,7 @@ fn count_line(alloc: Global, count: usize) -> Result<Vec<u8>, AllocError>
     Ok(line)
 }
 
-/// The lines of a watch that shows changes and then, if it is to, a bookmark.
+/// Returns the lines of a watch that shows changes and then, if it is to, a bookmark.
 pub fn change_lines(
     alloc: Global,
     kind: Kind,
@@ -148,7 +148,7 @@ pub fn change_lines(
     bookmark: Option<u64>,
 ) -> Result<Vec<u8>, AllocError>
     ensures { IfOk result (λ l. l.items
-        ≡ reply_text (shown kind (map change (map change_seen events.now) ++ last_bookmark bookmark))) }
+        ≡ reply_text (shown kind (map change (map event_seen events.now) ++ last_bookmark bookmark))) }
 {
     match bookmark {
         None => {
@@ -165,7 +165,7 @@ pub fn change_lines(
     }
 }
 
-/// The lines of a watch that shows what is there.
+/// Returns the lines of a watch that shows what is there.
 pub fn initial_lines(
     alloc: Global,
     kind: Kind,

@@ -55,8 +55,8 @@ impl Session {
     ghost use Rattle.session.specs.Held.{begun, accepted, reply_for, compact_text, server_from, server_or};
     ghost use Rattle.verbs.specs.Requests.{request_of};
 
-    /// A session over a server where nothing is there, at the start of 2026, that keeps the last `window` changes of each
-    /// kind. The error is want of memory.
+    /// Returns a session over a server where nothing is there, at the start of 2026, that keeps the last `window` changes of
+    /// each kind. The error is running out of memory.
     pub fn new(alloc: Global, window: usize) -> Result<Session, AllocError>
         ensures { IfOk result (λ s. s ≡ begun window) }
     {
@@ -67,14 +67,14 @@ impl Session {
         })
     }
 
-    /// The reply to a request with what it writes, or why it is refused.
+    /// Returns the reply to a request with what it writes, or why it is refused.
     fn outcome(&self, alloc: Global, request: Request) -> Result<(Reply, Option<Write>), Fault>
         ensures { answers.Serves (accepted self.now (request_of request)) result }
     {
         self.server.answer(alloc, request, self.moment)
     }
 
-    /// Takes what a reply writes, for which there is room. An error, want of memory, changes nothing.
+    /// Takes what a reply writes, for which there is room. An error, running out of memory, changes nothing.
     fn take(&mut self, write: Option<Write>) -> Result<(), AllocError>
         requires { IfSome (option_map write_of write) (λ w.
             overflows self.old.server.snapshot.members self.old.server.snapshot.revision w ≡ false) }
@@ -91,7 +91,8 @@ impl Session {
         }
     }
 
-    /// The reply line to a request, after which what it writes is written. An error, want of memory, changes nothing.
+    /// Returns the reply line to a request, after which what it writes is written. An error, running out of memory, changes
+    /// nothing.
     fn accept(&mut self, alloc: Global, request: Request) -> Result<Vec<u8>, AllocError>
         ensures text { IfOk result (λ l. l.items ≡ reply_text (outcome (accepted self.old (request_of request)))) }
         ensures server { OnOk result (self.new.server
@@ -110,7 +111,7 @@ impl Session {
         }
     }
 
-    /// The reply to a list, or why it is refused.
+    /// Returns the reply to a list, or why it is refused.
     fn listed(&self, alloc: Global, view: &View, options: &ListOptions) -> Result<Reply, Fault>
         ensures { Lists (list_served self.now.server (view_of view.now) (list_seen options.now)) result }
     {
@@ -119,7 +120,7 @@ impl Session {
             .list(alloc, view, options.at, options.limit, after)
     }
 
-    /// The reply line to a list.
+    /// Returns the reply line to a list.
     fn list(&self, alloc: Global, view: &View, options: &ListOptions) -> Result<Vec<u8>, AllocError>
         ensures { IfOk result (λ l. l.items
             ≡ reply_text (outcome (list_served self.now.server (view_of view.now) (list_seen options.now)))) }
@@ -130,7 +131,7 @@ impl Session {
         }
     }
 
-    /// All changes of a view after a revision: there are fewer than the present revision.
+    /// Returns all changes of a view after a revision: there are fewer than the present revision.
     fn watched(&self, alloc: Global, view: &View, from: u64) -> Result<Watched, Fault>
         ensures { Serves watched_of (watch_by self.now.server (view_of view.now) from self.now.server.snapshot.revision) result }
     {
@@ -138,7 +139,7 @@ impl Session {
         self.server.watch_from(alloc, view, from, most)
     }
 
-    /// The lines of a watch: what is there, or the changes after a revision.
+    /// Returns the lines of a watch: what is there, or the changes after a revision.
     fn show(&self, alloc: Global, view: &View, options: WatchOptions) -> Result<Vec<u8>, AllocError>
         ensures { IfOk result (λ l. l.items
             ≡ reply_text (watch_reply view.now.kind (watch_served self.now.server (view_of view.now) (watch_seen options)))) }
@@ -156,7 +157,7 @@ impl Session {
         }
     }
 
-    /// The reply line to a compaction. An error, want of memory, changes nothing.
+    /// Returns the reply line to a compaction. An error, running out of memory, changes nothing.
     fn compact(&mut self, alloc: Global, revision: u64) -> Result<Vec<u8>, AllocError>
         ensures text { IfOk result (λ l. l.items ≡ compact_text (compact_by self.old.server revision)) }
         ensures server { OnOk result (self.new.server ≡ server_or self.old.server (compact_by self.old.server revision)) }
@@ -170,8 +171,8 @@ impl Session {
         }
     }
 
-    /// The reply lines to what is asked, after which what it writes is written. An error, want of memory, changes
-    /// nothing.
+    /// Returns the reply lines to what is asked, after which what it writes is written. An error, running out of memory,
+    /// changes nothing.
     fn answer(
         &mut self,
         alloc: Global,

@@ -30,14 +30,14 @@ impl Model for Moment {
     ghost inverse = { λ t. record { bytes = t } };
 }
 
-/// Whether the byte is a decimal digit.
+/// Returns whether the byte is a decimal digit.
 fn is_digit(byte: u8) -> bool
     ensures { result ≡ is_digit byte }
 {
     b'0' <= byte && byte <= b'9'
 }
 
-/// Whether a byte may stand where the form has this mark.
+/// Returns whether a byte may stand where the form has this mark.
 fn fits(mark: u8, byte: u8) -> bool
     ensures { result ≡ fits mark byte }
 {
@@ -48,21 +48,21 @@ fn fits(mark: u8, byte: u8) -> bool
     }
 }
 
-/// Whether each byte of the text fits its mark, as far as both go.
+/// Returns whether each byte of the text fits its mark, as far as both go.
 fn has_marks(text: &[u8]) -> bool
     ensures { result ≡ list_all (λ p. fits p.0 p.1) (zip (codes "0000-00-00T00:00:00Z") text.now) }
 {
     FORM.iter().zip(text).all(|(mark, byte)| fits(*mark, *byte))
 }
 
-/// Whether the text has digits and marks as the form has them.
+/// Returns whether the text has digits and marks as the form has them.
 fn has_form(text: &[u8]) -> bool
     ensures { result ≡ has_form (codes "0000-00-00T00:00:00Z") text.now }
 {
     text.len() == FORM.len() && has_marks(text)
 }
 
-/// The number that a few digits spell.
+/// Returns the number that a few digits spell.
 fn number(digits: &[u8]) -> u16
     requires few { length digits.now ≤ 4 }
     requires digits { list_all is_digit digits.now ≡ true }
@@ -76,7 +76,7 @@ fn number(digits: &[u8]) -> u16
     number
 }
 
-/// Whether the calendar has the day.
+/// Returns whether the calendar has the day.
 fn is_day(year: u16, month: u16, day: u16) -> bool
     requires year { year < 10000 }
     requires month { month < 100 }
@@ -86,14 +86,14 @@ fn is_day(year: u16, month: u16, day: u16) -> bool
     Date::new(year as i16, month as i8, day as i8).is_ok()
 }
 
-/// Whether a day has the second.
+/// Returns whether a day has the second.
 fn is_time(hour: u16, minute: u16, second: u16) -> bool
     ensures { result ≡ (nat_le hour 23 && nat_le minute 59 && nat_le second 59) }
 {
     hour <= 23 && minute <= 59 && second <= 59
 }
 
-/// Whether the text is a moment.
+/// Returns whether the text is a moment.
 fn is_moment(text: &[u8]) -> bool
     ensures { result ≡ is_moment text.now }
 {
@@ -115,7 +115,7 @@ impl Moment {
     ghost use Rattle.definitions.specs.Replies.{default_window};
     ghost use Rattle.definitions.specs.Moments.{is_moment};
 
-    /// The moment at which a session begins, `2026-01-01T00:00:00Z`.
+    /// Returns the moment at which a session begins, `2026-01-01T00:00:00Z`.
     pub fn start() -> Moment
         ensures { result ≡ (start default_window).moment }
     {
@@ -124,7 +124,7 @@ impl Moment {
         }
     }
 
-    /// The moment that a text writes, if it writes one.
+    /// Returns the moment that a text writes, if it writes one.
     pub fn parse(text: &[u8]) -> Option<Moment>
         ensures { result ≡ (if is_moment text.now then Some text.now else None) }
     {
@@ -136,7 +136,7 @@ impl Moment {
         Some(Moment { bytes })
     }
 
-    /// The text's bytes.
+    /// Returns the text's bytes.
     pub fn as_bytes(&self) -> &[u8]
         ensures text { result.now ≡ self.now }
         ensures moment { is_moment self.now ≡ true }
@@ -144,7 +144,7 @@ impl Moment {
         &self.bytes
     }
 
-    /// The text.
+    /// Returns the text.
     pub fn as_str(&self) -> &str
         ensures text { result.now ≡ self.now }
         ensures moment { is_moment self.now ≡ true }

@@ -11,7 +11,7 @@ const VERSION: u64 = 0x8000;
 /// The variant 10, above the 62 bits of the revision.
 const VARIANT: u64 = 0x8000_0000_0000_0000;
 
-/// The uid of the object that a cluster created at a revision: a UUID of version 8, hyphenated and in lower case.
+/// Returns the uid of the object that a cluster created at a revision: a UUID of version 8, hyphenated and in lower case.
 pub fn uid_text(alloc: Global, cluster: u64, revision: u64) -> Result<String, AllocError>
     requires cluster { cluster < 2 ^ 48 }
     requires revision { revision < 2 ^ 62 }

@@ -15,13 +15,13 @@ use Rattle.definitions.specs.History.{View, Members, in_view, in_namespace, view
 use Rattle.definitions.specs.Kinds.{rank}
 use Rattle.definitions.specs.Metadata.{labels_of}
 use Rattle.definitions.specs.Lists.{is_selective}
-use Rattle.definitions.specs.Names.{Name, name_cmp}
+use Rattle.definitions.specs.Keys.{Key as Name, key_cmp as name_cmp}
 use Rattle.definitions.specs.Pages.{Place, is_after, after_place}
 use Rattle.definitions.specs.SelectorFields.{FieldRequirement, fields_meet}
 use Rattle.definitions.specs.Selectors.{Requirement, meets_all}
 use Rattle.definitions.specs.declared.kinds.Kind.{Kind}
 use Rattle.definitions.specs.declared.kinds.Kind.TheVariants.{ConfigMap, Pod, ReplicaSet, Deployment}
-use Rattle.meta.specs.Keys.{name_of}
+use Rattle.meta.specs.Keys.{key_of}
 use Rattle.meta.specs.declared.keys.Key.{Key}
 use Rattle.meta.specs.declared.stored.StoredObject.{StoredObject}
 use Rattle.meta.proofs.KeyOrder.{key_cmp-name_cmp}
@@ -300,15 +300,15 @@ all-asked v plain k d from below =
 -- ---- entries
 
 -- an entry of a filtered map, where the test is whether the entry is after the place if the view asks for it
-kept_at : (v : View) (p : Option Place) (e : Key × StoredObject) (es : List (Key × StoredObject)) (b : Bool) → (in_view v (name_of e.0) e.1.value ≡ true → b ≡ is_after p (name_of e.0))
-    → viewed v (members_seen (cond b (e ∷ es) es)) ≡ cond (in_view v (name_of e.0) e.1.value) (cond (is_after p (name_of e.0)) ((name_of e.0, e.1.value) ∷ viewed v (members_seen es)) (viewed v (members_seen es))) (viewed v (members_seen es))
-kept_at v p e es b same = by b (in_view v (name_of e.0) e.1.value) refl (is_after p (name_of e.0)) same
+kept_at : (v : View) (p : Option Place) (e : Key × StoredObject) (es : List (Key × StoredObject)) (b : Bool) → (in_view v (key_of e.0) e.1.value ≡ true → b ≡ is_after p (key_of e.0))
+    → viewed v (members_seen (cond b (e ∷ es) es)) ≡ cond (in_view v (key_of e.0) e.1.value) (cond (is_after p (key_of e.0)) ((key_of e.0, e.1.value) ∷ viewed v (members_seen es)) (viewed v (members_seen es))) (viewed v (members_seen es))
+kept_at v p e es b same = by b (in_view v (key_of e.0) e.1.value) refl (is_after p (key_of e.0)) same
   where
-    by : (b c : Bool) → in_view v (name_of e.0) e.1.value ≡ c → (a : Bool) → (c ≡ true → b ≡ a)
-        → viewed v (members_seen (cond b (e ∷ es) es)) ≡ cond c (cond a ((name_of e.0, e.1.value) ∷ viewed v (members_seen es)) (viewed v (members_seen es))) (viewed v (members_seen es))
-    by true true is true same = ap (λ c. cond c ((name_of e.0, e.1.value) ∷ viewed v (members_seen es)) (viewed v (members_seen es))) is
+    by : (b c : Bool) → in_view v (key_of e.0) e.1.value ≡ c → (a : Bool) → (c ≡ true → b ≡ a)
+        → viewed v (members_seen (cond b (e ∷ es) es)) ≡ cond c (cond a ((key_of e.0, e.1.value) ∷ viewed v (members_seen es)) (viewed v (members_seen es))) (viewed v (members_seen es))
+    by true true is true same = ap (λ c. cond c ((key_of e.0, e.1.value) ∷ viewed v (members_seen es)) (viewed v (members_seen es))) is
     by true true is false same = let not_so : true ≡ false = same refl in cc
-    by true false is a same = ap (λ c. cond c ((name_of e.0, e.1.value) ∷ viewed v (members_seen es)) (viewed v (members_seen es))) is
+    by true false is a same = ap (λ c. cond c ((key_of e.0, e.1.value) ∷ viewed v (members_seen es)) (viewed v (members_seen es))) is
     by false true is true same = let not_so : false ≡ true = same refl in cc
     by false true is false same = refl
     by false false is a same = refl
@@ -318,29 +318,29 @@ after_cond p true m ms = refl
 after_cond p false m ms = refl
 
 -- what passes a test has what the view asks for after a place, if the test tells that of each key that it asks for
-kept : (v : View) (p : Option Place) (test : Key → Bool) → ((k : Key) (d : Data) → in_view v (name_of k) d ≡ true → test k ≡ is_after p (name_of k)) → (es : List (Key × StoredObject))
+kept : (v : View) (p : Option Place) (test : Key → Bool) → ((k : Key) (d : Data) → in_view v (key_of k) d ≡ true → test k ≡ is_after p (key_of k)) → (es : List (Key × StoredObject))
     → viewed v (members_seen (filter (λ e. test e.0) es)) ≡ after_place p (viewed v (members_seen es))
 kept v p test same [] = refl
 kept v p test same (e ∷ es) =
     kept_at v p e (filter (λ (e : Key × StoredObject). test e.0) es) (test e.0) (same e.0 e.1.value)
-    ∙ ap (λ ms. cond (in_view v (name_of e.0) e.1.value) (cond (is_after p (name_of e.0)) ((name_of e.0, e.1.value) ∷ ms) ms) ms) (kept v p test same es)
-    ∙ sym (after_cond p (in_view v (name_of e.0) e.1.value) (name_of e.0, e.1.value) (viewed v (members_seen es)))
+    ∙ ap (λ ms. cond (in_view v (key_of e.0) e.1.value) (cond (is_after p (key_of e.0)) ((key_of e.0, e.1.value) ∷ ms) ms) ms) (kept v p test same es)
+    ∙ sym (after_cond p (in_view v (key_of e.0) e.1.value) (key_of e.0, e.1.value) (viewed v (members_seen es)))
 
 -- where the view asks for each that passes a test, it asks for all of what passes it
-all_kept : (v : View) (test : Key → Bool) → ((k : Key) (d : Data) → test k ≡ true → in_view v (name_of k) d ≡ true) → (es : List (Key × StoredObject))
+all_kept : (v : View) (test : Key → Bool) → ((k : Key) (d : Data) → test k ≡ true → in_view v (key_of k) d ≡ true) → (es : List (Key × StoredObject))
     → viewed v (members_seen (filter (λ e. test e.0) es)) ≡ members_seen (filter (λ e. test e.0) es)
 all_kept v test all [] = refl
 all_kept v test all (e ∷ es) = by (filter (λ (e : Key × StoredObject). test e.0) es) (all_kept v test all es) (test e.0) refl
   where
     by : (fs : List (Key × StoredObject)) → viewed v (members_seen fs) ≡ members_seen fs → (b : Bool) → test e.0 ≡ b → viewed v (members_seen (cond b (e ∷ fs) fs)) ≡ members_seen (cond b (e ∷ fs) fs)
     by fs rest true is =
-        ap (λ c. cond c ((name_of e.0, e.1.value) ∷ viewed v (members_seen fs)) (viewed v (members_seen fs))) (all e.0 e.1.value is) ∙ ap (λ ms. (name_of e.0, e.1.value) ∷ ms) rest
+        ap (λ c. cond c ((key_of e.0, e.1.value) ∷ viewed v (members_seen fs)) (viewed v (members_seen fs))) (all e.0 e.1.value is) ∙ ap (λ ms. (key_of e.0, e.1.value) ∷ ms) rest
     by fs rest false is = rest
 
 -- ---- keys
 
-key-name : (a : Key) (n : Name) → name_of a ≡ n → (k : Key) → is_le (key_cmp a k) ≡ is_le (name_cmp n (name_of k))
-key-name a n named k = ap is_le (key_cmp-name_cmp a k ∙ ap (λ n. name_cmp n (name_of k)) named)
+key-name : (a : Key) (n : Name) → key_of a ≡ n → (k : Key) → is_le (key_cmp a k) ≡ is_le (name_cmp n (key_of k))
+key-name a n named k = ap is_le (key_cmp-name_cmp a k ∙ ap (λ n. name_cmp n (key_of k)) named)
 
 without_false : (a b c : Bool) → a ≡ c → b ≡ false → (a && not b) ≡ c
 without_false true true c p q = sym q ∙ p
@@ -353,47 +353,47 @@ both true false h = (refl, refl)
 both false b h = let not_so : false ≡ true = h in cc
 
 -- the range from the start of a view to the first key past it
-pub ends_forward : (start past : Key) (first : Name) → name_of start ≡ earlier first (name_of past) → is_gt (key_cmp start past) ≡ false
+pub ends_forward : (start past : Key) (first : Name) → key_of start ≡ earlier first (key_of past) → is_gt (key_cmp start past) ≡ false
 ends_forward start past first named =
-    gt-le (key_cmp start past) (key-name start (earlier first (name_of past)) named past ∙ earlier-second first (name_of past))
+    gt-le (key_cmp start past) (key-name start (earlier first (key_of past)) named past ∙ earlier-second first (key_of past))
 
-pub between-asked : (v : View) (p : Option Place) (start past : Key) → name_of start ≡ earlier (start_name v p) (name_of past) → Some (name_of past) ≡ first_past v.kind v.namespace → (es : List (Key × StoredObject))
+pub between-asked : (v : View) (p : Option Place) (start past : Key) → key_of start ≡ earlier (start_name v p) (key_of past) → Some (key_of past) ≡ first_past v.kind v.namespace → (es : List (Key × StoredObject))
     → viewed v (members_seen (entries_between key_cmp (Included start) (Excluded past) es)) ≡ after_place p (viewed v (members_seen es))
 between-asked v p start past named last es = kept v p (range_contains key_cmp (Included start) (Excluded past)) one es
   where
-    one : (k : Key) (d : Data) → in_view v (name_of k) d ≡ true → range_contains key_cmp (Included start) (Excluded past) k ≡ is_after p (name_of k)
+    one : (k : Key) (d : Data) → in_view v (key_of k) d ≡ true → range_contains key_cmp (Included start) (Excluded past) k ≡ is_after p (key_of k)
     one k d is =
-        let below = name_past v (name_of past) last (name_of k) d is in
-        without_false (is_le (key_cmp start k)) (is_le (key_cmp past k)) (is_after p (name_of k))
-        (key-name start (earlier (start_name v p) (name_of past)) named k ∙ earlier-below (start_name v p) (name_of past) (name_of k) below ∙ start-after v p (name_of k) d is)
-        (key-name past (name_of past) refl k ∙ below)
+        let below = name_past v (key_of past) last (key_of k) d is in
+        without_false (is_le (key_cmp start k)) (is_le (key_cmp past k)) (is_after p (key_of k))
+        (key-name start (earlier (start_name v p) (key_of past)) named k ∙ earlier-below (start_name v p) (key_of past) (key_of k) below ∙ start-after v p (key_of k) d is)
+        (key-name past (key_of past) refl k ∙ below)
 
-pub from-asked : (v : View) (p : Option Place) (start : Key) → name_of start ≡ start_name v p → (es : List (Key × StoredObject))
+pub from-asked : (v : View) (p : Option Place) (start : Key) → key_of start ≡ start_name v p → (es : List (Key × StoredObject))
     → viewed v (members_seen (entries_between key_cmp (Included start) Unbounded es)) ≡ after_place p (viewed v (members_seen es))
 from-asked v p start named es =
-    kept v p (range_contains key_cmp (Included start) Unbounded) (λ k d is. without_false (is_le (key_cmp start k)) false (is_after p (name_of k)) (key-name start (start_name v p) named k ∙ start-after v p (name_of k) d is) refl) es
+    kept v p (range_contains key_cmp (Included start) Unbounded) (λ k d is. without_false (is_le (key_cmp start k)) false (is_after p (key_of k)) (key-name start (start_name v p) named k ∙ start-after v p (key_of k) d is) refl) es
 
-pub between-all : (v : View) (p : Option Place) (start past : Key) → name_of start ≡ earlier (start_name v p) (name_of past) → Some (name_of past) ≡ first_past v.kind v.namespace → (es : List (Key × StoredObject))
+pub between-all : (v : View) (p : Option Place) (start past : Key) → key_of start ≡ earlier (start_name v p) (key_of past) → Some (key_of past) ≡ first_past v.kind v.namespace → (es : List (Key × StoredObject))
     → is_selective v ≡ false → viewed v (members_seen (entries_between key_cmp (Included start) (Excluded past) es)) ≡ members_seen (entries_between key_cmp (Included start) (Excluded past) es)
 between-all v p start past named last es plain = all_kept v (range_contains key_cmp (Included start) (Excluded past)) one es
   where
-    one : (k : Key) (d : Data) → range_contains key_cmp (Included start) (Excluded past) k ≡ true → in_view v (name_of k) d ≡ true
+    one : (k : Key) (d : Data) → range_contains key_cmp (Included start) (Excluded past) k ≡ true → in_view v (key_of k) d ≡ true
     one k d is =
         let ends = both (is_le (key_cmp start k)) (is_le (key_cmp past k)) is in
-        let first = earlier-from (first_asked v) (start_name v p) (name_of past) (start-first v p) (first_forward v (name_of past) last) in
-        let from = le_through (first_asked v) (earlier (start_name v p) (name_of past)) (name_of k) first (sym (key-name start (earlier (start_name v p) (name_of past)) named k) ∙ ends.0) in
-        let below : is_le (name_cmp (name_of past) (name_of k)) ≡ false = sym (key-name past (name_of past) refl k) ∙ ends.1 in
-        all-asked v plain (name_of k) d from (subst (λ o. IfSome o (λ p. is_le (name_cmp p (name_of k)) ≡ false)) last below)
+        let first = earlier-from (first_asked v) (start_name v p) (key_of past) (start-first v p) (first_forward v (key_of past) last) in
+        let from = le_through (first_asked v) (earlier (start_name v p) (key_of past)) (key_of k) first (sym (key-name start (earlier (start_name v p) (key_of past)) named k) ∙ ends.0) in
+        let below : is_le (name_cmp (key_of past) (key_of k)) ≡ false = sym (key-name past (key_of past) refl k) ∙ ends.1 in
+        all-asked v plain (key_of k) d from (subst (λ o. IfSome o (λ p. is_le (name_cmp p (key_of k)) ≡ false)) last below)
 
-pub from-all : (v : View) (p : Option Place) (start : Key) → name_of start ≡ start_name v p → None ≡ first_past v.kind v.namespace → (es : List (Key × StoredObject))
+pub from-all : (v : View) (p : Option Place) (start : Key) → key_of start ≡ start_name v p → None ≡ first_past v.kind v.namespace → (es : List (Key × StoredObject))
     → is_selective v ≡ false → viewed v (members_seen (entries_between key_cmp (Included start) Unbounded es)) ≡ members_seen (entries_between key_cmp (Included start) Unbounded es)
 from-all v p start named last es plain = all_kept v (range_contains key_cmp (Included start) Unbounded) one es
   where
-    one : (k : Key) (d : Data) → range_contains key_cmp (Included start) Unbounded k ≡ true → in_view v (name_of k) d ≡ true
+    one : (k : Key) (d : Data) → range_contains key_cmp (Included start) Unbounded k ≡ true → in_view v (key_of k) d ≡ true
     one k d is =
         let ends = both (is_le (key_cmp start k)) false is in
-        let from = le_through (first_asked v) (start_name v p) (name_of k) (start-first v p) (sym (key-name start (start_name v p) named k) ∙ ends.0) in
-        all-asked v plain (name_of k) d from (subst (λ o. IfSome o (λ p. is_le (name_cmp p (name_of k)) ≡ false)) last tt)
+        let from = le_through (first_asked v) (start_name v p) (key_of k) (start-first v p) (sym (key-name start (start_name v p) named k) ∙ ends.0) in
+        all-asked v plain (key_of k) d from (subst (λ o. IfSome o (λ p. is_le (name_cmp p (key_of k)) ≡ false)) last tt)
 
 -- without a place, all are after it
 pub after-none : (ms : Members) → after_place None ms ≡ ms

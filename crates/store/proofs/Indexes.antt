@@ -4,9 +4,9 @@ use Rattle.std.specs.BTreeMap.{is_at}
 use Rattle.std.specs.HashMap.{get}
 use Rattle.std.specs.Map.{lookup}
 use Rattle.serde_json.specs.Data.{Data}
-use Rattle.definitions.specs.Names.{name_cmp}
+use Rattle.definitions.specs.Keys.{key_cmp as name_cmp}
 use Rattle.definitions.specs.History.{found}
-use Rattle.meta.specs.Keys.{name_of}
+use Rattle.meta.specs.Keys.{key_of}
 use Rattle.meta.specs.contracts.keys.KeyOrd.TheImpl.Laws.{matches_eq-law}
 use Rattle.meta.specs.contracts.keys.KeyPartialEq.TheImpl as key_eq
 use Rattle.meta.specs.declared.keys.Key.{Key}
@@ -22,10 +22,10 @@ abbrev data_of : Option StoredObject → Option Data
 data_of o = option_map (λ (o : StoredObject). o.value) o
 
 -- keys are the same just where their names are
-same_key-named : (a b : Key) → same_key a b ≡ is_eq (name_cmp (name_of a) (name_of b))
+same_key-named : (a b : Key) → same_key a b ≡ is_eq (name_cmp (key_of a) (key_of b))
 same_key-named a b = matches_eq-law a b ∙ ap is_eq (key_cmp-name_cmp a b)
 
-at_key-named : (a b : Key) → is_at (key_cmp a) b ≡ is_eq (name_cmp (name_of a) (name_of b))
+at_key-named : (a b : Key) → is_at (key_cmp a) b ≡ is_eq (name_cmp (key_of a) (key_of b))
 at_key-named a b = ap is_eq (key_cmp-name_cmp a b)
 
 either : (a b : Bool) (v w x y : Option StoredObject) → a ≡ b → data_of v ≡ data_of w → data_of x ≡ data_of y → data_of (cond a v x) ≡ data_of (cond b w y)
@@ -35,11 +35,11 @@ either true false v w x y same vw xy = cc
 either false true v w x y same vw xy = cc
 
 -- where the index and the map take the same under one name, the index stays that of the map
-pub index_takes : (i j : Index) (es fs : List (Key × StoredObject)) (copy key : Key) (v w : Option StoredObject) → name_of copy ≡ name_of key → data_of v ≡ data_of w
+pub index_takes : (i j : Index) (es fs : List (Key × StoredObject)) (copy key : Key) (v w : Option StoredObject) → key_of copy ≡ key_of key → data_of v ≡ data_of w
     → ((q : Key) → get same_key j q ≡ cond (same_key copy q) v (get same_key i q)) → ((q : Key) → lookup (is_at (key_cmp q)) fs ≡ cond (is_at (key_cmp key) q) w (lookup (is_at (key_cmp q)) es))
     → IsIndexOf i (members_seen es) → IsIndexOf j (members_seen fs)
 index_takes i j es fs copy key v w named vw put_in put_under held q =
-    let same : same_key copy q ≡ is_at (key_cmp key) q = same_key-named copy q ∙ ap (λ n. is_eq (name_cmp n (name_of q))) named ∙ sym (at_key-named key q) in
+    let same : same_key copy q ≡ is_at (key_cmp key) q = same_key-named copy q ∙ ap (λ n. is_eq (name_cmp n (key_of q))) named ∙ sym (at_key-named key q) in
     ap data_of (put_in q)
     ∙ either (same_key copy q) (is_at (key_cmp key) q) v w (get same_key i q) (lookup (is_at (key_cmp q)) es) same vw (held q ∙ sym (seen-lookup es q))
     ∙ ap data_of (sym (put_under q))
@@ -47,4 +47,4 @@ index_takes i j es fs copy key v w named vw put_in put_under held q =
 
 -- an index that has the same under each key is as good
 pub index_alike : (i j : Index) (es fs : List (Key × StoredObject)) → ((q : Key) → get same_key j q ≡ get same_key i q) → fs ≡ es → IsIndexOf i (members_seen es) → IsIndexOf j (members_seen fs)
-index_alike i j es fs alike same held q = ap data_of (alike q) ∙ held q ∙ ap (λ l. found (name_of q) (members_seen l)) (sym same)
+index_alike i j es fs alike same held q = ap data_of (alike q) ∙ held q ∙ ap (λ l. found (key_of q) (members_seen l)) (sym same)

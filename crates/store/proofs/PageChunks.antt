@@ -8,10 +8,10 @@ use Rattle.std.proofs.lemmas.Map.Iter.{iter_end}
 use Rattle.std.specs.Iterator.{Drains}
 use Rattle.std.specs.Map.Iter.{TakesFirst, deref_pair}
 use Rattle.serde_json.specs.Data.{Data}
-use Rattle.definitions.specs.Names.{Name}
+use Rattle.definitions.specs.Keys.{Key as Name}
 use Rattle.definitions.specs.History.{View, Members, viewed, in_view}
 use Rattle.definitions.specs.Pages.{Place, is_after, after_place, page_of, remaining}
-use Rattle.meta.specs.Keys.{name_of}
+use Rattle.meta.specs.Keys.{key_of}
 use Rattle.meta.specs.Members.{member_of}
 use Rattle.meta.specs.declared.keys.Key.{Key}
 use Rattle.meta.specs.declared.stored.StoredObject.{StoredObject}
@@ -113,12 +113,12 @@ all_left v m ms all = left_of (in_view v m.0 m.1) m ms (viewed v ms) (few_viewed
 
 -- ---- one object of a range
 
-pub passed : (v : View) (es fs : List (Key × StoredObject)) (e : Key × StoredObject) → es ≡ e ∷ fs → false ≡ in_view v (name_of e.0) e.1.value → viewed v (members_seen fs) ≡ viewed v (members_seen es)
+pub passed : (v : View) (es fs : List (Key × StoredObject)) (e : Key × StoredObject) → es ≡ e ∷ fs → false ≡ in_view v (key_of e.0) e.1.value → viewed v (members_seen fs) ≡ viewed v (members_seen es)
 passed v es fs e is out =
-    ap (λ b. cond b ((name_of e.0, e.1.value) ∷ viewed v (members_seen fs)) (viewed v (members_seen fs))) out ∙ ap (λ z. viewed v (members_seen z)) (sym is)
+    ap (λ b. cond b ((key_of e.0, e.1.value) ∷ viewed v (members_seen fs)) (viewed v (members_seen fs))) out ∙ ap (λ z. viewed v (members_seen z)) (sym is)
 
 pub after_first : (v : View) (es fs : List (Key × StoredObject)) (e : Key × StoredObject) → es ≡ e ∷ fs → viewed v (members_seen es) ≡ members_seen es → viewed v (members_seen fs) ≡ members_seen fs
-after_first v es fs e is all = all_left v (name_of e.0, e.1.value) (members_seen fs) (subst (λ z. viewed v (members_seen z) ≡ members_seen z) is all)
+after_first v es fs e is all = all_left v (key_of e.0, e.1.value) (members_seen fs) (subst (λ z. viewed v (members_seen z) ≡ members_seen z) is all)
 
 -- ---- a count
 
@@ -126,7 +126,7 @@ pub counted_all : (es : List (Key × StoredObject)) (xs : List (Bor Key × Bor S
 counted_all es xs d = (iter_end deref_pair es xs es d.1.0 d.0 None refl d.1.1 refl d.1.2).1
 
 length-seen : (es : List (Key × StoredObject)) → length (members_seen es) ≡ length es
-length-seen es = length-map es (λ e. (name_of e.0, e.1.value))
+length-seen es = length-map es (λ e. (key_of e.0, e.1.value))
 
 pub tells_all : (v : View) (es : List (Key × StoredObject)) (n : ℕ) → viewed v (members_seen es) ≡ members_seen es → n ≡ length es → Tells v (length (viewed v (members_seen es))) n
 tells_all v es n all is =

@@ -6,26 +6,26 @@ use Rattle.std.proofs.lemmas.List.{length-map}
 use Rattle.std.specs.Map.{remove_entry, lookup}
 use Rattle.std.specs.BTreeMap.{insert_entry, is_at}
 use Rattle.meta.specs.contracts.keys.KeyOrd.TheImpl as key_ord
-use Rattle.meta.specs.Keys.{name_of}
+use Rattle.meta.specs.Keys.{key_of}
 use Rattle.meta.specs.declared.keys.Key.{Key}
 use Rattle.meta.specs.declared.stored.StoredObject.{StoredObject}
 use Rattle.meta.proofs.KeyOrder.{key_cmp-name_cmp}
 use Rattle.meta.proofs.MapViews.{map-insert_entry, map-remove_entry_by, option_map-lookup}
 use Rattle.definitions.specs.History.{found}
-use Rattle.definitions.specs.Names.{name_cmp}
+use Rattle.definitions.specs.Keys.{key_cmp as name_cmp}
 use Rattle.store.specs.Seen.{members_seen}
 
 abbrev pub key_cmp : Key → Key → Ordering
 key_cmp = (key_ord.ghosts).cmp
 
-pub seen-insert_entry : (es : List (Key × StoredObject)) (k : Key) (o : StoredObject) → members_seen (insert_entry key_cmp es k o) ≡ insert_entry name_cmp (members_seen es) (name_of k) o.value
-seen-insert_entry es k o = map-insert_entry name_of (λ (o : StoredObject). o.value) key_cmp name_cmp key_cmp-name_cmp es k o
+pub seen-insert_entry : (es : List (Key × StoredObject)) (k : Key) (o : StoredObject) → members_seen (insert_entry key_cmp es k o) ≡ insert_entry name_cmp (members_seen es) (key_of k) o.value
+seen-insert_entry es k o = map-insert_entry key_of (λ (o : StoredObject). o.value) key_cmp name_cmp key_cmp-name_cmp es k o
 
-pub seen-remove_entry : (es : List (Key × StoredObject)) (k : Key) → members_seen (remove_entry (is_at (key_cmp k)) es) ≡ remove_entry (is_at (name_cmp (name_of k))) (members_seen es)
-seen-remove_entry es k = map-remove_entry_by name_of (λ (o : StoredObject). o.value) (key_cmp k) (name_cmp (name_of k)) (key_cmp-name_cmp k) es
+pub seen-remove_entry : (es : List (Key × StoredObject)) (k : Key) → members_seen (remove_entry (is_at (key_cmp k)) es) ≡ remove_entry (is_at (name_cmp (key_of k))) (members_seen es)
+seen-remove_entry es k = map-remove_entry_by key_of (λ (o : StoredObject). o.value) (key_cmp k) (name_cmp (key_of k)) (key_cmp-name_cmp k) es
 
-pub seen-lookup : (es : List (Key × StoredObject)) (k : Key) → option_map (λ (o : StoredObject). o.value) (lookup (is_at (key_cmp k)) es) ≡ found (name_of k) (members_seen es)
-seen-lookup es k = option_map-lookup name_of (λ (o : StoredObject). o.value) (key_cmp k) (name_cmp (name_of k)) (key_cmp-name_cmp k) es
+pub seen-lookup : (es : List (Key × StoredObject)) (k : Key) → option_map (λ (o : StoredObject). o.value) (lookup (is_at (key_cmp k)) es) ≡ found (key_of k) (members_seen es)
+seen-lookup es k = option_map-lookup key_of (λ (o : StoredObject). o.value) (key_cmp k) (name_cmp (key_of k)) (key_cmp-name_cmp k) es
 
 pub option_map-copied : (o : Option (Bor StoredObject)) → option_map (λ (x : Bor StoredObject). x.now.value) o ≡ option_map (λ (o : StoredObject). o.value) (option_copied o)
 option_map-copied None = refl
@@ -36,4 +36,4 @@ is_some-map None = refl
 is_some-map (Some o) = refl
 
 pub length-seen : (es : List (Key × StoredObject)) → length (members_seen es) ≡ length es
-length-seen es = length-map es (λ (e : Key × StoredObject). (name_of e.0, e.1.value))
+length-seen es = length-map es (λ (e : Key × StoredObject). (key_of e.0, e.1.value))

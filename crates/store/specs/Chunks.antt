@@ -3,14 +3,14 @@ use Rattle.std.specs.Prelude.{◌≡◌, ◌≤◌, ◌<◌, ◌==◌, ◌++◌,
 use Rattle.definitions.specs.History.{View, Members}
 use Rattle.definitions.specs.Lists.{is_selective}
 use Rattle.definitions.specs.Pages.{Place, place_of, page_of, remaining}
-use Rattle.meta.specs.Keys.{name_of}
+use Rattle.meta.specs.Keys.{key_of}
 use Rattle.meta.specs.Members.{member_of}
 use Rattle.meta.specs.declared.keys.Key.{Key}
 use Rattle.store.specs.declared.chunks.Chunk.{Chunk}
 
 -- the place of a key, where one is given
 abbrev pub after_key : Option Key → Option Place
-after_key o = option_map (λ k. place_of (name_of k)) o
+after_key o = option_map (λ k. place_of (key_of k)) o
 
 -- a count says how many there are, or where the view selects, whether there are any
 pub record Tells (v : View) (left count : ℕ) : Type 0 where

@@ -6,14 +6,14 @@ use Rattle.std.specs.declared.hash.FoldHasher.{FoldHasher}
 use Rattle.definitions.specs.History.{Members, found}
 use Rattle.definitions.specs.Revisions.{greatest_revision}
 use Rattle.definitions.specs.Verbs.{most_objects}
-use Rattle.meta.specs.Keys.{name_of}
+use Rattle.meta.specs.Keys.{key_of}
 use Rattle.meta.specs.contracts.keys.KeyPartialEq.TheImpl as key_eq
 use Rattle.meta.specs.declared.keys.Key.{Key}
 use Rattle.meta.specs.declared.stored.StoredObject.{StoredObject}
 
 -- keys and objects as names and data
 abbrev pub members_seen : List (Key × StoredObject) → Members
-members_seen es = map (λ e. (name_of e.0, e.1.value)) es
+members_seen es = map (λ e. (key_of e.0, e.1.value)) es
 
 -- objects by their keys, in no order
 abbrev pub Index : Type 0
@@ -21,7 +21,7 @@ Index = HashMap Key StoredObject (BuildHasherDefault FoldHasher)
 
 -- an index has under each key what the members have
 abbrev pub IsIndexOf : Index → Members → Type 0
-IsIndexOf index members = (k : Key) → option_map (λ o. o.value) (get (key_eq.ghosts).eq index k) ≡ found (name_of k) members
+IsIndexOf index members = (k : Key) → option_map (λ o. o.value) (get (key_eq.ghosts).eq index k) ≡ found (key_of k) members
 
 -- the index is that of the objects, there are no more of them than there may be, and the revision is one that a write or the empty store has
 pub record IsKept (es : List (Key × StoredObject)) (index : Index) (revision : ℕ) : Type 0 where

@@ -42,8 +42,8 @@ fn next_member<'a>(range: &mut Range<'a, Key, StoredObject>, view: &View) -> Opt
     None
 }
 
-/// Takes the first objects that a view asks for from a range, as many as the limit says or all if it is 0, and leaves
-/// what comes after them. The error is want of memory.
+/// Takes the first objects that a view asks for from a range, as many as the limit says or all if it is 0, and leaves what
+/// comes after them. The error is running out of memory.
 pub(crate) fn first_members<'a>(
     alloc: Global,
     range: &mut Range<'a, Key, StoredObject>,
@@ -65,7 +65,7 @@ pub(crate) fn first_members<'a>(
     Ok(taken)
 }
 
-/// How many objects of a range a view asks for: without a selection they are counted, and not looked at; with one, the
+/// Returns how many objects of a range a view asks for: without a selection they are counted, and not looked at; with one, the
 /// first is looked for, and 1 stands for any number.
 pub(crate) fn remaining(mut range: Range<Key, StoredObject>, view: &View) -> usize
     requires all { is_selective (view_of view.now) ≡ false

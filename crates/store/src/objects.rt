@@ -2,7 +2,7 @@
 ghost use Rattle.std.specs.Prelude.{◌≡◌, ◌+◌, ◌≤◌, ◌&&◌, not, IfOk, OnOk, OnErr, Some, is_some, length, option_map, if◌then◌else◌};
 ghost use Rattle.std.specs.BTreeMap.{insert_entry};
 ghost use Rattle.definitions.specs.History.{after, found};
-ghost use Rattle.meta.specs.Keys.{name_of};
+ghost use Rattle.meta.specs.Keys.{key_of};
 ghost use Rattle.meta.specs.Writes.{write_of};
 ghost use Rattle.store.specs.Seen.{members_seen, IsIndexOf};
 
@@ -12,7 +12,7 @@ use meta::writes::Write;
 use std::alloc::AllocError;
 use std::collections::{BTreeMap, HashMap};
 
-/// Takes one write, and gives the object that was under its key. The error is want of memory, and changes nothing.
+/// Takes one write, and gives the object that was under its key. The error is running out of memory, and changes nothing.
 pub fn take(
     objects: &mut BTreeMap<Key, StoredObject>,
     index: &mut HashMap<Key, StoredObject>,
@@ -22,7 +22,7 @@ pub fn take(
     ensures members { OnOk result (members_seen objects.new.entries ≡ after (members_seen objects.old.entries) (write_of write)) }
     ensures indexed { IsIndexOf index.new (members_seen objects.new.entries) }
     ensures before { IfOk result (λ before. option_map (λ o. o.value) before
-        ≡ found (name_of write.key) (members_seen objects.old.entries)) }
+        ≡ found (key_of write.key) (members_seen objects.old.entries)) }
     ensures len { IfOk result (λ before. length objects.new.entries
         ≤ length objects.old.entries + (if is_some write.put && not (is_some before) then 1 else 0)) }
     ensures err { OnErr result (objects.new.entries ≡ objects.old.entries) }
@@ -47,10 +47,10 @@ fn put_under(
 ) -> Result<Option<StoredObject>, AllocError>
     requires indexed { IsIndexOf index.old (members_seen objects.old.entries) }
     ensures members { OnOk result (members_seen objects.new.entries
-        ≡ after (members_seen objects.old.entries) (record { key = name_of key; put = Some object.value })) }
+        ≡ after (members_seen objects.old.entries) (record { key = key_of key; put = Some object.value })) }
     ensures indexed { IsIndexOf index.new (members_seen objects.new.entries) }
     ensures before { IfOk result (λ before. option_map (λ o. o.value) before
-        ≡ found (name_of key) (members_seen objects.old.entries)) }
+        ≡ found (key_of key) (members_seen objects.old.entries)) }
     ensures len { IfOk result (λ before. length objects.new.entries
         ≤ length objects.old.entries + (if not (is_some before) then 1 else 0)) }
     ensures err { OnErr result (objects.new.entries ≡ objects.old.entries) }

@@ -3,7 +3,7 @@ ghost use Rattle.std.specs.Prelude.{◌≡◌, [], false, IfOk, option_map, stri
 ghost use Rattle.definitions.specs.History.{viewed};
 ghost use Rattle.definitions.specs.Lists.{is_selective};
 ghost use Rattle.definitions.specs.Pages.{place_of, after_place};
-ghost use Rattle.meta.specs.Keys.{name_of};
+ghost use Rattle.meta.specs.Keys.{key_of};
 ghost use Rattle.selector.specs.Views.{view_of};
 ghost use Rattle.store.specs.AskedKeys.{kind_after, first_name, first_asked, first_past, first_after, start_name, earlier, later};
 ghost use Rattle.store.specs.Chunks.{after_key};
@@ -17,9 +17,9 @@ use std::alloc::{AllocError, Global};
 use std::collections::BTreeMap;
 use std::collections::btree_map::Range;
 
-/// The objects from the first key that a view may ask for to the last, or from the first after a key of the place of
+/// Returns the objects from the first key that a view may ask for to the last, or from the first after a key of the place of
 /// `after`, in the order of keys. A view of a kind or a namespace that does not select asks for each of them. The error is
-/// want of memory.
+/// running out of memory.
 pub fn asked<'a>(
     alloc: Global,
     objects: &'a BTreeMap<Key, StoredObject>,
@@ -41,9 +41,9 @@ pub fn asked<'a>(
     }
 }
 
-/// The first key that a view may ask for after the place of a key, or at all where none is given.
+/// Returns the first key that a view may ask for after the place of a key, or at all where none is given.
 fn start_of(alloc: Global, view: &View, after: Option<Key>) -> Result<Key, AllocError>
-    ensures { IfOk result (λ key. name_of key ≡ start_name (view_of view.now) (after_key after)) }
+    ensures { IfOk result (λ key. key_of key ≡ start_name (view_of view.now) (after_key after)) }
 {
     let first = first_asked(alloc, view)?;
     match after {
@@ -52,9 +52,9 @@ fn start_of(alloc: Global, view: &View, after: Option<Key>) -> Result<Key, Alloc
     }
 }
 
-/// The first key of a kind after the place of a key, whatever the kind of that key.
+/// Returns the first key of a kind after the place of a key, whatever the kind of that key.
 fn first_after(kind: Kind, after: Key) -> Result<Key, AllocError>
-    ensures { IfOk result (λ key. name_of key ≡ first_after kind (place_of (name_of after))) }
+    ensures { IfOk result (λ key. key_of key ≡ first_after kind (place_of (key_of after))) }
 {
     let mut name = after.name;
     name.push_str("\0")?;
@@ -65,16 +65,16 @@ fn first_after(kind: Kind, after: Key) -> Result<Key, AllocError>
     })
 }
 
-/// The later of two keys.
+/// Returns the later of two keys.
 fn later(first: Key, second: Key) -> Key
-    ensures { name_of result ≡ later (name_of first) (name_of second) }
+    ensures { key_of result ≡ later (key_of first) (key_of second) }
 {
     if first < second { second } else { first }
 }
 
-/// The earlier of two keys, the second of which is copied.
+/// Returns the earlier of two keys, the second of which is copied.
 fn earlier(first: Key, second: &Key) -> Result<Key, AllocError>
-    ensures { IfOk result (λ key. name_of key ≡ earlier (name_of first) (name_of second.now)) }
+    ensures { IfOk result (λ key. key_of key ≡ earlier (key_of first) (key_of second.now)) }
 {
     if first < *second {
         Ok(first)
@@ -83,9 +83,9 @@ fn earlier(first: Key, second: &Key) -> Result<Key, AllocError>
     }
 }
 
-/// The first key that a view may ask for.
+/// Returns the first key that a view may ask for.
 fn first_asked(alloc: Global, view: &View) -> Result<Key, AllocError>
-    ensures { IfOk result (λ key. name_of key ≡ first_asked (view_of view.now)) }
+    ensures { IfOk result (λ key. key_of key ≡ first_asked (view_of view.now)) }
 {
     let namespace = match &view.namespace {
         None => String::new(alloc),
@@ -94,9 +94,9 @@ fn first_asked(alloc: Global, view: &View) -> Result<Key, AllocError>
     Ok(first_key(alloc, view.kind, namespace))
 }
 
-/// The first key after all that a view may ask for. There is none after the last kind.
+/// Returns the first key after all that a view may ask for. There is none after the last kind.
 fn first_past(alloc: Global, view: &View) -> Result<Option<Key>, AllocError>
-    ensures { IfOk result (λ key. option_map name_of key
+    ensures { IfOk result (λ key. option_map key_of key
         ≡ first_past view.now.kind (option_map string_bytes view.now.namespace)) }
 {
     match &view.namespace {
@@ -109,9 +109,9 @@ fn first_past(alloc: Global, view: &View) -> Result<Option<Key>, AllocError>
     }
 }
 
-/// The first key of the next kind, if there is one.
+/// Returns the first key of the next kind, if there is one.
 fn first_of_next(alloc: Global, kind: Kind) -> Option<Key>
-    ensures { option_map name_of result ≡ option_map (λ next. first_name next []) (kind_after kind) }
+    ensures { option_map key_of result ≡ option_map (λ next. first_name next []) (kind_after kind) }
 {
     let next = match kind {
         Kind::ConfigMap => Kind::Pod,
@@ -122,9 +122,9 @@ fn first_of_next(alloc: Global, kind: Kind) -> Option<Key>
     Some(first_key(alloc, next, String::new(alloc)))
 }
 
-/// The first key of a kind in a namespace.
+/// Returns the first key of a kind in a namespace.
 fn first_key(alloc: Global, kind: Kind, namespace: String) -> Key
-    ensures { name_of result ≡ first_name kind (string_bytes namespace) }
+    ensures { key_of result ≡ first_name kind (string_bytes namespace) }
 {
     Key {
         kind,

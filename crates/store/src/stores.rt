@@ -41,7 +41,7 @@ impl Model for Store {
 
 impl Store {
     ghost use Rattle.std.specs.Prelude.{◌≡◌, ◌≤◌, ◌⊎◌, true, false, IfOk, OnOk, OnErr, IfErr, length, map, option_map};
-    ghost use Rattle.meta.specs.Keys.{name_of};
+    ghost use Rattle.meta.specs.Keys.{key_of};
     ghost use Rattle.meta.specs.Members.{member_of};
     ghost use Rattle.meta.specs.Writes.{write_of};
     ghost use Rattle.meta.specs.declared.faults.Fault.TheVariants as fault;
@@ -52,7 +52,7 @@ impl Store {
     ghost use Rattle.definitions.specs.Verbs.{most_objects, overflows};
     ghost use Rattle.store.specs.Chunks.{IsPage, after_key};
 
-    /// The empty store, at revision 1.
+    /// Returns the empty store, at revision 1.
     pub fn new(alloc: Global) -> Store
         ensures { result ≡ empty }
     {
@@ -63,7 +63,7 @@ impl Store {
         }
     }
 
-    /// The present revision. It takes no memory.
+    /// Returns the present revision. It takes no memory.
     pub fn revision(&self) -> u64
         ensures value { result ≡ self.now.revision }
         ensures bound { result ≤ greatest_revision }
@@ -71,7 +71,7 @@ impl Store {
         self.revision
     }
 
-    /// How many objects there are.
+    /// Returns how many objects there are.
     pub fn len(&self) -> usize
         ensures value { result ≡ length self.now.members }
         ensures bound { result ≤ most_objects }
@@ -79,14 +79,14 @@ impl Store {
         self.objects.len()
     }
 
-    /// The object under a key. It takes no memory.
+    /// Returns the object under a key. It takes no memory.
     pub fn get(&self, key: &Key) -> Option<&StoredObject>
-        ensures { option_map (λ o. o.now.value) result ≡ found (name_of key.now) self.now.members }
+        ensures { option_map (λ o. o.now.value) result ≡ found (key_of key.now) self.now.members }
     {
         self.index.get(key)
     }
 
-    /// Whether a write makes more objects than there may be, or has a revision past the greatest. The key is looked up
+    /// Returns whether a write makes more objects than there may be, or has a revision past the greatest. The key is looked up
     /// only where there are as many as there may be.
     fn overflows(&self, write: &Write) -> bool
         ensures { result ≡ overflows self.now.members self.now.revision (write_of write.now) }
@@ -100,7 +100,7 @@ impl Store {
     pub fn apply(&mut self, write: Write) -> Result<Option<StoredObject>, Fault>
         ensures ok { OnOk result (self.new ≡ written self.old (write_of write)) }
         ensures before { IfOk result (λ before. option_map (λ o. o.value) before
-            ≡ found (name_of write.key) self.old.members) }
+            ≡ found (key_of write.key) self.old.members) }
         ensures room { OnOk result (overflows self.old.members self.old.revision (write_of write) ≡ false) }
         ensures refused { IfErr result (λ e.
             ((e ≡ fault.NoMemory) × (overflows self.old.members self.old.revision (write_of write) ≡ false))
@@ -115,7 +115,7 @@ impl Store {
         Ok(before)
     }
 
-    /// The objects of a view with their keys, in the order of their keys. The error is want of memory.
+    /// Returns the objects of a view with their keys, in the order of their keys. The error is running out of memory.
     pub fn list<'a>(&'a self, alloc: Global, view: &View) -> Result<Vec<Member<'a>>, AllocError>
         ensures { IfOk result (λ found. map member_of found.items
             ≡ viewed (view_of view.entry.now) self.entry.now.members) }
@@ -129,9 +129,9 @@ impl Store {
         Ok(found)
     }
 
-    /// A chunk of the list of a view: at most `limit` objects, or all if it is 0, after the place of a key, or the first.
-    /// It costs the way to its start and what it holds, and to count the objects that remain a step for each; where the
-    /// view selects, a look at each up to the first that remains. The error is want of memory.
+    /// Returns a chunk of the list of a view: at most `limit` objects, or all if it is 0, after the place of a key, or the
+    /// first. It costs the way to its start and what it holds, and to count the objects that remain a step for each; where the
+    /// view selects, a look at each up to the first that remains. The error is running out of memory.
     pub fn page<'a>(
         &'a self,
         alloc: Global,

@@ -7,7 +7,7 @@ use Rattle.std.specs.Int.{from_be_bytes, to_be_bytes, w128, byte_at, bytes_high_
 use Rattle.std.specs.List.{All}
 use Rattle.std.specs.Str.{bytes_eq}
 use Rattle.definitions.specs.Uids.{uid_text, uid_revision}
-use Rattle.definitions.proofs.Uids.{held}
+use Rattle.definitions.proofs.Uids.{existing}
 use Rattle.stamps.proofs.Hexadecimal.{uid_number, uid-text}
 use Rattle.uuid.specs.Text.{lower, parsed}
 use Rattle.uuid.proofs.OrderLemmas.{from_be_bytes-to_be_bytes_16}
@@ -57,7 +57,7 @@ some-inj a b h = cc
 pub is_printed : (t : List ℕ) (c : ℕ) → c < 2 ^ 62 → bytes_eq t (uid_text 0 c) ≡ true → Some c ≡ cond (is_own t) (Some (uid_revision t)) None
 is_printed t c below h =
     let e : t ≡ uid_text 0 c = (bytes_eq-Decides t (uid_text 0 c)).0 h in
-    let r : uid_revision t ≡ c = ap uid_revision e ∙ held 0 c below in
+    let r : uid_revision t ≡ c = ap uid_revision e ∙ existing 0 c below in
     let l : nat_lt c (2 ^ 62) ≡ true = lt-ltb c (2 ^ 62) below in
     rw (r, h, l) refl
 

@@ -1,13 +1,13 @@
 -- What the fault of a check says.
 use Rattle.std.specs.Prelude.{◌≡◌, Option, Some}
 use Rattle.definitions.specs.declared.refusals.Field.{Field}
-use Rattle.definitions.specs.Names.{Name}
+use Rattle.definitions.specs.Keys.{Key}
 use Rattle.meta.specs.declared.faults.Fault.{Fault}
 use Rattle.meta.specs.declared.faults.Fault.TheVariants as fault
-use Rattle.meta.specs.Keys.{name_of}
+use Rattle.meta.specs.Keys.{key_of}
 
 -- the fault names the object and the field that was found, and is else want of memory
-abbrev pub RefusesField : Name → Option Field → Fault → Type 0
-RefusesField k found (fault.Invalid key f) = (name_of key ≡ k) × (found ≡ Some f)
+abbrev pub RefusesField : Key → Option Field → Fault → Type 0
+RefusesField k found (fault.Invalid key f) = (key_of key ≡ k) × (found ≡ Some f)
 RefusesField k found fault.NoMemory = Unit {0}
 RefusesField k found e = ⊥

@@ -2,7 +2,7 @@
 ghost use Rattle.std.specs.Prelude.{◌≡◌, IfOk, IfErr, None, true};
 ghost use Rattle.definitions.specs.declared.kinds.Kind.TheVariants.{ReplicaSet, Deployment};
 ghost use Rattle.definitions.specs.Checks.{checks, checks_of, create_fault, update_fault, adds_no_finalizer, first_fault, is_selector_kept};
-ghost use Rattle.meta.specs.Keys.{name_of};
+ghost use Rattle.meta.specs.Keys.{key_of};
 ghost use Rattle.meta.specs.declared.faults.Fault.TheVariants.{NoMemory};
 ghost use Rattle.validate.specs.Faults.{RefusesField};
 
@@ -80,7 +80,7 @@ fn kind_fault(alloc: Global, object: &Object, is_kept: bool) -> Result<Option<Fi
     }
 }
 
-/// The first field of an object that is not valid. The error is want of memory.
+/// Returns the first field of an object that is not valid. The error is running out of memory.
 fn fault(
     alloc: Global,
     object: &Object,
@@ -113,7 +113,7 @@ fn fault(
 /// Refuses a field, if there is one, of the object under a key.
 fn refuse(key: &Key, found: Option<Field>) -> Result<(), Fault>
     ensures valid { IfOk result (λ _. found ≡ None) }
-    ensures invalid { IfErr result (RefusesField (name_of key.now) found) }
+    ensures invalid { IfErr result (RefusesField (key_of key.now) found) }
 {
     match found {
         Some(field) => Err(Fault::Invalid(key.try_copy()?, field)),
@@ -121,17 +121,17 @@ fn refuse(key: &Key, found: Option<Field>) -> Result<(), Fault>
     }
 }
 
-/// Whether an object with its defaults can be created under a key, whose name is the object's or was made for it, after
-/// the present revision. The errors are the first field that is not valid, and want of memory, which the selector takes.
+/// Returns whether an object with its defaults can be created under a key, whose name is the object's or was made for it, after
+/// the present revision. The errors are the first field that is not valid, and running out of memory, which the selector takes.
 pub fn check_create(alloc: Global, object: &Object, key: &Key, present: u64) -> Result<(), Fault>
-    ensures valid { IfOk result (λ _. create_fault object.now.kind (name_of key.now).name present object.now.value ≡ None) }
-    ensures invalid { IfErr result (RefusesField (name_of key.now) (create_fault object.now.kind (name_of key.now).name present object.now.value)) }
+    ensures valid { IfOk result (λ _. create_fault object.now.kind (key_of key.now).name present object.now.value ≡ None) }
+    ensures invalid { IfErr result (RefusesField (key_of key.now) (create_fault object.now.kind (key_of key.now).name present object.now.value)) }
 {
     let found = fault(alloc, object, key.name.as_str(), present, true, true)?;
     refuse(key, found)
 }
 
-/// Whether an object with its defaults can stand in the place of the stored one, under its key, after the present
+/// Returns whether an object with its defaults can stand in the place of the stored one, under its key, after the present
 /// revision. The errors are as those of a create.
 pub fn check_update(
     alloc: Global,
@@ -140,8 +140,8 @@ pub fn check_update(
     key: &Key,
     present: u64,
 ) -> Result<(), Fault>
-    ensures valid { IfOk result (λ _. update_fault object.now.kind (name_of key.now).name present stored.now.value object.now.value ≡ None) }
-    ensures invalid { IfErr result (RefusesField (name_of key.now) (update_fault object.now.kind (name_of key.now).name present stored.now.value object.now.value)) }
+    ensures valid { IfOk result (λ _. update_fault object.now.kind (key_of key.now).name present stored.now.value object.now.value ≡ None) }
+    ensures invalid { IfErr result (RefusesField (key_of key.now) (update_fault object.now.kind (key_of key.now).name present stored.now.value object.now.value)) }
 {
     let adds_none = adds_no_finalizer(stored, object);
     let is_kept = is_selector_kept(alloc, stored, object)?;

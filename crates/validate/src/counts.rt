@@ -45,7 +45,7 @@ fn is_count(object: &Object, name: &str) -> bool
     }
 }
 
-/// Whether no count in the status of a ReplicaSet is negative.
+/// Returns whether no count in the status of a ReplicaSet is negative.
 pub(crate) fn is_replica_set_status_valid(object: &Object) -> bool
     ensures { result ≡ is_status_valid ReplicaSet object.now.value }
 {
@@ -61,7 +61,7 @@ pub(crate) fn is_replica_set_status_valid(object: &Object) -> bool
     true
 }
 
-/// Whether no count in the status of a Deployment is negative.
+/// Returns whether no count in the status of a Deployment is negative.
 pub(crate) fn is_deployment_status_valid(object: &Object) -> bool
     ensures { result ≡ is_status_valid Deployment object.now.value }
 {
@@ -86,7 +86,7 @@ pub(crate) fn is_deployment_status_valid(object: &Object) -> bool
     true
 }
 
-/// Whether no count in the status of an object, as one of a kind, is negative.
+/// Returns whether no count in the status of an object, as one of a kind, is negative.
 pub fn is_status_valid(kind: Kind, object: &Object) -> bool
     ensures { result ≡ is_status_valid kind object.now.value }
 {

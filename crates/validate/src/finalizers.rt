@@ -60,8 +60,8 @@ fn all_are_held(items: &[Value], stored: &Object) -> bool
     true
 }
 
-/// Whether an object has no finalizer that the stored one, if it is being deleted, lacks. It looks through the stored ones
-/// for each: an object has a handful.
+/// Returns whether an object has no finalizer that the stored one, if it is being deleted, lacks. It looks through the stored
+/// ones for each: an object has a handful.
 pub(crate) fn adds_no_finalizer(stored: &Object, object: &Object) -> bool
     ensures { result ≡ adds_no_finalizer stored.now.value object.now.value }
 {

@@ -33,7 +33,7 @@ fn generates(made: &str, text: &str) -> bool
     has_generating_bytes(text) && is_subdomain(made)
 }
 
-/// Whether the name that was made, if one was, could be made, and is valid.
+/// Returns whether the name that was made, if one was, could be made, and is valid.
 pub(crate) fn is_generate_name_valid(object: &Object, made: &str) -> bool
     ensures { result ≡ is_generate_name_valid made.now object.now.value }
 {

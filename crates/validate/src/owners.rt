@@ -14,7 +14,7 @@ use meta::Object;
 use meta::owners::{OwnerReference, owner};
 use serde_json::Value;
 
-/// Whether a text is there and not empty.
+/// Returns whether a text is there and not empty.
 fn is_there(text: Option<&str>) -> bool
     ensures { result ≡ passes is_not_empty (option_map now text.entry) }
 {
@@ -24,7 +24,7 @@ fn is_there(text: Option<&str>) -> bool
     }
 }
 
-/// Whether a uid is there, and is not one of an object that is still to be created.
+/// Returns whether a uid is there, and is not one of an object that is still to be created.
 fn is_known(uid: Option<&str>, present: u64) -> bool
     ensures { result ≡ passes (is_known_uid present) (option_map now uid.entry) }
 {

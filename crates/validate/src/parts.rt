@@ -19,7 +19,7 @@ fn member<'v>(value: &'v Value, name: &str) -> Option<&'v Value>
     }
 }
 
-/// A member of the spec.
+/// Returns a member of the spec.
 pub(crate) fn in_spec<'o>(object: &'o Object, name: &str) -> Option<&'o Value>
     ensures member { option_map (λ v. view v.now) result ≡ in_spec name.now object.now.value }
     ensures no_float { IfSome result (λ v. has_float (view v.now) ≡ false) }
@@ -30,7 +30,7 @@ pub(crate) fn in_spec<'o>(object: &'o Object, name: &str) -> Option<&'o Value>
     }
 }
 
-/// A member of the status.
+/// Returns a member of the status.
 pub(crate) fn in_status<'o>(object: &'o Object, name: &str) -> Option<&'o Value>
     ensures { option_map (λ v. view v.now) result ≡ in_status name.now object.now.value }
 {

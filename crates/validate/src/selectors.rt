@@ -10,7 +10,8 @@ use meta::{Fault, Object};
 use selector::Selector;
 use std::alloc::{AllocError, Global};
 
-/// What the selector of an object says, if it is there and says something that is understood. The error is want of memory.
+/// Returns what the selector of an object says, if it is there and says something that is understood. The error is running out
+/// of memory.
 pub(crate) fn selector_of(alloc: Global, object: &Object) -> Result<Option<Selector>, Fault>
     ensures said { IfOk result (λ s. s ≡ requirements object.now.value) }
     ensures refused { IfErr result (λ e. e ≡ NoMemory) }
@@ -26,7 +27,7 @@ pub(crate) fn selector_of(alloc: Global, object: &Object) -> Result<Option<Selec
     }
 }
 
-/// Whether a selector is there and says something.
+/// Returns whether a selector is there and says something.
 pub(crate) fn says_something(selector: &Option<Selector>) -> bool
     ensures { result ≡ passes (λ (rs : List Requirement). nat_lt 0 (length rs)) selector.now }
 {
@@ -45,7 +46,7 @@ fn selector_text(alloc: Global, object: &Object) -> Result<String, AllocError>
     }
 }
 
-/// Whether the selector of an object is that of the stored one. The error is want of memory.
+/// Returns whether the selector of an object is that of the stored one. The error is running out of memory.
 pub(crate) fn is_selector_kept(
     alloc: Global,
     stored: &Object,

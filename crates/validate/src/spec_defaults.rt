@@ -17,7 +17,7 @@ fn number(alloc: Global, n: u64) -> Result<Value, AllocError>
     json!(in alloc; n)
 }
 
-/// The value with a whole number at the member `name`, where it has none.
+/// Returns the value with a whole number at the member `name`, where it has none.
 fn with_number(alloc: Global, value: Value, name: &str, n: u64) -> Result<Value, AllocError>
     ensures { IfOk result (λ v. view v ≡ with_default name.now (whole n) (view value)) }
 {
@@ -42,8 +42,8 @@ fn in_rolling(alloc: Global, value: Value) -> Result<Value, AllocError>
         return Ok(value);
     }
     let mut members = into_members(alloc, value);
-    let held = take(alloc, &mut members, "rollingUpdate")?;
-    let filled = rolling_defaults(alloc, held)?;
+    let existing = take(alloc, &mut members, "rollingUpdate")?;
+    let filled = rolling_defaults(alloc, existing)?;
     serde_json::put(&mut members, alloc, "rollingUpdate", filled)?;
     Ok(Value::Object(members))
 }
@@ -84,8 +84,8 @@ fn in_strategy(alloc: Global, value: Value) -> Result<Value, AllocError>
         return Ok(value);
     }
     let mut members = into_members(alloc, value);
-    let held = take(alloc, &mut members, "strategy")?;
-    let filled = strategy_defaults(alloc, held)?;
+    let existing = take(alloc, &mut members, "strategy")?;
+    let filled = strategy_defaults(alloc, existing)?;
     serde_json::put(&mut members, alloc, "strategy", filled)?;
     Ok(Value::Object(members))
 }
@@ -112,8 +112,8 @@ fn in_replica_set(alloc: Global, value: Value) -> Result<Value, AllocError>
         return Ok(value);
     }
     let mut members = into_members(alloc, value);
-    let held = take(alloc, &mut members, "spec")?;
-    let filled = replica_set_defaults(alloc, held)?;
+    let existing = take(alloc, &mut members, "spec")?;
+    let filled = replica_set_defaults(alloc, existing)?;
     serde_json::put(&mut members, alloc, "spec", filled)?;
     Ok(Value::Object(members))
 }
@@ -125,8 +125,8 @@ fn in_deployment(alloc: Global, value: Value) -> Result<Value, AllocError>
         return Ok(value);
     }
     let mut members = into_members(alloc, value);
-    let held = take(alloc, &mut members, "spec")?;
-    let filled = deployment_defaults(alloc, held)?;
+    let existing = take(alloc, &mut members, "spec")?;
+    let filled = deployment_defaults(alloc, existing)?;
     serde_json::put(&mut members, alloc, "spec", filled)?;
     Ok(Value::Object(members))
 }
@@ -142,8 +142,8 @@ fn defaulted(alloc: Global, kind: Kind, value: Value) -> Result<Value, AllocErro
     }
 }
 
-/// The object with what its spec leaves out (Kubernetes API reference, ReplicaSetSpec and DeploymentSpec). Nothing that it
-/// says is copied or changed. The error is want of memory.
+/// Returns the object with what its spec leaves out (Kubernetes API reference, ReplicaSetSpec and DeploymentSpec). Nothing that
+/// it says is copied or changed. The error is running out of memory.
 pub fn defaults(alloc: Global, object: Object) -> Result<Object, AllocError>
     ensures value { IfOk result (λ o. o.value ≡ defaulted object.kind object.value) }
     ensures kind { IfOk result (λ o. o.kind ≡ object.kind) }

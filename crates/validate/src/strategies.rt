@@ -25,7 +25,7 @@ fn has_digits(text: &str) -> bool
     text.bytes().all(|byte| b'0' <= byte && byte <= b'9')
 }
 
-/// The amount of so many of a hundred.
+/// Returns the amount of so many of a hundred.
 fn percent(digits: &str) -> Option<Amount>
     requires digits { list_all is_digit digits.now ≡ true }
     requires there { 0 < length digits.now }

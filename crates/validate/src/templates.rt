@@ -25,7 +25,7 @@ fn is_selected(selector: &Selector, template: &Value) -> bool
     are_labels(labels) && selector.matches(labels)
 }
 
-/// Whether an object's template is there, has valid labels, and is matched by the object's selector.
+/// Returns whether an object's template is there, has valid labels, and is matched by the object's selector.
 pub(crate) fn is_template(object: &Object, selector: &Option<Selector>) -> bool
     ensures { result
         ≡ passes (λ (rs : List Requirement). passes (is_selected rs) (in_spec (codes "template") object.now.value)) selector.now }

@@ -15,7 +15,7 @@ const VARIANT: u64 = 0x8000_0000_0000_0000;
 /// One more than the greatest number of 62 bits.
 const LIMIT: u64 = 0x4000_0000_0000_0000;
 
-/// Whether a text is the uid that this server prints at a revision.
+/// Returns whether a text is the uid that this server prints at a revision.
 fn is_uid_at(text: &str, revision: u64) -> bool
     requires { revision < 2 ^ 62 }
     ensures { result ≡ bytes_eq text.now (uid_text cluster_word revision) }
@@ -26,7 +26,7 @@ fn is_uid_at(text: &str, revision: u64) -> bool
     text == printed
 }
 
-/// The revision at which this server prints this uid, if it does.
+/// Returns the revision at which this server prints this uid, if it does.
 fn revision_of(text: &str) -> Option<u64>
     ensures { result ≡ (if bytes_eq text.now (uid_text cluster_word (uid_revision text.now)) && nat_lt (uid_revision text.now) (2 ^ 62)
         then Some (uid_revision text.now) else None) }
@@ -44,7 +44,7 @@ fn revision_of(text: &str) -> Option<u64>
     }
 }
 
-/// Whether a text is the uid of an object that this server creates after the present revision. No memory is taken.
+/// Returns whether a text is the uid of an object that this server creates after the present revision. No memory is taken.
 pub(crate) fn is_of_the_future(text: &str, present: u64) -> bool
     ensures { result ≡ is_of_the_future present text.now }
 {

@@ -17,7 +17,7 @@ use stamps::moments::Moment;
 use std::alloc::Global;
 use store::Store;
 
-/// The answer to a request over a store at a moment, with what it writes, or the refusal. It changes nothing itself:
+/// Returns the answer to a request over a store at a moment, with what it writes, or the refusal. It changes nothing itself:
 /// the write is the caller's to apply. `Fault::NoMemory` says that memory was wanted and refused.
 pub fn accept(
     alloc: Global,

@@ -3,12 +3,12 @@ ghost use Rattle.std.specs.Prelude.{◌≡◌, ◌+◌, ◌≤◌, IfOk, string_
 ghost use Rattle.serde_json.specs.Written.{compact_text};
 ghost use Rattle.definitions.specs.Deletion.{decided, gone, kept_code, removal_of};
 ghost use Rattle.definitions.specs.Revisions.{greatest_revision};
-ghost use Rattle.definitions.specs.Verbs.{accept_at, by_decision, let_go};
+ghost use Rattle.definitions.specs.Verbs.{accept_at, by_decision, take_out};
 ghost use Rattle.definitions.specs.ObjectRequests.{delete_object};
 ghost use Rattle.definitions.proofs.VerbSteps.{by_fate, put_mark};
 ghost use Rattle.lifecycle.specs.Fates.{fate_seen};
 ghost use Rattle.lifecycle.specs.Options.{options_seen};
-ghost use Rattle.meta.specs.Keys.{name_of};
+ghost use Rattle.meta.specs.Keys.{key_of};
 ghost use Rattle.answers.specs.Serves.{Serves};
 
 use answers::generations::at_revision;
@@ -23,7 +23,7 @@ use stamps::moments::Moment;
 use std::alloc::{AllocError, Global};
 use store::Store;
 
-/// The object under a key removed or, while finalizers are left, being deleted from this moment on.
+/// Returns the object under a key removed or, while finalizers are left, being deleted from this moment on.
 pub fn delete(
     alloc: Global,
     store: &Store,
@@ -31,38 +31,38 @@ pub fn delete(
     options: &DeleteOptions,
     moment: Moment,
 ) -> Result<(Reply, Option<Write>), Fault>
-    ensures { Serves (accept_at (delete_object (name_of key) (options_seen options.now)) store.now.members store.now.revision moment) result }
+    ensures { Serves (accept_at (delete_object (key_of key) (options_seen options.now)) store.now.members store.now.revision moment) result }
 {
     match store.get(&key) {
         None => Err(Fault::NotFound(key)),
         Some(kept) => {
-            let held = kept.open(alloc)?;
-            delete_held(alloc, key, held, options, store.revision(), moment)
+            let existing = kept.open(alloc)?;
+            delete_held(alloc, key, existing, options, store.revision(), moment)
         }
     }
 }
 
-/// The object that is held removed or marked, if it meets the preconditions.
+/// Returns the stored object removed or marked, if it meets the preconditions.
 fn delete_held(
     alloc: Global,
     key: Key,
-    held: Object,
+    existing: Object,
     options: &DeleteOptions,
     before: u64,
     moment: Moment,
 ) -> Result<(Reply, Option<Write>), Fault>
     requires { before ≤ greatest_revision }
-    ensures { Serves (by_decision (name_of key) (kept_code options.now.policy) held.value before
-        (decided key.kind (options_seen options.now) moment held.value)) result }
+    ensures { Serves (by_decision (key_of key) (kept_code options.now.policy) existing.value before
+        (decided key.kind (options_seen options.now) moment existing.value)) result }
 {
-    match decide_delete(alloc, key.kind, &held, options, moment) {
-        Ok(fate) => by_fate(alloc, key, kept_code(options.policy), held, before, fate),
+    match decide_delete(alloc, key.kind, &existing, options, moment) {
+        Ok(fate) => by_fate(alloc, key, kept_code(options.policy), existing, before, fate),
         Err(DeleteFault::Mismatch(why)) => Err(Fault::Conflict(key, why)),
         Err(DeleteFault::NoMemory) => Err(Fault::NoMemory),
     }
 }
 
-/// The HTTP status code for an object that is not removed: it is accepted that its dependents go first.
+/// Returns the HTTP status code for an object that is not removed: it is accepted that its dependents go first.
 fn kept_code(policy: Option<Policy>) -> u16
     ensures { result ≡ kept_code policy }
 {
@@ -72,29 +72,29 @@ fn kept_code(policy: Option<Policy>) -> u16
     }
 }
 
-/// What is answered to a delete with this fate, and written.
+/// Returns what is answered to a delete with this fate, and written.
 fn by_fate(
     alloc: Global,
     key: Key,
     code: u16,
-    held: Object,
+    existing: Object,
     before: u64,
     fate: Fate,
 ) -> Result<(Reply, Option<Write>), Fault>
     requires { before ≤ greatest_revision }
-    ensures { Serves (by_fate (name_of key) code held.value before (fate_seen fate)) result }
+    ensures { Serves (by_fate (key_of key) code existing.value before (fate_seen fate)) result }
 {
     match fate {
-        Fate::Remove => remove(alloc, key, held, before),
+        Fate::Remove => remove(alloc, key, existing, before),
         Fate::Mark(object) => put_mark(alloc, key, code, object, before),
         Fate::Keep => {
-            let text = held.text(alloc)?;
+            let text = existing.text(alloc)?;
             Ok((Reply { code, text }, None))
         }
     }
 }
 
-/// The object as it is marked, put in the place of the one that is held, unless there is no room for a write. It has no
+/// Returns the object as it is marked, put in the place of the stored one, unless there is no room for a write. It has no
 /// greatest length: what is too long to be marked could not be deleted.
 fn put_mark(
     alloc: Global,
@@ -104,7 +104,7 @@ fn put_mark(
     before: u64,
 ) -> Result<(Reply, Option<Write>), Fault>
     requires { before ≤ greatest_revision }
-    ensures { Serves (put_mark code (name_of key) object.value before) result }
+    ensures { Serves (put_mark code (key_of key) object.value before) result }
 {
     if is_full(before) {
         return Err(Fault::StorageFull);
@@ -118,44 +118,44 @@ fn put_mark(
     Ok((Reply { code, text }, Some(write)))
 }
 
-/// The object under a key removed, unless there is no room for a write.
+/// Returns the object under a key removed, unless there is no room for a write.
 fn remove(
     alloc: Global,
     key: Key,
-    held: Object,
+    existing: Object,
     before: u64,
 ) -> Result<(Reply, Option<Write>), Fault>
     requires { before ≤ greatest_revision }
-    ensures { Serves (let_go (name_of key) (removal_of key.kind (name_of key) (before + 1) held.value) before) result }
+    ensures { Serves (take_out (key_of key) (removal_of key.kind (key_of key) (before + 1) existing.value) before) result }
 {
     if is_full(before) {
         return Err(Fault::StorageFull);
     }
-    let text = removal_text(alloc, &key, held, before)?;
+    let text = removal_text(alloc, &key, existing, before)?;
     let removal = Write { key, put: None };
     Ok((Reply { code: 200, text }, Some(removal)))
 }
 
-/// The text that answers a removal: of a Pod the Pod, at the revision of its removal, of the others that it is gone.
-fn removal_text(alloc: Global, key: &Key, held: Object, before: u64) -> Result<String, AllocError>
+/// Returns the text that answers a removal: of a Pod the Pod, at the revision of its removal, of the others that it is gone.
+fn removal_text(alloc: Global, key: &Key, existing: Object, before: u64) -> Result<String, AllocError>
     requires { before ≤ greatest_revision }
     ensures { IfOk result (λ t. string_bytes t
-        ≡ compact_text (removal_of key.now.kind (name_of key.now) (before + 1) held.value)) }
+        ≡ compact_text (removal_of key.now.kind (key_of key.now) (before + 1) existing.value)) }
 {
     match key.kind {
-        Kind::ConfigMap => gone_text(alloc, key, &held),
+        Kind::ConfigMap => gone_text(alloc, key, &existing),
         Kind::Pod => {
-            let last = at_revision(alloc, held, before)?;
+            let last = at_revision(alloc, existing, before)?;
             last.text(alloc)
         }
-        Kind::ReplicaSet => gone_text(alloc, key, &held),
-        Kind::Deployment => gone_text(alloc, key, &held),
+        Kind::ReplicaSet => gone_text(alloc, key, &existing),
+        Kind::Deployment => gone_text(alloc, key, &existing),
     }
 }
 
-/// The text that says that an object is gone.
-fn gone_text(alloc: Global, key: &Key, held: &Object) -> Result<String, AllocError>
-    ensures { IfOk result (λ t. string_bytes t ≡ compact_text (gone (name_of key.now) held.now.value)) }
+/// Returns the text that says that an object is gone.
+fn gone_text(alloc: Global, key: &Key, existing: &Object) -> Result<String, AllocError>
+    ensures { IfOk result (λ t. string_bytes t ≡ compact_text (gone (key_of key.now) existing.now.value)) }
 {
-    success_text(alloc, Some((key, held.uid().unwrap_or(""))))
+    success_text(alloc, Some((key, existing.uid().unwrap_or(""))))
 }

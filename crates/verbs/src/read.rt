@@ -2,7 +2,7 @@
 ghost use Rattle.std.specs.Prelude.{◌≡◌, ℕ, List};
 ghost use Rattle.definitions.specs.Verbs.{accept_at};
 ghost use Rattle.definitions.specs.ObjectRequests.{get_object, list_objects};
-ghost use Rattle.meta.specs.Keys.{name_of};
+ghost use Rattle.meta.specs.Keys.{key_of};
 ghost use Rattle.selector.specs.Views.{view_of};
 ghost use Rattle.answers.specs.Serves.{Serves};
 
@@ -13,9 +13,9 @@ use selector::View;
 use std::alloc::Global;
 use store::Store;
 
-/// The object under a key.
+/// Returns the object under a key.
 pub fn get(alloc: Global, store: &Store, key: &Key) -> Result<(Reply, Option<Write>), Fault>
-    ensures { (moment : List ℕ) → Serves (accept_at (get_object (name_of key.now)) store.now.members store.now.revision moment) result }
+    ensures { (moment : List ℕ) → Serves (accept_at (get_object (key_of key.now)) store.now.members store.now.revision moment) result }
 {
     match store.get(key) {
         None => Err(Fault::NotFound(key.try_copy()?)),
@@ -26,7 +26,7 @@ pub fn get(alloc: Global, store: &Store, key: &Key) -> Result<(Reply, Option<Wri
     }
 }
 
-/// The objects of a view, at the present revision.
+/// Returns the objects of a view, at the present revision.
 pub fn list(alloc: Global, store: &Store, view: &View) -> Result<(Reply, Option<Write>), Fault>
     ensures { (moment : List ℕ) → Serves (accept_at (list_objects (view_of view.now)) store.now.members store.now.revision moment) result }
 {

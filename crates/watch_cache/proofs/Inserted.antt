@@ -6,24 +6,24 @@ use Rattle.std.specs.List.Sorted.{IsStrictlySortedBy}
 use Rattle.std.specs.Map.{keys_of}
 use Rattle.std.specs.Ordering.{ordering_reverse}
 use Rattle.serde_json.specs.Data.{Data}
-use Rattle.definitions.specs.Names.{Name, name_cmp}
+use Rattle.definitions.specs.Keys.{Key, key_cmp}
 use Rattle.definitions.specs.History.{Members}
 use Rattle.definitions.proofs.PutLaws.{name_cmp_total}
 
 -- members put one after another into what is there
 abbrev pub inserted : Members → Members → Members
 inserted ms [] = ms
-inserted ms (l ∷ ls) = inserted (insert_entry name_cmp ms l.0 l.1) ls
+inserted ms (l ∷ ls) = inserted (insert_entry key_cmp ms l.0 l.1) ls
 
 -- each key of the first is below k
-abbrev AreBelow : Members → Name → Type 0
+abbrev AreBelow : Members → Key → Type 0
 AreBelow [] k = Unit {0}
-AreBelow (m ∷ ms) k = (name_cmp m.0 k ≡ Less) × AreBelow ms k
+AreBelow (m ∷ ms) k = (key_cmp m.0 k ≡ Less) × AreBelow ms k
 
-put_last : (ms : Members) (k : Name) (d : Data) → AreBelow ms k → insert_entry name_cmp ms k d ≡ ms ++ (k, d) ∷ []
+put_last : (ms : Members) (k : Key) (d : Data) → AreBelow ms k → insert_entry key_cmp ms k d ≡ ms ++ (k, d) ∷ []
 put_last [] k d b = refl
 put_last (m ∷ ms) k d b =
-    let over : name_cmp k m.0 ≡ Greater = name_cmp_total.antisymm k m.0 ∙ ap ordering_reverse b.0 in
+    let over : key_cmp k m.0 ≡ Greater = name_cmp_total.antisymm k m.0 ∙ ap ordering_reverse b.0 in
     rw over (ap (λ z. m ∷ z) (put_last ms k d b.1))
 
 -- each key of the first is below each of the others
@@ -31,15 +31,15 @@ abbrev Precede : Members → Members → Type 0
 Precede ms [] = Unit {0}
 Precede ms (l ∷ ls) = AreBelow ms l.0 × Precede ms ls
 
-below_last : (ms : Members) (m : Name × Data) (k : Name) → AreBelow ms k → name_cmp m.0 k ≡ Less → AreBelow (ms ++ m ∷ []) k
+below_last : (ms : Members) (m : Key × Data) (k : Key) → AreBelow ms k → key_cmp m.0 k ≡ Less → AreBelow (ms ++ m ∷ []) k
 below_last [] m k b h = (h, tt)
 below_last (x ∷ ms) m k b h = (b.0, below_last ms m k b.1 h)
 
-precede_last : (ms ls : Members) (m : Name × Data) → Precede ms ls → AllByRecursion (λ y. name_cmp m.0 y ≡ Less) (keys_of ls) → Precede (ms ++ m ∷ []) ls
+precede_last : (ms ls : Members) (m : Key × Data) → Precede ms ls → AllByRecursion (λ y. key_cmp m.0 y ≡ Less) (keys_of ls) → Precede (ms ++ m ∷ []) ls
 precede_last ms [] m p a = tt
 precede_last ms (l ∷ ls) m p a = (below_last ms m l.0 p.0 a.0, precede_last ms ls m p.1 a.1)
 
-inserted_after : (ms ls : Members) → Precede ms ls → IsStrictlySortedBy name_cmp (keys_of ls) → inserted ms ls ≡ ms ++ ls
+inserted_after : (ms ls : Members) → Precede ms ls → IsStrictlySortedBy key_cmp (keys_of ls) → inserted ms ls ≡ ms ++ ls
 unfolding IsStrictlySortedBy
 inserted_after ms [] p s = sym (append-nil ms)
 inserted_after ms (l ∷ ls) p s =
@@ -51,5 +51,5 @@ nothing_precedes : (ls : Members) → Precede [] ls
 nothing_precedes [] = tt
 nothing_precedes (l ∷ ls) = (tt, nothing_precedes ls)
 
-pub inserted_all : (ls : Members) → IsStrictlySortedBy name_cmp (keys_of ls) → inserted [] ls ≡ ls
+pub inserted_all : (ls : Members) → IsStrictlySortedBy key_cmp (keys_of ls) → inserted [] ls ≡ ls
 inserted_all ls s = inserted_after [] ls (nothing_precedes ls) s

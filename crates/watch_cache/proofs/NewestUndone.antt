@@ -2,11 +2,11 @@
 use Rattle.std.proofs.Common.{◌≡◌, ◌≤◌, ◌<◌, ℕ, ◌+◌, List, [], ◌∷◌, ◌++◌, map, take, drop, length, length-take-le, Some, refl, ap, ◌∙◌, arith}
 use Rattle.std.specs.Prelude.{option_map, slice_get}
 use Rattle.std.proofs.lemmas.List.{drop-append-le, length-map}
-use Rattle.meta.specs.Keys.{name_of}
+use Rattle.meta.specs.Keys.{key_of}
 use Rattle.definitions.specs.History.{View, Members, put_or_remove, seen}
-use Rattle.definitions.specs.Windows.{Kept}
+use Rattle.definitions.specs.Windows.{Change as Kept}
 use Rattle.server_state.specs.Recorded.{undone}
-use Rattle.watch_cache.specs.Changes.{kept_seen}
+use Rattle.watch_cache.specs.Changes.{change_seen}
 use Rattle.watch_cache.specs.declared.changes.Change.{Change}
 use Rattle.watch_cache.proofs.Rising.{take_at}
 
@@ -16,10 +16,10 @@ undone-append v ms (l ∷ ks) k = ap (λ z. put_or_remove z l.key (seen v l.key 
 
 -- of the changes from a start up to a place, the one at the place is undone first
 pub undone_at : (v : View) (ms : Members) (start place : ℕ) (cs : List Change) (c : Change) → start ≤ place → place < length cs → slice_get cs place ≡ Some c
-    → undone v ms (drop start (take (place + 1) (map kept_seen cs))) ≡ undone v (put_or_remove ms (name_of c.key) (seen v (name_of c.key) (option_map (λ o. o.value) c.old))) (drop start (take place (map kept_seen cs)))
+    → undone v ms (drop start (take (place + 1) (map change_seen cs))) ≡ undone v (put_or_remove ms (key_of c.key) (seen v (key_of c.key) (option_map (λ o. o.value) c.old))) (drop start (take place (map change_seen cs)))
 undone_at v ms start place cs c low within at =
-    let same = length-map cs kept_seen in
-    let short = length-take-le place (map kept_seen cs) (omega (arith, same, within)) in
+    let same = length-map cs change_seen in
+    let short = length-take-le place (map change_seen cs) (omega (arith, same, within)) in
     ap (λ ks. undone v ms (drop start ks)) (take_at place cs c at)
-    ∙ ap (undone v ms) (drop-append-le start (take place (map kept_seen cs)) (kept_seen c ∷ []) (omega (arith, short, low)))
-    ∙ undone-append v ms (drop start (take place (map kept_seen cs))) (kept_seen c)
+    ∙ ap (undone v ms) (drop-append-le start (take place (map change_seen cs)) (change_seen c ∷ []) (omega (arith, short, low)))
+    ∙ undone-append v ms (drop start (take place (map change_seen cs))) (change_seen c)

@@ -2,7 +2,7 @@
 ghost use Rattle.std.specs.Prelude.{◌≡◌, ◌≤◌, max, option_map};
 ghost use Rattle.std.specs.Option.{option_to_list};
 ghost use Rattle.definitions.specs.Windows.{last_revision};
-ghost use Rattle.watch_cache.specs.Changes.{kept_seen};
+ghost use Rattle.watch_cache.specs.Changes.{change_seen};
 
 use crate::changes::Change;
 use crate::searching::{events_above, first_above};
@@ -28,32 +28,32 @@ impl Model for Cache {
     ghost use Rattle.server_state.specs.Recorded.{Window};
     ghost use Rattle.definitions.specs.Windows.{IsRising};
     ghost use Rattle.server_state.specs.Codes.{coded_window};
-    ghost use Rattle.watch_cache.specs.Changes.{kept_seen};
+    ghost use Rattle.watch_cache.specs.Changes.{change_seen};
 
     ghost Value = { Window };
 
     ghost coded = { coded_window };
 
-    ghost view = { λ s. record { kind = s.kind; size = s.changes.capacity; kept = map kept_seen s.changes.items; floor = s.floor } };
+    ghost view = { λ s. record { kind = s.kind; size = s.changes.capacity; kept = map change_seen s.changes.items; floor = s.floor } };
 
-    ghost invariant = { λ s. (1 ≤ s.floor) × IsRising 0 (map kept_seen s.changes.items) };
+    ghost invariant = { λ s. (1 ≤ s.floor) × IsRising 0 (map change_seen s.changes.items) };
 }
 
 impl Cache {
     ghost use Rattle.std.specs.Prelude.{◌≡◌, ◌==◌, ◌≤◌, ◌<◌, IfOk, IsOk, Err, length, map};
     ghost use Rattle.std.specs.List.Sorted.{IsStrictlySortedBy};
     ghost use Rattle.std.specs.Map.{keys_of};
-    ghost use Rattle.definitions.specs.Names.{name_cmp};
-    ghost use Rattle.server_state.specs.Recorded.{above, opened, recorded, compacted_to, since_kept, list_kept};
+    ghost use Rattle.definitions.specs.Keys.{key_cmp};
+    ghost use Rattle.server_state.specs.Recorded.{above, opened, recorded, compacted_to, recorded_since, recorded_list};
     ghost use Rattle.definitions.specs.Windows.{last_revision, within};
     ghost use Rattle.meta.specs.Members.{member_of};
     ghost use Rattle.meta.specs.declared.faults.Fault.TheVariants as fault;
     ghost use Rattle.selector.specs.Views.{view_of};
-    ghost use Rattle.revisions.specs.Events.{change_seen};
-    ghost use Rattle.watch_cache.specs.Changes.{kept_seen};
+    ghost use Rattle.revisions.specs.Events.{event_seen};
+    ghost use Rattle.watch_cache.specs.Changes.{change_seen};
     ghost use Rattle.watch_cache.specs.Served.{Serves};
 
-    /// A cache of a kind that keeps the last `window` changes and has none so far. The error is want of memory.
+    /// Returns a cache of a kind that keeps the last `window` changes and has none so far. The error is running out of memory.
     pub fn new(alloc: Global, kind: Kind, window: usize) -> Result<Cache, AllocError>
         ensures { IfOk result (λ c. c ≡ opened kind window) }
     {
@@ -64,14 +64,14 @@ impl Cache {
         })
     }
 
-    /// The kind whose changes are kept.
+    /// Returns the kind whose changes are kept.
     pub fn kind(&self) -> Kind
         ensures { result ≡ self.now.kind }
     {
         self.kind
     }
 
-    /// How many changes there is room for. No more are kept.
+    /// Returns how many changes there is room for. No more are kept.
     pub fn window(&self) -> usize
         ensures size { result ≡ self.now.size }
         ensures room { length self.now.kept ≤ result }
@@ -79,7 +79,7 @@ impl Cache {
         self.changes.capacity()
     }
 
-    /// The least revision from which watches and lists are served.
+    /// Returns the least revision from which watches and lists are served.
     pub fn floor(&self) -> u64
         ensures { result ≡ self.now.floor }
     {
@@ -89,7 +89,7 @@ impl Cache {
     /// Takes the next change of the kind. Where there is no room, the oldest one goes. It takes no memory.
     pub fn record(&mut self, change: Change)
         requires { last_revision 0 self.old.kept < change.revision }
-        ensures window { self.new ≡ recorded self.old (kept_seen change) }
+        ensures window { self.new ≡ recorded self.old (change_seen change) }
         ensures last { last_revision 0 self.new.kept ≤ change.revision }
     {
         // says that no more changes are kept so far than there is room for
@@ -116,7 +116,7 @@ impl Cache {
         Ok(())
     }
 
-    /// Whether a revision is served: it is at least the floor, and at most the present one. The errors say which it is
+    /// Returns whether a revision is served: it is at least the floor, and at most the present one. The errors say which it is
     /// not. It takes no memory.
     pub fn check(&self, asked: u64, present: u64) -> Result<(), Fault>
         ensures { Serves (λ u. u) (within self.now.floor present asked tt) result }
@@ -131,16 +131,16 @@ impl Cache {
         Ok(())
     }
 
-    /// Whether no change that is kept has a revision above this one. Where that revision is served, what is there of the
-    /// kind is then what was there at it. It takes no memory.
+    /// Returns whether no change that is kept has a revision above this one. Where that revision is served, what is there of
+    /// the kind is then what was there at it. It takes no memory.
     pub fn is_unchanged_since(&self, revision: u64) -> bool
         ensures { result ≡ (length (above revision self.now.kept) == 0) }
     {
         first_above(&self.changes, revision) == self.changes.len()
     }
 
-    /// The first changes of a view after a revision, in order, at most as many as are asked for. The errors are a revision
-    /// below the floor, one above the present, and want of memory.
+    /// Returns the first changes of a view after a revision, in order, at most as many as are asked for. The errors are a
+    /// revision below the floor, one above the present, and running out of memory.
     pub fn since(
         &self,
         alloc: Global,
@@ -149,15 +149,15 @@ impl Cache {
         after: u64,
         max: usize,
     ) -> Result<Vec<Event>, Fault>
-        ensures { Serves (λ es. map change_seen es.items) (since_kept self.now present (view_of view.now) after max) result }
+        ensures { Serves (λ es. map event_seen es.items) (recorded_since self.now present (view_of view.now) after max) result }
     {
         self.check(after, present)?;
         let events = events_above(alloc, &self.changes, view, after, max)?;
         Ok(events)
     }
 
-    /// The members of a view at a revision, in the order of their keys: those that are listed at the present one, with the
-    /// later changes undone. The errors are a revision below the floor, one above the present, and want of memory.
+    /// Returns the members of a view at a revision, in the order of their keys: those that are listed at the present one, with
+    /// the later changes undone. The errors are a revision below the floor, one above the present, and running out of memory.
     pub fn list_at<'a>(
         &'a self,
         alloc: Global,
@@ -166,9 +166,9 @@ impl Cache {
         present: u64,
         revision: u64,
     ) -> Result<Vec<Member<'a>>, Fault>
-        requires { IsStrictlySortedBy name_cmp (keys_of (map member_of listed.now)) }
+        requires { IsStrictlySortedBy key_cmp (keys_of (map member_of listed.now)) }
         ensures { Serves (λ ms. map member_of ms.items)
-            (list_kept self.entry.now present (map member_of listed.entry.now) (view_of view.entry.now) revision) result }
+            (recorded_list self.entry.now present (map member_of listed.entry.now) (view_of view.entry.now) revision) result }
     {
         self.check(revision, present)?;
         let members = undone_to(alloc, &self.changes, listed, view, revision)?;
@@ -176,10 +176,10 @@ impl Cache {
     }
 }
 
-/// The floor after a change was dropped, or none was.
+/// Returns the floor after a change was dropped, or none was.
 fn raised(floor: u64, dropped: Option<Change>) -> u64
     requires { 1 ≤ floor }
-    ensures { result ≡ max floor (last_revision 1 (option_to_list (option_map kept_seen dropped))) }
+    ensures { result ≡ max floor (last_revision 1 (option_to_list (option_map change_seen dropped))) }
 {
     match dropped {
         Some(change) => floor.max(change.revision),

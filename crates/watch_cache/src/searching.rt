@@ -1,10 +1,10 @@
 //! The kept changes above a revision, found by halving.
 ghost use Rattle.std.specs.Prelude.{◌≡◌, ◌<◌, ◌≤◌, ◌+◌, ◌++◌, IfOk, OnOk, IfSome, length, map, take, drop, nat_lt, slice_get};
 ghost use Rattle.definitions.specs.Windows.{IsRising};
-ghost use Rattle.server_state.specs.Recorded.{above, change_kept, changes_kept};
+ghost use Rattle.server_state.specs.Recorded.{above, event_recorded, events_recorded};
 ghost use Rattle.selector.specs.Views.{view_of};
-ghost use Rattle.revisions.specs.Events.{change_seen};
-ghost use Rattle.watch_cache.specs.Changes.{kept_seen};
+ghost use Rattle.revisions.specs.Events.{event_seen};
+ghost use Rattle.watch_cache.specs.Changes.{change_seen};
 
 use crate::changes::Change;
 use circular_buffer::HeapCircularBuffer;
@@ -13,10 +13,10 @@ use revisions::making::{push_change, shown};
 use selector::View;
 use std::alloc::{AllocError, Global};
 
-/// The place of the first change with a revision above `after`; where there is none, the place behind the last.
+/// Returns the place of the first change with a revision above `after`; where there is none, the place behind the last.
 pub(crate) fn first_above(changes: &HeapCircularBuffer<Change>, after: u64) -> usize
-    requires { IsRising 0 (map kept_seen changes.now.items) }
-    ensures first { drop result (map kept_seen changes.now.items) ≡ above after (map kept_seen changes.now.items) }
+    requires { IsRising 0 (map change_seen changes.now.items) }
+    ensures first { drop result (map change_seen changes.now.items) ≡ above after (map change_seen changes.now.items) }
     ensures bound { result ≤ length changes.now.items }
 {
     let mut low = 0;
@@ -32,7 +32,7 @@ pub(crate) fn first_above(changes: &HeapCircularBuffer<Change>, after: u64) -> u
     low
 }
 
-/// Whether the change at a place has a revision above `after`.
+/// Returns whether the change at a place has a revision above `after`.
 fn is_above(changes: &HeapCircularBuffer<Change>, place: usize, after: u64) -> bool
     requires { place < length changes.now.items }
     ensures { IfSome (slice_get changes.now.items place) (λ c. result ≡ nat_lt after c.revision) }
@@ -43,7 +43,7 @@ fn is_above(changes: &HeapCircularBuffer<Change>, place: usize, after: u64) -> b
     }
 }
 
-/// The first events of a view after a revision, at most as many as are asked for.
+/// Returns the first events of a view after a revision, at most as many as are asked for.
 pub(crate) fn events_above(
     alloc: Global,
     changes: &HeapCircularBuffer<Change>,
@@ -51,9 +51,9 @@ pub(crate) fn events_above(
     after: u64,
     max: usize,
 ) -> Result<Vec<Event>, AllocError>
-    requires { IsRising 0 (map kept_seen changes.now.items) }
-    ensures { IfOk result (λ es. map change_seen es.items
-        ≡ take max (changes_kept (view_of view.now) (above after (map kept_seen changes.now.items)))) }
+    requires { IsRising 0 (map change_seen changes.now.items) }
+    ensures { IfOk result (λ es. map event_seen es.items
+        ≡ take max (events_recorded (view_of view.now) (above after (map change_seen changes.now.items)))) }
 {
     let start = first_above(changes, after);
     let mut events = Vec::new(alloc);
@@ -75,9 +75,9 @@ fn push_at(
     place: usize,
 ) -> Result<(), AllocError>
     requires { place < length changes.now.items }
-    ensures event { OnOk result (map change_seen events.new.items
-        ++ changes_kept (view_of view.now) (drop (place + 1) (map kept_seen changes.now.items))
-        ≡ map change_seen events.old.items ++ changes_kept (view_of view.now) (drop place (map kept_seen changes.now.items))) }
+    ensures event { OnOk result (map event_seen events.new.items
+        ++ events_recorded (view_of view.now) (drop (place + 1) (map change_seen changes.now.items))
+        ≡ map event_seen events.old.items ++ events_recorded (view_of view.now) (drop place (map change_seen changes.now.items))) }
     ensures one { OnOk result (length events.new.items ≤ length events.old.items + 1) }
 {
     match changes.get(place) {
@@ -93,8 +93,8 @@ fn push_event(
     view: &View,
     change: &Change,
 ) -> Result<(), AllocError>
-    ensures { OnOk result (map change_seen events.new.items
-        ≡ map change_seen events.old.items ++ change_kept (view_of view.now) (kept_seen change.now)) }
+    ensures { OnOk result (map event_seen events.new.items
+        ≡ map event_seen events.old.items ++ event_recorded (view_of view.now) (change_seen change.now)) }
 {
     let key = &change.key;
     let old = shown(view, key, change.old.as_ref());

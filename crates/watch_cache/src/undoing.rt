@@ -3,14 +3,14 @@ ghost use Rattle.std.specs.Prelude.{◌≡◌, IfOk, OnOk, map, option_map};
 ghost use Rattle.std.specs.List.Sorted.{IsStrictlySortedBy};
 ghost use Rattle.std.specs.Map.{keys_of};
 ghost use Rattle.definitions.specs.History.{put_or_remove, seen as shown};
-ghost use Rattle.definitions.specs.Names.{name_cmp};
+ghost use Rattle.definitions.specs.Keys.{key_cmp};
 ghost use Rattle.definitions.specs.Windows.{IsRising};
 ghost use Rattle.server_state.specs.Recorded.{above, undone};
-ghost use Rattle.meta.specs.Keys.{name_of};
+ghost use Rattle.meta.specs.Keys.{key_of};
 ghost use Rattle.meta.specs.Members.{member_of};
 ghost use Rattle.selector.specs.Views.{view_of};
 ghost use Rattle.revisions.specs.Seen.{seen};
-ghost use Rattle.watch_cache.specs.Changes.{kept_seen};
+ghost use Rattle.watch_cache.specs.Changes.{change_seen};
 
 use crate::changes::Change;
 use crate::searching::first_above;
@@ -22,7 +22,7 @@ use selector::View;
 use std::alloc::{AllocError, Global};
 use std::collections::BTreeMap;
 
-/// What is listed, with the changes above a revision undone, the newest first.
+/// Returns what is listed, with the changes above a revision undone, the newest first.
 pub(crate) fn undone_to<'a>(
     alloc: Global,
     changes: &'a HeapCircularBuffer<Change>,
@@ -30,10 +30,10 @@ pub(crate) fn undone_to<'a>(
     view: &View,
     revision: u64,
 ) -> Result<Vec<Member<'a>>, AllocError>
-    requires rising { IsRising 0 (map kept_seen changes.now.items) }
-    requires in_order { IsStrictlySortedBy name_cmp (keys_of (map member_of listed.now)) }
+    requires rising { IsRising 0 (map change_seen changes.now.items) }
+    requires in_order { IsStrictlySortedBy key_cmp (keys_of (map member_of listed.now)) }
     ensures { IfOk result (λ ms. map member_of ms.items
-        ≡ undone (view_of view.entry.now) (map member_of listed.entry.now) (above revision (map kept_seen changes.entry.now.items))) }
+        ≡ undone (view_of view.entry.now) (map member_of listed.entry.now) (above revision (map change_seen changes.entry.now.items))) }
 {
     let start = first_above(changes, revision);
     if start == changes.len() {
@@ -59,12 +59,12 @@ fn copied<'a>(alloc: Global, members: &[Member<'a>]) -> Result<Vec<Member<'a>>, 
     Ok(copies)
 }
 
-/// A map of the members that are listed in order.
+/// Returns a map of the members that are listed in order.
 fn map_of<'a>(
     alloc: Global,
     listed: &[Member<'a>],
 ) -> Result<BTreeMap<&'a Key, &'a StoredObject>, AllocError>
-    requires { IsStrictlySortedBy name_cmp (keys_of (map member_of listed.now)) }
+    requires { IsStrictlySortedBy key_cmp (keys_of (map member_of listed.now)) }
     ensures { IfOk result (λ m. seen m.entries ≡ map member_of listed.entry.now) }
 {
     let mut state = BTreeMap::new(alloc);
@@ -74,7 +74,7 @@ fn map_of<'a>(
     Ok(state)
 }
 
-/// What a map holds, in the order of its keys.
+/// Returns what a map holds, in the order of its keys.
 fn members_in<'a>(
     alloc: Global,
     state: &BTreeMap<&'a Key, &'a StoredObject>,
@@ -98,7 +98,7 @@ fn undo<'a>(
     change: &'a Change,
 ) -> Result<(), AllocError>
     ensures { OnOk result (seen state.new.entries ≡ put_or_remove (seen state.old.entries)
-        (name_of change.now.key) (shown (view_of view.now) (name_of change.now.key) (option_map (λ o. o.value) change.now.old))) }
+        (key_of change.now.key) (shown (view_of view.now) (key_of change.now.key) (option_map (λ o. o.value) change.now.old))) }
 {
     let old = shown(view, &change.key, change.old.as_ref());
     put_or_remove(state, &change.key, old)

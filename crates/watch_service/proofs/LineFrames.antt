@@ -2,10 +2,10 @@
 use Rattle.std.proofs.Common.{◌≡◌, ℕ, List, [], ◌∷◌, ◌++◌, map, Option, Some, None, Result, Ok, Err, OnOk, false, refl, sym, ap, subst, ◌∙◌, append_assoc, append-nil}
 use Rattle.definitions.specs.declared.kinds.Kind.{Kind}
 use Rattle.definitions.specs.declared.frames.FrameKind.TheVariants.{Added}
-use Rattle.definitions.specs.Changes.{Change}
-use Rattle.definitions.specs.Frames.{frame_text, bookmark_event}
+use Rattle.definitions.specs.Events.{Event}
+use Rattle.definitions.specs.Frames.{frame_text, bookmark_frame}
 use Rattle.definitions.specs.History.{Members}
-use Rattle.definitions.specs.Streams.{Line, change, event_of, added_lines}
+use Rattle.definitions.specs.Streams.{Line, event, frame_of, added_lines}
 use Rattle.chunked.specs.Bodies.{chunk_text}
 use Rattle.connections.specs.Replies.{frames_text}
 use Rattle.responses.specs.Frames.{change_frames, object_frames}
@@ -13,33 +13,33 @@ use Rattle.revisions.specs.Watches.{last_bookmark}
 
 pub frames-append : (k : Kind) (ls ms : List Line) → frames_text k (ls ++ ms) ≡ frames_text k ls ++ frames_text k ms
 frames-append k [] ms = refl
-frames-append k (l ∷ ls) ms = ap (λ t. chunk_text (frame_text (event_of k l)) ++ t) (frames-append k ls ms) ∙ sym (append_assoc (chunk_text (frame_text (event_of k l))) (frames_text k ls) (frames_text k ms))
+frames-append k (l ∷ ls) ms = ap (λ t. chunk_text (frame_text (frame_of k l)) ++ t) (frames-append k ls ms) ∙ sym (append_assoc (chunk_text (frame_text (frame_of k l))) (frames_text k ls) (frames_text k ms))
 
-pub frames-of_changes : (k : Kind) (cs : List Change) → frames_text k (map change cs) ≡ change_frames cs
+pub frames-of_changes : (k : Kind) (cs : List Event) → frames_text k (map event cs) ≡ change_frames cs
 frames-of_changes k [] = refl
-frames-of_changes k (c ∷ cs) = ap (λ t. chunk_text (frame_text (event_of k (change c))) ++ t) (frames-of_changes k cs)
+frames-of_changes k (c ∷ cs) = ap (λ t. chunk_text (frame_text (frame_of k (event c))) ++ t) (frames-of_changes k cs)
 
 pub frames-of_members : (k : Kind) (ms : Members) → frames_text k (added_lines ms) ≡ object_frames (map (λ m. m.1) ms)
 frames-of_members k [] = refl
 frames-of_members k (m ∷ ms) = ap (λ t. chunk_text (frame_text (record { kind = Added; object = m.1 })) ++ t) (frames-of_members k ms)
 
 -- changes, and then a bookmark or none
-pub frames-of_look : (k : Kind) (cs : List Change) (b : Option ℕ) → frames_text k (map change cs ++ last_bookmark b) ≡ change_frames cs ++ frames_text k (last_bookmark b)
-frames-of_look k cs b = frames-append k (map change cs) (last_bookmark b) ∙ ap (λ t. t ++ frames_text k (last_bookmark b)) (frames-of_changes k cs)
+pub frames-of_look : (k : Kind) (cs : List Event) (b : Option ℕ) → frames_text k (map event cs ++ last_bookmark b) ≡ change_frames cs ++ frames_text k (last_bookmark b)
+frames-of_look k cs b = frames-append k (map event cs) (last_bookmark b) ∙ ap (λ t. t ++ frames_text k (last_bookmark b)) (frames-of_changes k cs)
 
 -- the text after the frames of a look, with no bookmark
-pub look_none : (k : Kind) (old new : List ℕ) (cs : List Change) (b : Option ℕ) → new ≡ old ++ change_frames cs → b ≡ None → new ≡ old ++ frames_text k (map change cs ++ last_bookmark b)
+pub look_none : (k : Kind) (old new : List ℕ) (cs : List Event) (b : Option ℕ) → new ≡ old ++ change_frames cs → b ≡ None → new ≡ old ++ frames_text k (map event cs ++ last_bookmark b)
 look_none k old new cs None p e = p ∙ ap (λ t. old ++ t) (sym (frames-of_look k cs None ∙ append-nil (change_frames cs)))
 look_none k old new cs (Some r) p e = cc
 
-with_bookmark : (k : Kind) (old mid new : List ℕ) (cs : List Change) (r : ℕ) → mid ≡ old ++ change_frames cs → new ≡ mid ++ chunk_text (frame_text (bookmark_event k false r))
-    → new ≡ old ++ frames_text k (map change cs ++ last_bookmark (Some r))
+with_bookmark : (k : Kind) (old mid new : List ℕ) (cs : List Event) (r : ℕ) → mid ≡ old ++ change_frames cs → new ≡ mid ++ chunk_text (frame_text (bookmark_frame k false r))
+    → new ≡ old ++ frames_text k (map event cs ++ last_bookmark (Some r))
 with_bookmark k old mid new cs r p q =
-    let last = chunk_text (frame_text (bookmark_event k false r)) in
+    let last = chunk_text (frame_text (bookmark_frame k false r)) in
     q ∙ ap (λ t. t ++ last) p ∙ append_assoc old (change_frames cs) last ∙ ap (λ t. old ++ t) (sym (frames-of_look k cs (Some r) ∙ ap (λ t. change_frames cs ++ t) (append-nil last)))
 
 -- and with one
-pub look_some : {X E : Type 0} (k : Kind) (old mid new : List ℕ) (cs : List Change) (b : Option ℕ) (r : ℕ) (result : Result X E) → mid ≡ old ++ change_frames cs
-    → OnOk result (new ≡ mid ++ chunk_text (frame_text (bookmark_event k false r))) → b ≡ Some r → OnOk result (new ≡ old ++ frames_text k (map change cs ++ last_bookmark b))
-look_some k old mid new cs b r (Ok u) p q e = subst (λ b. new ≡ old ++ frames_text k (map change cs ++ last_bookmark b)) (sym e) (with_bookmark k old mid new cs r p q)
+pub look_some : {X E : Type 0} (k : Kind) (old mid new : List ℕ) (cs : List Event) (b : Option ℕ) (r : ℕ) (result : Result X E) → mid ≡ old ++ change_frames cs
+    → OnOk result (new ≡ mid ++ chunk_text (frame_text (bookmark_frame k false r))) → b ≡ Some r → OnOk result (new ≡ old ++ frames_text k (map event cs ++ last_bookmark b))
+look_some k old mid new cs b r (Ok u) p q e = subst (λ b. new ≡ old ++ frames_text k (map event cs ++ last_bookmark b)) (sym e) (with_bookmark k old mid new cs r p q)
 look_some k old mid new cs b r (Err x) p q e = tt

@@ -2,7 +2,7 @@
 use Rattle.std.specs.Prelude.{◌≡◌, ◌≤◌, ◌<◌, ◌+◌, ℕ, List, [], ◌∷◌, ◌++◌, Bool, Option, Some, None, Result, Ok, Err}
 use Rattle.std.specs.Result.{result_map_both}
 use Rattle.definitions.specs.declared.kinds.Kind.{Kind}
-use Rattle.definitions.specs.Frames.{frame_text, error_event}
+use Rattle.definitions.specs.Frames.{frame_text, error_frame}
 use Rattle.definitions.specs.History.{View}
 use Rattle.definitions.specs.Refusals.{Refusal}
 use Rattle.definitions.specs.Streams.{Line, added_lines}
@@ -54,7 +54,7 @@ opening_at bookmarks at w = record { lines = told_lines bookmarks at w; stands =
 abbrev pub look_frames : Kind → Bool → ℕ → List Look → List ℕ
 look_frames k bookmarks at [] = []
 look_frames k bookmarks at (Ok w ∷ looks) = frames_text k (told_lines bookmarks at w) ++ look_frames k bookmarks w.stands looks
-look_frames k bookmarks at (Err f ∷ looks) = chunk_text (frame_text (error_event f)) ++ look_frames k bookmarks at looks
+look_frames k bookmarks at (Err f ∷ looks) = chunk_text (frame_text (error_frame f)) ++ look_frames k bookmarks at looks
 
 -- these looks end a watch: after the last of them 1,024 in a row have given no line, or it was refused, and before it neither was so
 abbrev pub Ends : Bool → ℕ → ℕ → List Look → Type 0

@@ -3,8 +3,8 @@ ghost use Rattle.std.specs.Prelude.{◌≡◌, ◌<◌, ◌++◌, IfErr, OnOk, m
 ghost use Rattle.chunked.specs.Bodies.{chunk_text};
 ghost use Rattle.chunked.specs.Devices.{has_failed};
 ghost use Rattle.connections.specs.Replies.{frames_text};
-ghost use Rattle.definitions.specs.Frames.{frame_text, error_event};
-ghost use Rattle.definitions.specs.Streams.{change};
+ghost use Rattle.definitions.specs.Frames.{frame_text, error_frame};
+ghost use Rattle.definitions.specs.Streams.{event};
 ghost use Rattle.definitions.specs.WatchReplies.{told_lines};
 ghost use Rattle.meta.specs.Faults.{refusal_of};
 ghost use Rattle.revisions.specs.Watches.{watched_of, last_bookmark};
@@ -43,7 +43,7 @@ pub(crate) fn push_look(
     bookmark: Option<u64>,
 ) -> Result<(), AllocError>
     ensures { OnOk result (text.new.items ≡ text.old.items
-        ++ frames_text kind (map change (watched_of watched.now).changes ++ last_bookmark bookmark)) }
+        ++ frames_text kind (map event (watched_of watched.now).changes ++ last_bookmark bookmark)) }
 {
     push_changes(alloc, text, &watched.events)?;
     match bookmark {
@@ -55,7 +55,7 @@ pub(crate) fn push_look(
 /// Returns how many looks in a row have given no line, after one that gave these.
 pub(crate) fn idle_after(idle: u64, watched: &Watched, bookmark: Option<u64>) -> u64
     requires { idle < most_idle }
-    ensures { result ≡ idle_after idle (map change (watched_of watched.now).changes ++ last_bookmark bookmark) }
+    ensures { result ≡ idle_after idle (map event (watched_of watched.now).changes ++ last_bookmark bookmark) }
 {
     if watched.events.is_empty() && bookmark.is_none() {
         idle + 1
@@ -103,7 +103,7 @@ pub(crate) fn tell<W: Write + Drop>(
     writer: &mut Device<W>,
 ) -> Result<(), Cut>
     requires sound { has_failed writer.old ≡ false }
-    ensures { Writes (chunk_text (frame_text (error_event (refusal_of fault.now)))) W.contents writer.old writer.new result }
+    ensures { Writes (chunk_text (frame_text (error_frame (refusal_of fault.now)))) W.contents writer.old writer.new result }
 {
     let mut text = Vec::new(alloc);
     push_error(alloc, &mut text, fault)?;

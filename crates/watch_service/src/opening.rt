@@ -1,7 +1,7 @@
 //! How a watch opens.
 ghost use Rattle.std.specs.Prelude.{◌≡◌, ◌++◌, IfOk, None, Some, false, map};
 ghost use Rattle.connections.specs.Replies.{watch_head, frames_text};
-ghost use Rattle.definitions.specs.Streams.{change};
+ghost use Rattle.definitions.specs.Streams.{event};
 ghost use Rattle.responses.specs.Frames.{object_frames};
 ghost use Rattle.revisions.specs.Watches.{watched_of, last_bookmark};
 ghost use Rattle.selector.specs.Views.{view_of};
@@ -46,7 +46,7 @@ fn first_text(
     bookmark: Option<u64>,
 ) -> Result<Vec<u8>, AllocError>
     ensures { IfOk result (λ text. text.items
-        ≡ watch_head ++ frames_text kind (map change (watched_of watched.now).changes ++ last_bookmark bookmark)) }
+        ≡ watch_head ++ frames_text kind (map event (watched_of watched.now).changes ++ last_bookmark bookmark)) }
 {
     let mut text = Vec::new(alloc);
     text.extend_from_slice(watch_head())?;

@@ -2,11 +2,11 @@
 use Rattle.std.proofs.Common.{◌≡◌, nat_cmp, rules, Ordering}
 use Rattle.controllers.specs.contracts.controller.ControllerOrd.TheImpl as controller_ord
 use Rattle.controllers.specs.declared.controller.Controller.{Controller}
-use Rattle.controllers.specs.WorkQueues.{task_cmp, turn}
+use Rattle.controllers.specs.WorkQueues.{work_key_cmp as task_cmp, turn}
 use Rattle.meta.proofs.KeyOrder.{key_cmp-name_cmp}
 use Rattle.work_keys.specs.contracts.work_key.WorkKeyOrd.TheImpl as work_key_ord
 use Rattle.work_keys.specs.declared.work_key.WorkKey.{WorkKey}
-use Rattle.work_keys.specs.Tasks.{task_of}
+use Rattle.work_keys.specs.Tasks.{work_key_of}
 
 -- controllers go by their turns
 pub controller_cmp-turn : (a b : Controller) → (controller_ord.ghosts).cmp a b ≡ nat_cmp (turn a) (turn b)
@@ -17,5 +17,5 @@ abbrev pub work_key_cmp : WorkKey → WorkKey → Ordering
 work_key_cmp = (work_key_ord.ghosts).cmp
 
 -- keys of work go by their tasks
-pub work_key_cmp-task_cmp : (a b : WorkKey) → work_key_cmp a b ≡ task_cmp (task_of a) (task_of b)
+pub work_key_cmp-task_cmp : (a b : WorkKey) → work_key_cmp a b ≡ task_cmp (work_key_of a) (work_key_of b)
 work_key_cmp-task_cmp a b = search (rules, controller_cmp-turn, key_cmp-name_cmp)

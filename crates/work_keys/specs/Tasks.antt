@@ -1,8 +1,8 @@
 -- What a key of work says.
-use Rattle.controllers.specs.WorkQueues.{Task}
-use Rattle.meta.specs.Keys.{name_of}
+use Rattle.controllers.specs.WorkQueues.{WorkKey as Task}
+use Rattle.meta.specs.Keys.{key_of}
 use Rattle.work_keys.specs.declared.work_key.WorkKey.{WorkKey}
 
 -- a key's task: its controller, and the name of its object
-abbrev pub task_of : WorkKey → Task
-task_of k = record { controller = k.controller; key = name_of k.key }
+abbrev pub work_key_of : WorkKey → Task
+work_key_of k = record { controller = k.controller; key = key_of k.key }

@@ -1,6 +1,6 @@
 //! Keys of work.
 ghost use Rattle.std.specs.Prelude.{◌≡◌, IfOk};
-ghost use Rattle.work_keys.specs.Tasks.{task_of};
+ghost use Rattle.work_keys.specs.Tasks.{work_key_of};
 
 use controllers::controller::Controller;
 use meta::keys::Key;
@@ -14,9 +14,9 @@ pub struct WorkKey {
 }
 
 impl WorkKey {
-    /// A copy of the key. The error is want of memory.
+    /// Returns a copy of the key. The error is running out of memory.
     pub fn try_copy(&self) -> Result<WorkKey, AllocError>
-        ensures { IfOk result (λ k. task_of k ≡ task_of self.now) }
+        ensures { IfOk result (λ k. work_key_of k ≡ work_key_of self.now) }
     {
         Ok(WorkKey {
             controller: self.controller,

@@ -2,7 +2,7 @@
 ghost use Rattle.std.specs.Prelude.{◌≡◌, IfOk, OnOk, OnErr, length, option_map, ◌+◌, ◌<◌, ◌≤◌, ◌∷◌, ◌++◌, [], Some, IsSome};
 ghost use Rattle.std.specs.VecDeque.{deque_len, deque_capacity};
 ghost use Rattle.controllers.specs.WorkQueues.{idle, added, got, handed, done, shut};
-ghost use Rattle.work_keys.specs.Tasks.{task_of};
+ghost use Rattle.work_keys.specs.Tasks.{work_key_of};
 
 use std::alloc::{AllocError, Global};
 use std::collections::{BTreeSet, VecDeque};
@@ -22,12 +22,12 @@ pub struct Queue {
 impl Model for Queue {
     ghost use Rattle.std.specs.Prelude.{◌+◌, ◌≤◌, length};
     ghost use Rattle.std.specs.VecDeque.{deque_len, deque_capacity};
-    ghost use Rattle.controllers.specs.WorkQueues.{Work};
-    ghost use Rattle.controllers.specs.Codes.{work_code};
+    ghost use Rattle.controllers.specs.WorkQueues.{WorkQueue};
+    ghost use Rattle.controllers.specs.Codes.{coded_work_queue};
 
-    ghost Value = { Work };
+    ghost Value = { WorkQueue };
 
-    ghost coded = { work_code };
+    ghost coded = { coded_work_queue };
 
     ghost use Rattle.workqueue.specs.Seen.{work_of};
 
@@ -37,7 +37,7 @@ impl Model for Queue {
 }
 
 impl Queue {
-    /// An empty queue.
+    /// Returns an empty queue.
     pub fn new(alloc: Global) -> Queue
         ensures { result ≡ idle }
     {
@@ -51,7 +51,7 @@ impl Queue {
 
     /// Adds a key: it waits once, however often it is added, and a key in a worker's hands waits for its `done`.
     pub fn add(&mut self, key: WorkKey) -> Result<(), AllocError>
-        ensures ok { OnOk result (self.new ≡ added (task_of key) self.old) }
+        ensures ok { OnOk result (self.new ≡ added (work_key_of key) self.old) }
         ensures err { OnErr result (self.new ≡ self.old) }
     {
         if self.is_shut || self.dirty.contains(&key) {
@@ -71,7 +71,7 @@ impl Queue {
     /// Hands out the key that waits longest, if one waits.
     pub fn get(&mut self) -> Result<Option<WorkKey>, AllocError>
         ensures ok { OnOk result (self.new ≡ got self.old) }
-        ensures handed { IfOk result (λ k. option_map task_of k ≡ handed self.old) }
+        ensures handed { IfOk result (λ k. option_map work_key_of k ≡ handed self.old) }
         ensures err { OnErr result (self.new ≡ self.old) }
     {
         let Some(front) = self.ready.front() else {
@@ -87,7 +87,7 @@ impl Queue {
 
     /// Takes a key back from its worker. It waits again if it was added meanwhile.
     pub fn done(&mut self, key: &WorkKey)
-        ensures { self.new ≡ done (task_of key.now) self.old }
+        ensures { self.new ≡ done (work_key_of key.now) self.old }
     {
         let Some(kept) = self.processing.take(key) else {
             return;
@@ -104,7 +104,7 @@ impl Queue {
         self.is_shut = true;
     }
 
-    /// How many keys wait.
+    /// Returns how many keys wait.
     pub fn len(&self) -> usize
         ensures { result ≡ length self.now.queue }
     {

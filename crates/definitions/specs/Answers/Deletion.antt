@@ -13,7 +13,7 @@ use Rattle.definitions.specs.Objects.Checks.{finalizers, text_is, has_text}
 use Rattle.definitions.specs.Requests.DeleteOptions.{Options}
 use Rattle.definitions.specs.Texts.Kinds.{has_generation}
 use Rattle.definitions.specs.Objects.Metadata.{metadata_of, with_metadata, at_revision, uid, version, is_being_deleted, differs}
-use Rattle.definitions.specs.Texts.Names.{Name}
+use Rattle.definitions.specs.Texts.Keys.{Key}
 use Rattle.definitions.specs.Objects.Refusals.{success_body}
 use Rattle.definitions.specs.Objects.Replacements.{with_next_generation}
 
@@ -64,8 +64,8 @@ with_deletion k moment old =
     if is_being_deleted old then metadata_of old else put (codes "deletionTimestamp") (string moment) (with_next_generation (has_generation k) old (metadata_of old))
 
 -- the object with its deletionTimestamp set and these finalizers, and so far at its version
-abbrev pub marked : Kind → List ℕ → Items → Data → Data
-marked k moment left old = with_metadata (put (codes "finalizers") (array left) (with_deletion k moment old)) old
+abbrev pub being_deleted : Kind → List ℕ → Items → Data → Data
+being_deleted k moment left old = with_metadata (put (codes "finalizers") (array left) (with_deletion k moment old)) old
 
 -- what a delete does: the object is removed, or stored with its deletionTimestamp set, or left as it is
 pub data Fate : Type 0 where
@@ -77,7 +77,7 @@ pub data Fate : Type 0 where
 abbrev pub fate : Kind → Option Policy → List ℕ → Data → Fate
 fate k policy moment old =
     let left = left_by policy (finalizers old) in
-    if items_len left == 0 then remove else (if is_being_deleted old && leaves policy (finalizers old) then keep else mark (marked k moment left old))
+    if items_len left == 0 then remove else (if is_being_deleted old && leaves policy (finalizers old) then keep else mark (being_deleted k moment left old))
 
 -- what a delete does, or the first of its preconditions that is not met (Kubernetes API reference, Preconditions)
 abbrev pub decided : Kind → Options → List ℕ → Data → Result Fate Mismatch
@@ -88,10 +88,10 @@ decided k o moment old =
 -- ---- answers
 
 -- what is answered for a removed object: of a Pod the Pod, at the revision of its removal, of the others that it is gone
-abbrev pub gone : Name → Data → Data
+abbrev pub gone : Key → Data → Data
 gone k old = success_body (Some (k, unwrap_or (uid old) []))
 
-abbrev pub removal_of : Kind → Name → ℕ → Data → Data
+abbrev pub removal_of : Kind → Key → ℕ → Data → Data
 removal_of Pod k r old = at_revision r (metadata_of old) old
 removal_of kind k r old = gone k old
 

@@ -6,7 +6,7 @@ use Rattle.std.specs.Cmp.Lexicographic.{slice_cmp}
 use Rattle.std.specs.Str.{IsUtf8}
 use Rattle.serde_json.specs.Data.{Num, unsigned, negative, float, Data, number, string, array, object, Items, no_items, item, Members, no_members, member}
 use Rattle.definitions.specs.State.History.{History, compaction, present}
-use Rattle.definitions.specs.Texts.Names.{is_namespace}
+use Rattle.definitions.specs.Texts.Keys.{is_namespace}
 use Rattle.definitions.specs.Answers.Verbs.{accept, history_after}
 use Rattle.definitions.specs.Requests.ObjectRequests.{Request, create_object, update_object, update_status, patch_object}
 

@@ -15,7 +15,7 @@ use Rattle.definitions.specs.Objects.Checks.{generate_name, create_fault, update
 use Rattle.definitions.specs.Objects.Defaults.{defaulted}
 use Rattle.definitions.specs.Texts.GeneratedNames.{name_from}
 use Rattle.definitions.specs.Texts.Kinds.{api_version, kind_text, has_status}
-use Rattle.definitions.specs.Texts.Names.{Name}
+use Rattle.definitions.specs.Texts.Keys.{Key}
 use Rattle.definitions.specs.State.History as history
 use Rattle.definitions.specs.State.History.{History, Write, write, View, viewed, members, found, present}
 use Rattle.definitions.specs.Requests.DeleteOptions.{Options}
@@ -25,7 +25,7 @@ use Rattle.definitions.specs.Objects.Metadata.{metadata_of, at_revision, name, n
 use Rattle.definitions.specs.Objects.Reading.{is_body, reading}
 use Rattle.definitions.specs.Objects.Refusals.{Refusal, bad_request, not_found, already_exists, conflict, invalid, too_large, storage_full, code, status_body}
 use Rattle.definitions.specs.Objects.NewObjects.{created, with_first_status}
-use Rattle.definitions.specs.Objects.Replacements.{in_place, is_let_go, says_the_same, updated, with_said_status}
+use Rattle.definitions.specs.Objects.Replacements.{in_place, is_finalized, says_the_same, updated, with_status_in}
 use Rattle.definitions.specs.Texts.Revisions.{greatest_revision}
 use Rattle.definitions.specs.Texts.Values.{members_of, merged, without}
 
@@ -76,7 +76,7 @@ abbrev pub refuse_if : Bool → Refusal → Outcome → Outcome
 refuse_if b f o = if b then refused f else o
 
 -- a field of the object with this name is at fault, or none is
-abbrev pub refuse_field : Name → Option Field → Outcome → Outcome
+abbrev pub refuse_field : Key → Option Field → Outcome → Outcome
 refuse_field k None o = o
 refuse_field k (Some f) o = refused (invalid k f)
 
@@ -86,7 +86,7 @@ if_read (Err p) next = refused (bad_request p)
 if_read (Ok o) next = next o
 
 -- what is done with the object that is there, if there is one
-abbrev pub or_absent : Name → (Data → Outcome) → Option Data → Outcome
+abbrev pub or_absent : Key → (Data → Outcome) → Option Data → Outcome
 or_absent k next None = refused (not_found k)
 or_absent k next (Some d) = next d
 
@@ -95,11 +95,11 @@ abbrev pub shown : Data → Outcome
 shown d = answered (record { code = 200; body = d; write = None })
 
 -- an object is stored under its key, and answered
-abbrev pub stored : ℕ → Name → Data → Outcome
+abbrev pub stored : ℕ → Key → Data → Outcome
 stored code k d = answered (record { code = code; body = d; write = Some (record { key = k; put = Some d }) })
 
 -- the object under a key is removed, and this is answered
-abbrev pub removed : Name → Data → Outcome
+abbrev pub removed : Key → Data → Outcome
 removed k d = answered (record { code = 200; body = d; write = Some (record { key = k; put = None }) })
 
 abbrev pub is_too_large : Data → Bool
@@ -113,8 +113,8 @@ abbrev pub overflows : history.Members → ℕ → Write → Bool
 overflows ms r w = (nat_le most_objects (length ms) && is_some w.put && not (is_some (found w.key ms))) || is_past_greatest (r + 1)
 
 -- what a body says as an object of a kind, with what is filled in where its spec leaves it out
-abbrev pub said : Kind → Data → Result Data Part
-said k d = result_map_both (defaulted k) (λ p. p) (reading k d)
+abbrev pub object_in : Kind → Data → Result Data Part
+object_in k d = result_map_both (defaulted k) (λ p. p) (reading k d)
 
 -- ---- list
 
@@ -143,7 +143,7 @@ abbrev pub is_free : Kind → List ℕ → history.Members → List ℕ → Bool
 is_free kind ns ms name = not (is_some (found (record { kind = kind; namespace = ns; name = name }) ms))
 
 -- the name of a new object: the one that it says, or one that is made
-abbrev pub new_name : Kind → List ℕ → Data → history.Members → ℕ → Name
+abbrev pub new_name : Kind → List ℕ → Data → history.Members → ℕ → Key
 new_name kind ns o ms r = record { kind = kind; namespace = ns; name = name_from (is_free kind ns ms) (name o) (generate_name o) (r + 1) }
 
 -- a new object, with its first status, is stored if none has its name and its fields are as they have to be (Kubernetes API Concepts, POST)
@@ -159,47 +159,47 @@ create kind ns o ms r moment =
 -- ---- update
 
 -- whether an object names the one of a path, and no other namespace
-abbrev pub names_path : Name → Data → Bool
+abbrev pub names_path : Key → Data → Bool
 names_path k o = not (is_other (namespace o) k.namespace) && not (differs (Some k.name) (name o))
 
 -- what is done with a body that can be read, and names the object of the path
-abbrev pub if_named : Name → Result Data Part → (Data → Outcome) → Outcome
+abbrev pub if_named : Key → Result Data Part → (Data → Outcome) → Outcome
 if_named k read next = if_read read (λ o. refuse_if (not (names_path k o)) (bad_request part.Object) (next o))
 
 -- what is done where the object that is stored has the uid and the version that another names (Kubernetes API Conventions, Concurrency Control and Consistency)
-abbrev pub if_same : Name → Data → Data → Outcome → Outcome
+abbrev pub if_same : Key → Data → Data → Outcome → Outcome
 if_same k o old next =
     refuse_if (differs (uid o) (uid old)) (conflict k mismatch.Uid) (refuse_if (differs (version o) (version old)) (conflict k mismatch.Modified) next)
 
 -- an object is stored in the place of another
-abbrev pub put_in_place : Name → Data → ℕ → Outcome
+abbrev pub put_in_place : Key → Data → ℕ → Outcome
 put_in_place k d r = refuse_if (is_too_large d) too_large (refuse_if (is_past_greatest (r + 1)) storage_full (stored 200 k d))
 
 -- the object under a key is removed, and this is answered, if a revision is left for the removal
-abbrev pub let_go : Name → Data → ℕ → Outcome
-let_go k d r = refuse_if (is_past_greatest (r + 1)) storage_full (removed k d)
+abbrev pub take_out : Key → Data → ℕ → Outcome
+take_out k d r = refuse_if (is_past_greatest (r + 1)) storage_full (removed k d)
 
 -- an object replaces the one that is stored, which is removed where its last finalizer is; what says the same writes nothing (Kubernetes API Concepts, PUT; Kubernetes, Finalizers)
-abbrev pub replace : Name → Data → ℕ → Data → Outcome
+abbrev pub replace : Key → Data → ℕ → Data → Outcome
 replace k o r old =
     let d = in_place k.kind old o in
     let new = updated k.kind (r + 1) old d in
     if_same k o old
-    (refuse_field k (update_fault k.kind k.name r old d) (if says_the_same old d then shown old else (if is_let_go old new then let_go k new r else put_in_place k new r)))
+    (refuse_field k (update_fault k.kind k.name r old d) (if says_the_same old d then shown old else (if is_finalized old new then take_out k new r else put_in_place k new r)))
 
 -- the status that an object says replaces that of the one that is stored, and nothing else is taken of it (Kubernetes API Conventions, Spec and Status)
-abbrev pub replace_status : Name → Data → ℕ → Data → Outcome
+abbrev pub replace_status : Key → Data → ℕ → Data → Outcome
 replace_status k o r old =
-    let d = with_said_status k.kind old o in
+    let d = with_status_in k.kind old o in
     if_same k o old
     (refuse_if (not (is_status_valid k.kind d)) (invalid k field.Status) (if says_the_same old d then shown old else put_in_place k (at_revision (r + 1) (metadata_of d) d) r))
 
 -- ---- delete
 
 -- the object that is stored is removed, or its deletionTimestamp is set, however large it is then (Kubernetes API Concepts, DELETE)
-abbrev pub by_decision : Name → ℕ → Data → ℕ → Result Fate Mismatch → Outcome
+abbrev pub by_decision : Key → ℕ → Data → ℕ → Result Fate Mismatch → Outcome
 by_decision k code old r (Err why) = refused (conflict k why)
-by_decision k code old r (Ok remove) = let_go k (removal_of k.kind k (r + 1) old) r
+by_decision k code old r (Ok remove) = take_out k (removal_of k.kind k (r + 1) old) r
 by_decision k code old r (Ok (mark d)) = refuse_if (is_past_greatest (r + 1)) storage_full (stored code k (at_revision (r + 1) (metadata_of d) d))
 by_decision k code old r (Ok keep) = answered (record { code = code; body = old; write = None })
 
@@ -209,12 +209,12 @@ by_decision k code old r (Ok keep) = answered (record { code = code; body = old;
 abbrev pub accept_at : Request → history.Members → ℕ → List ℕ → Outcome
 accept_at (get_object k) ms r moment = or_absent k shown (found k ms)
 accept_at (list_objects v) ms r moment = shown (list_body v.kind r (viewed v ms))
-accept_at (create_object kind ns d) ms r moment = if_read (said kind d) (λ o. create kind ns o ms r moment)
-accept_at (update_object k d) ms r moment = if_named k (said k.kind d) (λ o. or_absent k (replace k o r) (found k ms))
+accept_at (create_object kind ns d) ms r moment = if_read (object_in kind d) (λ o. create kind ns o ms r moment)
+accept_at (update_object k d) ms r moment = if_named k (object_in k.kind d) (λ o. or_absent k (replace k o r) (found k ms))
 accept_at (update_status k d) ms r moment =
     refuse_if (not (has_status k.kind)) (not_found k) (if_named k (reading k.kind d) (λ o. or_absent k (replace_status k o r) (found k ms)))
 accept_at (patch_object k d) ms r moment =
-    refuse_if (not (is_body d)) (bad_request part.Body) (or_absent k (λ old. if_named k (said k.kind (merged old d)) (λ o. replace k o r old)) (found k ms))
+    refuse_if (not (is_body d)) (bad_request part.Body) (or_absent k (λ old. if_named k (object_in k.kind (merged old d)) (λ o. replace k o r old)) (found k ms))
 accept_at (delete_object k o) ms r moment = or_absent k (λ old. by_decision k (kept_code o.policy) old r (decided k.kind o moment old)) (found k ms)
 
 -- the answer to a request at a moment, after all that has happened

@@ -5,7 +5,7 @@ use Rattle.definitions.specs.declared.versions.At.{At}
 use Rattle.definitions.specs.declared.versions.At.TheVariants.{Present, NotOlder, Exact}
 use Rattle.definitions.specs.State.History.{History, compaction, View, Members, present, list}
 use Rattle.definitions.specs.Objects.Refusals.{Refusal, too_new}
-use Rattle.definitions.specs.State.Changes.{Change}
+use Rattle.definitions.specs.State.Events.{Event}
 use Rattle.definitions.specs.State.Windows.{since, list_within}
 
 -- ---- lists
@@ -36,16 +36,16 @@ list_for size h v at = listed_at (present h) (list h v (present h)) (list_within
 
 -- what a watch is given at a time: changes, and the revision up to which they are all that it asks for
 pub record Watched : Type 0 where
-  pub changes : List Change
+  pub changes : List Event
   pub stands : ℕ
 
 -- the revision of the last of these changes, a if there is none
-abbrev pub last_change : ℕ → List Change → ℕ
+abbrev pub last_change : ℕ → List Event → ℕ
 last_change a [] = a
 last_change a (c ∷ cs) = last_change c.revision cs
 
 -- the first n of these changes after a: where there is no other, the watch then stands at the present revision, else at that of the last one given
-abbrev pub watched : ℕ → ℕ → ℕ → List Change → Watched
+abbrev pub watched : ℕ → ℕ → ℕ → List Event → Watched
 watched now a n cs = record { changes = take n cs; stands = if nat_le (length cs) n then now else last_change a (take n cs) }
 
 -- the first n changes of the view after a, from a window of this size; one more is asked for, which tells whether there is more

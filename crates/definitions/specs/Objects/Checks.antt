@@ -15,9 +15,9 @@ use Rattle.definitions.specs.declared.refusals.Field.TheVariants as field
 use Rattle.definitions.specs.Texts.Labels.{is_label_key, is_label_value}
 use Rattle.definitions.specs.Objects.Metadata.{labels_of, Owner, metadata, metadata_text, name, is_being_deleted, owners, text_at}
 use Rattle.definitions.specs.Texts.Moments.{is_digit}
-use Rattle.definitions.specs.Texts.Names.{is_letter_or_digit, is_subdomain}
+use Rattle.definitions.specs.Texts.Keys.{is_letter_or_digit, is_subdomain}
 use Rattle.definitions.specs.Texts.Selectors.{Requirement, meets_all}
-use Rattle.definitions.specs.Objects.SelectorValues.{all_items, items_in, passes, said_by_value}
+use Rattle.definitions.specs.Objects.SelectorValues.{all_items, items_in, passes, selector_of_value}
 use Rattle.definitions.specs.Texts.Uids.{uid_text, uid_revision, cluster_word}
 
 -- the test of what is there; what is absent passes
@@ -125,7 +125,7 @@ is_status_valid k d = list_all (λ count. is_not_negative (in_status count d)) (
 
 -- what spec.selector says, where it is there and is one (Kubernetes API reference, LabelSelector)
 abbrev pub requirements : Data → Option (List Requirement)
-requirements d = option_and_then (λ s. result_ok (said_by_value s)) (in_spec (codes "selector") d)
+requirements d = option_and_then (λ s. result_ok (selector_of_value s)) (in_spec (codes "selector") d)
 
 -- spec.selector: one that says something
 abbrev pub is_selector_valid : Data → Bool

@@ -8,21 +8,21 @@ use Rattle.definitions.specs.declared.refusals.Mismatch.TheVariants as mismatch
 use Rattle.definitions.specs.declared.refusals.Field.{Field}
 use Rattle.definitions.specs.declared.refusals.Field.TheVariants as field
 use Rattle.definitions.specs.Texts.Kinds.{plural, group_name, resource}
-use Rattle.definitions.specs.Texts.Names.{Name}
+use Rattle.definitions.specs.Texts.Keys.{Key}
 
 -- the refusals; a revision is first the one asked for, then the floor or the present one
 pub data Refusal : Type 0 where
   bad_request : Part → Refusal
-  not_found : Name → Refusal
+  not_found : Key → Refusal
   no_such_path : Refusal
   method_not_allowed : Refusal
-  already_exists : Name → Refusal
-  conflict : Name → Mismatch → Refusal
+  already_exists : Key → Refusal
+  conflict : Key → Mismatch → Refusal
   expired : ℕ → ℕ → Refusal
   length_required : Refusal
   too_large : Refusal
   unsupported_media_type : Refusal
-  invalid : Name → Field → Refusal
+  invalid : Key → Field → Refusal
   no_memory : Refusal
   too_new : ℕ → ℕ → Refusal
   storage_full : Refusal
@@ -55,7 +55,7 @@ field_text field.RevisionHistoryLimit = codes "spec.revisionHistoryLimit"
 field_text field.Status = codes "status"
 
 -- a resource and a name in quotes, as `configmaps "a"`
-abbrev pub quoted_name : Name → List ℕ
+abbrev pub quoted_name : Key → List ℕ
 quoted_name k = resource k.kind ++ (32 ∷ 34 ∷ (k.name ++ 34 ∷ []))
 
 -- what a client is told: an HTTP status code (RFC 9110), a word for programs, a sentence for people, and which object it is about, if any (Kubernetes API Conventions, Response Status Kind)
@@ -63,7 +63,7 @@ pub record Told : Type 0 where
   pub code : ℕ
   pub reason : List ℕ
   pub message : List ℕ
-  pub about : Option Name
+  pub about : Option Key
 
 -- what it is told of each refusal (Kubernetes API machinery, the errors package)
 abbrev pub told : Refusal → Told
@@ -94,7 +94,7 @@ with_optional name None ms = ms
 with_optional name (Some d) ms = member name d ms
 
 -- the details that name an object, with its group if its kind has one, and with more after them (Kubernetes API Conventions, Response Status Kind)
-abbrev pub details : Name → Members → Data
+abbrev pub details : Key → Members → Data
 details k more =
     let ms = member (codes "kind") (string (plural k.kind)) (member (codes "name") (string k.name) more) in
     object (if length (group_name k.kind) == 0 then ms else member (codes "group") (string (group_name k.kind)) ms)
@@ -112,7 +112,7 @@ status_body f =
     (member (codes "reason") (string (told f).reason) (member (codes "status") (string (codes "Failure")) no_members))))))))
 
 -- the body of a success that answers no object: of a removal, with the name and uid removed, or of a compaction, with none
-abbrev pub success_body : Option (Name × List ℕ) → Data
+abbrev pub success_body : Option (Key × List ℕ) → Data
 success_body removed =
     object
     (member (codes "apiVersion") (string (codes "v1"))

@@ -18,8 +18,8 @@ as_held k (Some d) ms = put k d ms
 
 -- these members as they are stored, whatever else stands there
 abbrev pub keeping : List (List ℕ) → Members → Members → Members
-keeping [] held ms = ms
-keeping (k ∷ ks) held ms = keeping ks held (as_held k (get_member k held) ms)
+keeping [] existing ms = ms
+keeping (k ∷ ks) existing ms = keeping ks existing (as_held k (get_member k existing) ms)
 
 -- what an update leaves as it is, whatever the body says (Kubernetes API Conventions, Metadata)
 abbrev pub kept : List (List ℕ)
@@ -31,34 +31,34 @@ kept_of k = if has_status k then codes "status" ∷ [] else []
 
 -- an object as a body says it, in the place of the stored one, and so far at its version
 abbrev pub in_place : Kind → Data → Data → Data
-in_place k held o = with_metadata (keeping kept (metadata_of held) (metadata_of o)) (object (keeping (kept_of k) (members_of held) (members_of o)))
+in_place k existing o = with_metadata (keeping kept (metadata_of existing) (metadata_of o)) (object (keeping (kept_of k) (members_of existing) (members_of o)))
 
 -- the status that a body says, or the first one where it says none
-abbrev pub said_status : Kind → Option Data → Option Data
-said_status k said = option_or said (first_status k)
+abbrev pub status_in : Kind → Option Data → Option Data
+status_in k said = option_or said (first_status k)
 
 -- the stored object with the status that a body says, and so far at its version
-abbrev pub with_said_status : Kind → Data → Data → Data
-with_said_status k held o = object (with_status (said_status k (get (codes "status") o)) (members_of held))
+abbrev pub with_status_in : Kind → Data → Data → Data
+with_status_in k existing o = object (with_status (status_in k (get (codes "status") o)) (members_of existing))
 
 -- whether two objects at one version say the same
 abbrev pub says_the_same : Data → Data → Bool
-says_the_same held d = bytes_eq (compact_text held) (compact_text d)
+says_the_same existing d = bytes_eq (compact_text existing) (compact_text d)
 
 abbrev pub has_changed : Option Data → Option Data → Bool
-has_changed held now = not (bytes_eq (text_of held) (text_of now))
+has_changed existing now = not (bytes_eq (text_of existing) (text_of now))
 
 abbrev pub has_new_spec : Data → Data → Bool
-has_new_spec held d = has_changed (get (codes "spec") held) (get (codes "spec") d)
+has_new_spec existing d = has_changed (get (codes "spec") existing) (get (codes "spec") d)
 
 abbrev pub has_new_annotations : Data → Data → Bool
-has_new_annotations held d = has_changed (metadata (codes "annotations") held) (metadata (codes "annotations") d)
+has_new_annotations existing d = has_changed (metadata (codes "annotations") existing) (metadata (codes "annotations") d)
 
 -- whether an object in the place of a stored one is a new generation (Kubernetes API Conventions, Metadata)
 abbrev pub is_new_generation : Kind → Data → Data → Bool
-is_new_generation ReplicaSet held d = has_new_spec held d
-is_new_generation Deployment held d = has_new_spec held d || has_new_annotations held d
-is_new_generation k held d = false
+is_new_generation ReplicaSet existing d = has_new_spec existing d
+is_new_generation Deployment existing d = has_new_spec existing d || has_new_annotations existing d
+is_new_generation k existing d = false
 
 -- which generation an object is
 abbrev pub generation : Data → ℕ
@@ -69,12 +69,12 @@ abbrev pub next_generation : ℕ → ℕ
 next_generation n = if nat_lt n greatest_revision then n + 1 else n
 
 abbrev pub with_next_generation : Bool → Data → Members → Members
-with_next_generation is_new held meta = if is_new then put (codes "generation") (whole (next_generation (generation held))) meta else meta
+with_next_generation is_new existing meta = if is_new then put (codes "generation") (whole (next_generation (generation existing))) meta else meta
 
 -- what is stored in the place of the stored object, at a revision
 abbrev pub updated : Kind → ℕ → Data → Data → Data
-updated k r held d = at_revision r (with_next_generation (is_new_generation k held d) held (metadata_of d)) d
+updated k r existing d = at_revision r (with_next_generation (is_new_generation k existing d) existing (metadata_of d)) d
 
 -- whether the last finalizer is removed: deletionTimestamp is set, and no finalizer is left (Kubernetes, Finalizers)
-abbrev pub is_let_go : Data → Data → Bool
-is_let_go held d = is_being_deleted held && not (is_some (metadata (codes "finalizers") d))
+abbrev pub is_finalized : Data → Data → Bool
+is_finalized existing d = is_being_deleted existing && not (is_some (metadata (codes "finalizers") d))

@@ -86,5 +86,5 @@ abbrev pub requirements_in : Data → Option (List Requirement)
 requirements_in d = both (label_requirements (inner_of (get (codes "matchLabels") d))) (expression_requirements (items_in (get (codes "matchExpressions") d)))
 
 -- a value is read as an object is: each number is whole, the known members have their types, and what is null counts as absent
-abbrev pub said_by_value : Data → Result (List Requirement) Flaw
-said_by_value d = if has_float d || not (fits selector_shape d) then Err mistyped else ok_or (requirements_in (tidied selector_shape d)) unfit
+abbrev pub selector_of_value : Data → Result (List Requirement) Flaw
+selector_of_value d = if has_float d || not (fits selector_shape d) then Err mistyped else ok_or (requirements_in (tidied selector_shape d)) unfit

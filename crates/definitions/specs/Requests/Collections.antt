@@ -12,8 +12,8 @@ use Rattle.definitions.specs.Requests.PageTokens.{Token, token_place, token_of}
 use Rattle.definitions.specs.State.Pages.{Place}
 use Rattle.definitions.specs.Requests.Queries.{Pairs, member, has_any, or_empty}
 use Rattle.definitions.specs.Texts.Revisions.{revision_of}
-use Rattle.definitions.specs.Texts.SelectorFields.{FieldRequirement, said_of_fields}
-use Rattle.definitions.specs.Texts.SelectorTexts.{said_by_text}
+use Rattle.definitions.specs.Texts.SelectorFields.{FieldRequirement, fields_of_text}
+use Rattle.definitions.specs.Texts.SelectorTexts.{selector_of_text}
 use Rattle.definitions.specs.Texts.Selectors.{Requirement}
 use Rattle.definitions.specs.declared.versions.At.{At}
 use Rattle.definitions.specs.declared.versions.Match.{Match}
@@ -128,6 +128,6 @@ abbrev pub collection_of : Pairs → Result Collection Part
 collection_of pairs =
     if has_any (codes "sendInitialEvents" ∷ codes "dryRun" ∷ []) pairs then Err part.Query
     else
-    understood (said_by_text (or_empty (member (codes "labelSelector") pairs))) (λ labels.
-    understood (said_of_fields (or_empty (member (codes "fieldSelector") pairs))) (λ fields.
+    understood (selector_of_text (or_empty (member (codes "labelSelector") pairs))) (λ labels.
+    understood (fields_of_text (or_empty (member (codes "fieldSelector") pairs))) (λ fields.
     result_map_both (λ read. record { labels = labels; fields = fields; read = read }) (λ p. p) (read_by pairs)))

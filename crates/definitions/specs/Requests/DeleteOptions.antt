@@ -28,9 +28,9 @@ policy_named name =
     lookup (bytes_eq name) ((codes "Orphan", Orphan) ∷ (codes "Foreground", Foreground) ∷ (codes "Background", Background) ∷ [])
 
 -- what a text, where there is one, says of the policy
-abbrev pub policy_said : Option (List ℕ) → PolicySaid
-policy_said None = Nothing
-policy_said (Some name) = option_map_or Named (policy_named name) Unknown
+abbrev pub stated_policy : Option (List ℕ) → PolicySaid
+stated_policy None = Nothing
+stated_policy (Some name) = option_map_or Named (policy_named name) Unknown
 
 -- the options with what is said of the policy, or the part of the request that says it wrong
 abbrev pub options_with : Part → Option (List ℕ) → Option (List ℕ) → PolicySaid → Result Options Part
@@ -48,4 +48,4 @@ abbrev pub options_of : Data → Result Options Part
 options_of d =
     if not (is_body d) then Err part.Body
     else (if not (fits (Object schema.DeleteOptions) d) then Err part.Options
-    else options_with part.Options (precondition (codes "uid") d) (precondition (codes "resourceVersion") d) (policy_said (text_at (codes "propagationPolicy") d)))
+    else options_with part.Options (precondition (codes "uid") d) (precondition (codes "resourceVersion") d) (stated_policy (text_at (codes "propagationPolicy") d)))

@@ -16,9 +16,9 @@ use Rattle.definitions.specs.declared.policies.PolicySaid.TheVariants.{Nothing}
 use Rattle.definitions.specs.declared.refusals.Part.{Part}
 use Rattle.definitions.specs.declared.refusals.Part.TheVariants as part
 use Rattle.definitions.specs.Texts.Kinds.{group, plural, kind_named, has_status}
-use Rattle.definitions.specs.Texts.Names.{Name, is_namespace}
+use Rattle.definitions.specs.Texts.Keys.{Key, is_namespace}
 use Rattle.definitions.specs.State.History.{View}
-use Rattle.definitions.specs.Requests.DeleteOptions.{Options, options_of, options_with, policy_said}
+use Rattle.definitions.specs.Requests.DeleteOptions.{Options, options_of, options_with, stated_policy}
 use Rattle.definitions.specs.Requests.Collections as collections
 use Rattle.definitions.specs.Requests.Collections.{ListOptions, WatchOptions, Collection, Read, everything, collection_of}
 use Rattle.definitions.specs.Requests.Queries.{Pairs, pairs_of, member, has_any}
@@ -29,8 +29,8 @@ use Rattle.definitions.specs.Requests.ObjectRequests.{Request, get_object, creat
 -- a collection of a kind, in one namespace or in all; an object; the status of an object (Kubernetes API Concepts, Resource URIs)
 pub data Route : Type 0 where
   collection : Kind → Option (List ℕ) → Route
-  object_at : Name → Route
-  status_of : Name → Route
+  object_at : Key → Route
+  status_of : Key → Route
 
 -- ---- paths
 
@@ -44,7 +44,7 @@ abbrev pub collection_text : Kind → Option (List ℕ) → List ℕ
 collection_text k None = prefix (group k) ++ (47 ∷ plural k)
 collection_text k (Some ns) = prefix (group k) ++ (codes "/namespaces/" ++ (ns ++ (47 ∷ plural k)))
 
-abbrev pub object_text : Name → List ℕ
+abbrev pub object_text : Key → List ℕ
 object_text n = collection_text n.kind (Some n.namespace) ++ (47 ∷ n.name)
 
 abbrev pub path_text : Route → List ℕ
@@ -159,7 +159,7 @@ only_policy pairs policy = if has_any (codes "dryRun" ∷ []) pairs then Err par
 -- what the query of a target adds, by the method and the route, or which part of it is not understood
 abbrev pub query_for : Method → Route → List ℕ → Result Query Part
 query_for Get (collection k ns) target = result_map_both (λ c. record { collection = c; policy = Nothing }) (λ p. p) (collection_of (pairs_of target))
-query_for Delete r target = only_policy (pairs_of target) (policy_said (member (codes "propagationPolicy") (pairs_of target)))
+query_for Delete r target = only_policy (pairs_of target) (stated_policy (member (codes "propagationPolicy") (pairs_of target)))
 query_for method r target = only_policy (pairs_of target) Nothing
 
 -- what is selected of a collection

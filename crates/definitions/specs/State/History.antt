@@ -7,13 +7,13 @@ use Rattle.serde_json.specs.Data.{Data}
 use Rattle.definitions.specs.declared.kinds.Kind.{Kind}
 use Rattle.definitions.specs.Texts.Kinds.{rank}
 use Rattle.definitions.specs.Objects.Metadata.{labels_of}
-use Rattle.definitions.specs.Texts.Names.{Name, name_cmp, is_named}
+use Rattle.definitions.specs.Texts.Keys.{Key, key_cmp, is_same_key}
 use Rattle.definitions.specs.Texts.SelectorFields.{FieldRequirement, fields_meet}
 use Rattle.definitions.specs.Texts.Selectors.{Requirement, meets_all}
 
 -- an object is put under a key, or the object there is removed
 pub record Write : Type 0 where
-  pub key : Name
+  pub key : Key
   pub put : Option Data
 
 -- an entry is a write, or a compaction of what happened up to a revision (etcd API, Compact)
@@ -39,21 +39,21 @@ abbrev pub up_to : ℕ → History → List Write
 up_to r h = take (r - 1) (writes h)
 
 -- what is under a key after these writes, where `before` was there before them: the last write that names the key says it
-abbrev pub last_of : Option Data → Name → List Write → Option Data
+abbrev pub last_of : Option Data → Key → List Write → Option Data
 last_of before k [] = before
-last_of before k (w ∷ ws) = last_of (if is_named k w.key then w.put else before) k ws
+last_of before k (w ∷ ws) = last_of (if is_same_key k w.key then w.put else before) k ws
 
 -- the object under a key at a revision (Kubernetes API Concepts, Resource versions)
-abbrev pub state : History → ℕ → Name → Option Data
+abbrev pub state : History → ℕ → Key → Option Data
 state h r k = last_of None k (up_to r h)
 
 -- names and their objects, in the order of names
 abbrev pub Members : Type 0
-Members = List (Name × Data)
+Members = List (Key × Data)
 
-abbrev pub put_or_remove : Members → Name → Option Data → Members
-put_or_remove ms k None = remove_entry (is_at (name_cmp k)) ms
-put_or_remove ms k (Some d) = insert_entry name_cmp ms k d
+abbrev pub put_or_remove : Members → Key → Option Data → Members
+put_or_remove ms k None = remove_entry (is_at (key_cmp k)) ms
+put_or_remove ms k (Some d) = insert_entry key_cmp ms k d
 
 abbrev pub after : Members → Write → Members
 after ms w = put_or_remove ms w.key w.put
@@ -66,8 +66,8 @@ after_all ms (w ∷ ws) = after_all (after ms w) ws
 abbrev pub members : History → ℕ → Members
 members h r = after_all [] (up_to r h)
 
-abbrev pub found : Name → Members → Option Data
-found k ms = lookup (is_at (name_cmp k)) ms
+abbrev pub found : Key → Members → Option Data
+found k ms = lookup (is_at (key_cmp k)) ms
 
 -- what a list or a watch asks for: a kind, in one namespace or in all, with these labels and fields (Kubernetes API Concepts, Resource URIs; Labels and Selectors; Field Selectors)
 pub record View : Type 0 where
@@ -85,7 +85,7 @@ in_namespace None ns = true
 in_namespace (Some wanted) ns = bytes_eq wanted ns
 
 -- whether an object with this name is asked for
-abbrev pub in_view : View → Name → Data → Bool
+abbrev pub in_view : View → Key → Data → Bool
 in_view v k d =
     (rank v.kind == rank k.kind) && in_namespace v.namespace k.namespace && meets_all v.labels (labels_of d) && fields_meet v.fields k.name k.namespace
 
@@ -97,6 +97,6 @@ abbrev pub list : History → View → ℕ → Members
 list h v r = viewed v (members h r)
 
 -- what is under a name, if the view asks for it
-abbrev pub seen : View → Name → Option Data → Option Data
+abbrev pub seen : View → Key → Option Data → Option Data
 seen v k None = None
 seen v k (Some d) = if in_view v k d then Some d else None

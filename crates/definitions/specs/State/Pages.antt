@@ -4,7 +4,7 @@ use Rattle.std.specs.List.Sorted.{IsStrictlySortedBy}
 use Rattle.std.specs.Ordering.{nat_cmp, then_cmp, on, is_lt}
 use Rattle.std.specs.Cmp.Lexicographic.{slice_cmp}
 use Rattle.std.specs.declared.cmp.Ordering.{Ordering}
-use Rattle.definitions.specs.Texts.Names.{Name}
+use Rattle.definitions.specs.Texts.Keys.{Key}
 use Rattle.definitions.specs.State.History.{Members}
 
 -- where a page ends: the namespace and the name of its last object
@@ -12,7 +12,7 @@ pub record Place : Type 0 where
   pub namespace : List ℕ
   pub name : List ℕ
 
-abbrev pub place_of : Name → Place
+abbrev pub place_of : Key → Place
 place_of n = record { namespace = n.namespace; name = n.name }
 
 -- by namespace, then name, in byte order, as names of one kind go
@@ -24,7 +24,7 @@ abbrev pub AreInPlace : Members → Type 0
 AreInPlace ms = IsStrictlySortedBy place_cmp (map (λ m. place_of m.0) ms)
 
 -- whether a name comes after a place; where there is none, each does
-abbrev pub is_after : Option Place → Name → Bool
+abbrev pub is_after : Option Place → Key → Bool
 is_after None k = true
 is_after (Some p) k = is_lt (place_cmp p (place_of k))
 

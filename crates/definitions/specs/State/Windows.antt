@@ -3,54 +3,54 @@ use Rattle.std.specs.Prelude.{◌<◌, ℕ, ◌+◌, ◌-◌, ◌==◌, Bool, Li
 use Rattle.serde_json.specs.Data.{Data}
 use Rattle.definitions.specs.declared.kinds.Kind.{Kind}
 use Rattle.definitions.specs.Texts.Kinds.{rank}
-use Rattle.definitions.specs.Texts.Names.{Name}
+use Rattle.definitions.specs.Texts.Keys.{Key}
 use Rattle.definitions.specs.State.History.{History, Write, write, compaction, View, Members, writes, present, last_of, list}
 use Rattle.definitions.specs.Objects.Refusals.{Refusal, expired, too_new}
-use Rattle.definitions.specs.State.Changes.{Change, changes}
+use Rattle.definitions.specs.State.Events.{Event, events}
 
 -- a write with its revision, and what was under its key before it
-pub record Kept : Type 0 where
+pub record Change : Type 0 where
   pub revision : ℕ
-  pub key : Name
+  pub key : Key
   pub old : Option Data
   pub new : Option Data
 
 -- whether a name is one of the kind
-abbrev pub is_of : Kind → Name → Bool
+abbrev pub is_of : Kind → Key → Bool
 is_of kind key = rank kind == rank key.kind
 
 -- a write after these, as it is kept
-abbrev pub kept_of : List Write → Write → Kept
-kept_of before w = record { revision = length before + 2; key = w.key; old = last_of None w.key before; new = w.put }
+abbrev pub change_of : List Write → Write → Change
+change_of before w = record { revision = length before + 2; key = w.key; old = last_of None w.key before; new = w.put }
 
 -- that one, if it is of the kind
-abbrev pub kept_one : Kind → List Write → Write → List Kept
-kept_one kind before w = if is_of kind w.key then kept_of before w ∷ [] else []
+abbrev pub change_one : Kind → List Write → Write → List Change
+change_one kind before w = if is_of kind w.key then change_of before w ∷ [] else []
 
 -- the writes of the kind among those after these, in order
-abbrev pub kept_after : Kind → List Write → List Write → List Kept
-kept_after kind before [] = []
-kept_after kind before (w ∷ ws) = kept_one kind before w ++ kept_after kind (before ++ w ∷ []) ws
+abbrev pub changes_after : Kind → List Write → List Write → List Change
+changes_after kind before [] = []
+changes_after kind before (w ∷ ws) = change_one kind before w ++ changes_after kind (before ++ w ∷ []) ws
 
 -- all writes of the kind, the oldest first
-abbrev pub writes_of : Kind → History → List Kept
-writes_of kind h = kept_after kind [] (writes h)
+abbrev pub changes_of : Kind → History → List Change
+changes_of kind h = changes_after kind [] (writes h)
 
 -- the last n of these
-abbrev pub last_n : ℕ → List Kept → List Kept
+abbrev pub last_n : ℕ → List Change → List Change
 last_n n ks = drop (length ks - n) ks
 
 -- and those before them
-abbrev pub all_but : ℕ → List Kept → List Kept
+abbrev pub all_but : ℕ → List Change → List Change
 all_but n ks = take (length ks - n) ks
 
 -- the revision of the last of these, or r if there is none
-abbrev pub last_revision : ℕ → List Kept → ℕ
+abbrev pub last_revision : ℕ → List Change → ℕ
 last_revision r [] = r
 last_revision r (k ∷ ks) = last_revision k.revision ks
 
 -- each revision is above the one before it, the first above r
-abbrev pub IsRising : ℕ → List Kept → Type 0
+abbrev pub IsRising : ℕ → List Change → Type 0
 IsRising r [] = Unit {0}
 IsRising r (k ∷ ks) = (r < k.revision) × IsRising k.revision ks
 
@@ -63,7 +63,7 @@ compacted (compaction r ∷ h) = max r (compacted h)
 -- the revision from which a window of this size answers: that of the last write that it has no room for, 1 if there is none,
 -- or where more is compacted, that revision (Kubernetes API Concepts, Efficient detection of changes)
 abbrev pub floor : Kind → ℕ → History → ℕ
-floor kind size h = max (last_revision 1 (all_but size (writes_of kind h))) (compacted h)
+floor kind size h = max (last_revision 1 (all_but size (changes_of kind h))) (compacted h)
 
 -- ---- what it answers
 
@@ -72,8 +72,8 @@ abbrev pub within : {X : Type 0} → ℕ → ℕ → ℕ → X → Result X Refu
 within floor now r x = if nat_lt r floor then Err (expired r floor) else (if nat_lt now r then Err (too_new r now) else Ok x)
 
 -- the first n changes of the view after a
-abbrev pub since : ℕ → History → View → ℕ → ℕ → Result (List Change) Refusal
-since size h v a n = within (floor v.kind size h) (present h) a (take n (changes h v a (present h)))
+abbrev pub since : ℕ → History → View → ℕ → ℕ → Result (List Event) Refusal
+since size h v a n = within (floor v.kind size h) (present h) a (take n (events h v a (present h)))
 
 -- the list of the view at r
 abbrev pub list_within : ℕ → History → View → ℕ → Result Members Refusal

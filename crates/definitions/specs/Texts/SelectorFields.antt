@@ -30,9 +30,9 @@ abbrev pub field_requirement : List ℕ → Option FieldRequirement
 field_requirement t = if list_any is_equals t && not (list_any is_blank t) then field_compared (comparison t) else None
 
 -- what a field selector's text says; the empty text says nothing
-abbrev pub said_of_fields : List ℕ → Option (List FieldRequirement)
-said_of_fields [] = Some []
-said_of_fields (b ∷ t) = each_read field_requirement (slice_split is_comma (b ∷ t))
+abbrev pub fields_of_text : List ℕ → Option (List FieldRequirement)
+fields_of_text [] = Some []
+fields_of_text (b ∷ t) = each_read field_requirement (slice_split is_comma (b ∷ t))
 
 abbrev pub field_of : SelectableField → List ℕ → List ℕ → List ℕ
 field_of Name name namespace = name

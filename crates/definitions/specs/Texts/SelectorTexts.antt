@@ -97,6 +97,6 @@ abbrev pub requirement : List ℕ → Option Requirement
 requirement t = unblanked_requirement (trimmed t)
 
 -- what the text of a selector says: all its parts; the empty text says nothing
-abbrev pub said_by_text : List ℕ → Option (List Requirement)
-said_by_text [] = Some []
-said_by_text (b ∷ t) = each_read requirement (parts (b ∷ t))
+abbrev pub selector_of_text : List ℕ → Option (List Requirement)
+selector_of_text [] = Some []
+selector_of_text (b ∷ t) = each_read requirement (parts (b ∷ t))

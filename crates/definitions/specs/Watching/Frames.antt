@@ -13,7 +13,7 @@ use Rattle.definitions.specs.Texts.Kinds.{api_version}
 use Rattle.definitions.specs.Objects.Refusals.{Refusal, status_body}
 
 -- an event of a watch (Kubernetes API reference, WatchEvent)
-pub record Event : Type 0 where
+pub record Frame : Type 0 where
   pub kind : FrameKind
   pub object : Data
 
@@ -39,11 +39,11 @@ frame_kind change.Added = Added
 frame_kind change.Modified = Modified
 frame_kind change.Deleted = Deleted
 
-abbrev pub frame_data : Event → Data
+abbrev pub frame_data : Frame → Data
 frame_data e = object (member (codes "object") e.object (member (codes "type") (string (kind_text e.kind)) no_members))
 
 -- the line of an event: compact JSON and a newline
-abbrev pub frame_text : Event → List ℕ
+abbrev pub frame_text : Frame → List ℕ
 frame_text e = compact_text (frame_data e) ++ 10 ∷ []
 
 -- the metadata of a bookmark: its revision, and at the end of the initial events that they end here (Kubernetes API Concepts, Streaming lists)
@@ -59,9 +59,9 @@ bookmark_data k closing r =
     (member (codes "apiVersion") (string (api_version k))
     (member (codes "kind") (string (kinds.kind_text k)) (member (codes "metadata") (object (bookmark_metadata closing r)) no_members)))
 
-abbrev pub bookmark_event : Kind → Bool → ℕ → Event
-bookmark_event k closing r = record { kind = Bookmark; object = bookmark_data k closing r }
+abbrev pub bookmark_frame : Kind → Bool → ℕ → Frame
+bookmark_frame k closing r = record { kind = Bookmark; object = bookmark_data k closing r }
 
 -- a refusal in a watch that has begun
-abbrev pub error_event : Refusal → Event
-error_event f = record { kind = Error; object = status_body f }
+abbrev pub error_frame : Refusal → Frame
+error_frame f = record { kind = Error; object = status_body f }

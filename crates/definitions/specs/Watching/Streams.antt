@@ -3,40 +3,40 @@ use Rattle.std.specs.Prelude.{◌≡◌, ◌≤◌, ◌<◌, ℕ, List, [], ◌�
 use Rattle.serde_json.specs.Data.{Data}
 use Rattle.definitions.specs.declared.kinds.Kind.{Kind}
 use Rattle.definitions.specs.declared.frames.FrameKind.TheVariants.{Added}
-use Rattle.definitions.specs.Texts.Names.{Name}
+use Rattle.definitions.specs.Texts.Keys.{Key}
 use Rattle.definitions.specs.State.History.{History, View, Members, list, put_or_remove}
-use Rattle.definitions.specs.Watching.Frames.{Event, frame_kind, frame_text, bookmark_event}
-use Rattle.definitions.specs.State.Changes.{Change, changes, play_one}
+use Rattle.definitions.specs.Watching.Frames.{Frame, frame_kind, frame_text, bookmark_frame}
+use Rattle.definitions.specs.State.Events.{Event, events, apply}
 
 -- a line of a stream: a change, a bookmark, an object that was there at the beginning, or the bookmark after the last of these
 pub data Line : Type 0 where
-  change : Change → Line
+  event : Event → Line
   bookmark : ℕ → Line
-  initial : Name → Data → Line
+  initial : Key → Data → Line
   initial_end : ℕ → Line
 
 -- the event that a line of a watch of a kind shows
-abbrev pub event_of : Kind → Line → Event
-event_of k (change c) = record { kind = frame_kind c.kind; object = c.object }
-event_of k (bookmark r) = bookmark_event k false r
-event_of k (initial n d) = record { kind = Added; object = d }
-event_of k (initial_end r) = bookmark_event k true r
+abbrev pub frame_of : Kind → Line → Frame
+frame_of k (event c) = record { kind = frame_kind c.kind; object = c.object }
+frame_of k (bookmark r) = bookmark_frame k false r
+frame_of k (initial n d) = record { kind = Added; object = d }
+frame_of k (initial_end r) = bookmark_frame k true r
 
 -- the bytes of lines
 abbrev pub text_of : Kind → List Line → List ℕ
-text_of k ls = flat_map (λ l. frame_text (event_of k l)) ls
+text_of k ls = flat_map (λ l. frame_text (frame_of k l)) ls
 
 -- these changes in order, and bookmarks, each at least at the revision of what is before it, below that of each change after it, and at most at b (Kubernetes API Concepts, Watch bookmarks)
-abbrev pub Goes : ℕ → ℕ → List Change → List Line → Type 0
+abbrev pub Goes : ℕ → ℕ → List Event → List Line → Type 0
 Goes at b [] [] = Unit {0}
-Goes at b (c ∷ cs) (change d ∷ ls) = (d ≡ c) × Goes c.revision b cs ls
+Goes at b (c ∷ cs) (event d ∷ ls) = (d ≡ c) × Goes c.revision b cs ls
 Goes at b [] (bookmark r ∷ ls) = (at ≤ r) × (r ≤ b) × Goes r b [] ls
 Goes at b (c ∷ cs) (bookmark r ∷ ls) = (at ≤ r) × (r ≤ b) × (r < c.revision) × Goes r b (c ∷ cs) ls
 Goes at b cs ls = ⊥
 
 -- a stream of h, v from a to b
 abbrev pub IsStream : History → View → ℕ → ℕ → List Line → Type 0
-IsStream h v a b ls = Goes a b (changes h v a b) ls
+IsStream h v a b ls = Goes a b (events h v a b) ls
 
 -- the objects that are there, each as if it had just been added
 abbrev pub added_lines : Members → List Line
@@ -49,11 +49,11 @@ IsInitialStream h v a b ls = (more : List Line) × (ls ≡ added_lines (list h v
 -- ---- what they make of the list
 
 abbrev pub play_line : Members → Line → Members
-play_line ms (change c) = play_one ms c
+play_line ms (event c) = apply ms c
 play_line ms (initial n d) = put_or_remove ms n (Some d)
 play_line ms l = ms
 
 -- lines applied one after another
-abbrev pub play_lines : Members → List Line → Members
-play_lines ms [] = ms
-play_lines ms (l ∷ ls) = play_lines (play_line ms l) ls
+abbrev pub applied_lines : Members → List Line → Members
+applied_lines ms [] = ms
+applied_lines ms (l ∷ ls) = applied_lines (play_line ms l) ls

@@ -6,7 +6,7 @@ use Rattle.definitions.specs.Metadata.{at_revision, metadata_of}
 use Rattle.definitions.specs.NewObjects.{created, new_metadata, with_first_status}
 use Rattle.definitions.proofs.VerbSteps.{create_read}
 use Rattle.definitions.proofs.FirstStatus.{metadata_of-first}
-use Rattle.meta.specs.Keys.{name_of}
+use Rattle.meta.specs.Keys.{key_of}
 use Rattle.answers.specs.Serves.{Serves}
 use Rattle.validate.specs.Faults.{RefusesField}
 use Rattle.creates.proofs.Creates.{create-placed, create-refused}
@@ -17,7 +17,7 @@ returns c =
     let r = c.args.store.now.revision in
     let ms = c.args.store.now.members in
     let ns = c.args.namespace.now in
-    let k = name_of c.in_ok-key.key in
+    let k = key_of c.in_ok-key.key in
     let o = c.in_ok-object-2.object in
     let first = c.in_ok-object-3.object in
     let filled : o.value ≡ defaulted c.args.kind c.in_ok-object.object.value = c.in_ok-object-2.ensures.value ∙ ap (λ kind. defaulted kind c.in_ok-object.object.value) c.in_ok-object.ensures.kind in
@@ -43,7 +43,7 @@ returns-in_err-check_create c =
     let r = c.args.store.now.revision in
     let ms = c.args.store.now.members in
     let ns = c.args.namespace.now in
-    let k = name_of c.in_ok-key.key in
+    let k = key_of c.in_ok-key.key in
     let o = c.in_ok-object-2.object in
     let first = c.in_ok-object-3.object in
     let e = c.in_err-check_create.field-0.0 in

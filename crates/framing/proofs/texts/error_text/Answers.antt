@@ -2,7 +2,7 @@ use Rattle.std.proofs.Common.{ap, ◌∙◌, subst}
 use Rattle.std.specs.Prelude.{string_bytes}
 use Rattle.serde_json.specs.Written.{has_float}
 use Rattle.meta.specs.Faults.{refusal_of}
-use Rattle.definitions.specs.Frames.{Event, frame_text}
+use Rattle.definitions.specs.Frames.{Frame, frame_text}
 use Rattle.definitions.specs.declared.frames.FrameKind.TheVariants.{Error}
 use Rattle.framing.specs.Texts.{IsWithin, ReadsAs}
 use Rattle.framing.proofs.Statuses.{status_clean}
@@ -12,8 +12,8 @@ pub line_of-requires : goal.line_of-requires
 line_of-requires c = ap has_float c.in_ok-status.ensures ∙ status_clean (refusal_of c.args.fault.now)
 
 pub returns-clause-text : goal.returns-clause-text
-returns-clause-text c = c.in_ok-line.ensures.text ∙ ap (λ d. let e : Event = record { kind = Error; object = d } in frame_text e) c.in_ok-status.ensures
+returns-clause-text c = c.in_ok-line.ensures.text ∙ ap (λ d. let e : Frame = record { kind = Error; object = d } in frame_text e) c.in_ok-status.ensures
 
 pub returns-clause-reads_back : goal.returns-clause-reads_back
 returns-clause-reads_back c =
-    subst (λ d. let e : Event = record { kind = Error; object = d } in IsWithin e → ReadsAs (string_bytes c.in_ok-line.line) e) c.in_ok-status.ensures c.in_ok-line.ensures.reads_back
+    subst (λ d. let e : Frame = record { kind = Error; object = d } in IsWithin e → ReadsAs (string_bytes c.in_ok-line.line) e) c.in_ok-status.ensures c.in_ok-line.ensures.reads_back

@@ -7,8 +7,8 @@ use Rattle.lifecycle.proofs.Followed.{others-left_out, others-next, others-end}
 use Rattle.lifecycle.proofs.finalizers.others.Goals as goal
 use Rattle.lifecycle.proofs.finalizers.others.Goals.{then-not-is_of_policy+in_ok-clone+in_ok-push, else-not-is_of_policy}
 
-abbrev held : Vec Value Global → List Value
-held vs = vs.items
+abbrev existing : Vec Value Global → List Value
+existing vs = vs.items
 
 pub loop-item-preserved : goal.loop-item-preserved
 loop-item-preserved c =
@@ -20,10 +20,10 @@ loop-item-preserved c =
     let tested = ap (λ (v : Value). is_of_policy (view v)) (sym c.item-item.is) ∙ sym c.is_of_policy.ensures in
     elim c.if-not-is_of_policy.branch [
       | then-not-is_of_policy+in_ok-clone+in_ok-push w ↦
-          others-next all done c.if-not-is_of_policy.left.items i x w.in_ok-clone.field-0 whole c.loop-item-test.true (ap held w.left-is ∙ w.in_ok-push.ensures.items)
+          others-next all done c.if-not-is_of_policy.left.items i x w.in_ok-clone.field-0 whole c.loop-item-test.true (ap existing w.left-is ∙ w.in_ok-push.ensures.items)
           (w.in_ok-clone.ensures.cases ∙ ap view c.item-item.is) (tested ∙ w.if-not-is_of_policy.true) c.loop-item.invariant
       | else-not-is_of_policy w ↦
-          others-left_out all done c.if-not-is_of_policy.left.items i x whole c.loop-item-test.true (ap held w.left-is) (tested ∙ w.if-not-is_of_policy.false) c.loop-item.invariant
+          others-left_out all done c.if-not-is_of_policy.left.items i x whole c.loop-item-test.true (ap existing w.left-is) (tested ∙ w.if-not-is_of_policy.false) c.loop-item.invariant
     ]
 
 pub returns : goal.returns

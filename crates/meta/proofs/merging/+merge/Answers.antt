@@ -12,7 +12,7 @@ merge_member-returns t c =
     let ms = members_view c.args.members.now.entries in
     let inner = view c.in_ok-inner.inner in
     let named : c.as_str.result.now ≡ k = c.as_str.ensures.value in
-    let held : view c.in_ok-held.held ≡ found_or_null k ms = c.in_ok-held.ensures.taken ∙ ap (λ n. found_or_null n ms) named in
-    let left : members_view c.take.new.members.entries ≡ put k null ms = c.in_ok-held.ensures.left ∙ ap (λ n. put n null ms) named in
+    let existing : view c.in_ok-existing.existing ≡ found_or_null k ms = c.in_ok-existing.ensures.taken ∙ ap (λ n. found_or_null n ms) named in
+    let left : members_view c.take.new.members.entries ≡ put k null ms = c.in_ok-existing.ensures.left ∙ ap (λ n. put n null ms) named in
     ap members_view c.in_ok-insert.ensures.entries ∙ members_view-insert_entry c.take.new.members.entries c.args.name c.in_ok-inner.inner ∙ ap (put k inner) left ∙ put-put k inner null ms
-    ∙ ap (λ d. put k d ms) (c.in_ok-inner.ensures ∙ ap (λ h. merged h (view c.args.change)) held)
+    ∙ ap (λ d. put k d ms) (c.in_ok-inner.ensures ∙ ap (λ h. merged h (view c.args.change)) existing)

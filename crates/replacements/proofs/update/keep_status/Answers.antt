@@ -7,4 +7,4 @@ use Rattle.replacements.proofs.update.keep_status.Goals as goal
 
 pub returns-clause-metadata : goal.returns-clause-metadata
 returns-clause-metadata c =
-    ap metadata_of c.in_ok-kept.ensures.value ∙ metadata_of-as_held (get_member (codes "status") (members_of c.args.held.now.value)) c.args.object.value
+    ap metadata_of c.in_ok-kept.ensures.value ∙ metadata_of-as_held (get_member (codes "status") (members_of c.args.existing.now.value)) c.args.object.value

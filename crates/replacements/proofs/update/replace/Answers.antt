@@ -1,9 +1,9 @@
 use Rattle.std.proofs.Common.{subst}
 use Rattle.definitions.specs.Verbs.{replace}
-use Rattle.meta.specs.Keys.{name_of}
+use Rattle.meta.specs.Keys.{key_of}
 use Rattle.answers.specs.Serves.{Serves}
 use Rattle.replacements.proofs.update.replace.Goals as goal
 
 pub returns : goal.returns
 returns c =
-    subst (λ held. Serves (replace (name_of c.args.key) c.args.object.value c.args.before held) c.replace_held.result) c.in_ok-held.ensures c.replace_held.ensures
+    subst (λ existing. Serves (replace (key_of c.args.key) c.args.object.value c.args.before existing) c.replace_held.result) c.in_ok-existing.ensures c.replace_held.ensures

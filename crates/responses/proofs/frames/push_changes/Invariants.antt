@@ -1,8 +1,8 @@
 use Rattle.std.proofs.Common.{◌≡◌, ◌++◌, map, drop}
 use Rattle.responses.specs.Frames.{change_frames}
-use Rattle.revisions.specs.Events.{change_seen}
+use Rattle.revisions.specs.Events.{event_seen}
 use Rattle.responses.proofs.frames.push_changes.Given as goal
 
 -- the frames so far and those that are left are all
 abbrev pub invariant-loop-event : goal.invariant-loop-event
-invariant-loop-event l = l.text.items ++ change_frames (map change_seen (drop l.event-index l.events)) ≡ l.initial.text.items ++ change_frames (map change_seen l.events)
+invariant-loop-event l = l.text.items ++ change_frames (map event_seen (drop l.event-index l.events)) ≡ l.initial.text.items ++ change_frames (map event_seen l.events)

@@ -2,12 +2,12 @@ use Rattle.std.proofs.Common.{◌≡◌, ◌<◌, ◌+◌, ◌-◌, [], ◌++◌
 use Rattle.std.proofs.lemmas.List.{take-map, drop-map, drop_all, length-map, get_or-map}
 use Rattle.meta.specs.Writes.{write_of}
 use Rattle.std.specs.Prelude.{option_map}
-use Rattle.meta.specs.Keys.{name_of}
+use Rattle.meta.specs.Keys.{key_of}
 use Rattle.definitions.specs.History as history
 use Rattle.definitions.specs.History.{after_all}
-use Rattle.definitions.specs.Changes.{changes_after}
+use Rattle.definitions.specs.Events.{changes_after}
 use Rattle.selector.specs.Views.{view_of}
-use Rattle.revisions.specs.Events.{change_seen}
+use Rattle.revisions.specs.Events.{event_seen}
 use Rattle.revisions.specs.Seen.{seen}
 use Rattle.revisions.proofs.Histories.{writes-history_of, value-copied}
 use Rattle.revisions.proofs.Walks.{short_take, short_drop, changes_of_part, state_after, told}
@@ -22,7 +22,7 @@ loop-place-init c =
     record {
       state = state ∙ ap (λ ws. after_all [] (take (c.args.from - 1) ws)) (writes-history_of writes)
           ∙ ap (after_all []) (take-map write_of (c.args.from - 1) writes ∙ ap (map write_of) (sym front) ∙ sym (append-nil (map write_of before)));
-      told = ap (λ ws. ws ++ changes_after (view_of c.args.view.now) (map write_of before ++ []) (map write_of c.split_at.result.1.now)) (ap (map change_seen) c.new-changes.ensures.items)
+      told = ap (λ ws. ws ++ changes_after (view_of c.args.view.now) (map write_of before ++ []) (map write_of c.split_at.result.1.now)) (ap (map event_seen) c.new-changes.ensures.items)
           ∙ ap (λ ws. changes_after (view_of c.args.view.now) ws (map write_of c.split_at.result.1.now)) (append-nil (map write_of before));
     }
 
@@ -39,9 +39,9 @@ loop-place-preserved c =
     let is : write_of item ≡ get_or after i (write_of item) = ap write_of c.index-after-place.is ∙ sym (get_or-map write_of c.split_at.result.1.now i item (write_of item) c.loop-place-test.true) in
     record {
       state = state_after v before after i (write_of item) within is (seen c.loop-place.state.entries) (seen c.apply.new.state.entries) c.loop-place.invariant.state c.in_ok-apply.ensures;
-      told = sym (told v before after i (write_of item) within is (map change_seen c.loop-place.changes.items) (map change_seen c.push_change.new.changes.items) (length c.split_at.result.0.now + i + 2) (seen c.loop-place.state.entries) _ _
-          (omega (arith, front_long)) c.loop-place.invariant.state (c.shown-old.ensures ∙ ap (history.seen v (name_of item.key)) c.found_in.ensures)
-          (c.shown-new.ensures ∙ ap (history.seen v (name_of item.key)) (value-copied c.as_ref.result ∙ ap (option_map (λ o. o.value)) c.as_ref.ensures.value)) c.in_ok-push_change.ensures) ∙ c.loop-place.invariant.told;
+      told = sym (told v before after i (write_of item) within is (map event_seen c.loop-place.changes.items) (map event_seen c.push_change.new.changes.items) (length c.split_at.result.0.now + i + 2) (seen c.loop-place.state.entries) _ _
+          (omega (arith, front_long)) c.loop-place.invariant.state (c.shown-old.ensures ∙ ap (history.seen v (key_of item.key)) c.found_in.ensures)
+          (c.shown-new.ensures ∙ ap (history.seen v (key_of item.key)) (value-copied c.as_ref.result ∙ ap (option_map (λ o. o.value)) c.as_ref.ensures.value)) c.in_ok-push_change.ensures) ∙ c.loop-place.invariant.told;
     }
 
 pub returns : goal.returns
@@ -53,7 +53,7 @@ returns c =
     let ws = c.up_to-writes.result.now in
     let before = c.split_at.result.0.now in
     let after = c.split_at.result.1.now in
-    let so_far = map change_seen c.loop-place.changes.items in
+    let so_far = map event_seen c.loop-place.changes.items in
     let is : map write_of ws ≡ take n all = ap (map write_of) c.up_to-writes.ensures ∙ sym (take-map write_of n c.args.writes.now) in
     let cut = ap length c.up_to.ensures in
     let front : map write_of before ≡ take m (take n all) =

@@ -12,6 +12,6 @@ returns c =
     let there : is_some (get (codes "spec") (view c.args.value)) ≡ true = search rules in
     let shown : view (Object c.put.new.map) ≡ object (members_view c.put.new.map.entries) = search (rules, the_lemmas) in
     shown
-    ∙ put_back (codes "spec") deployment_defaults (view c.args.value) (view c.in_ok-held.held) (view c.in_ok-filled.filled) (members_view c.into_members-members.result.entries)
+    ∙ put_back (codes "spec") deployment_defaults (view c.args.value) (view c.in_ok-existing.existing) (view c.in_ok-filled.filled) (members_view c.into_members-members.result.entries)
     (members_view c.take.new.members.entries) (members_view c.put.new.map.entries)
-    there c.into_members-members.ensures c.in_ok-held.ensures.taken c.in_ok-held.ensures.left c.in_ok-filled.ensures c.in_ok-put.ensures.ok
+    there c.into_members-members.ensures c.in_ok-existing.ensures.taken c.in_ok-existing.ensures.left c.in_ok-filled.ensures c.in_ok-put.ensures.ok

@@ -1,6 +1,6 @@
 use Rattle.std.proofs.Common.{◌≡◌, ◌<◌, ◌+◌, ◌-◌, ◌/◌, map, drop, length, subst, arith}
 use Rattle.server_state.specs.Recorded.{above}
-use Rattle.watch_cache.specs.Changes.{kept_seen}
+use Rattle.watch_cache.specs.Changes.{change_seen}
 use Rattle.watch_cache.proofs.Rising.{none_below_at, all_from_at, cut}
 use Rattle.watch_cache.proofs.searching.first_above.Goals as goal
 
@@ -31,7 +31,7 @@ loop-low-preserved c =
 pub returns-clause-first : goal.returns-clause-first
 returns-clause-first c =
     let low = c.loop-low.low in
-    let ks = map kept_seen c.args.changes.now.items in
+    let ks = map change_seen c.args.changes.now.items in
     let met : c.loop-low.high ≡ low = omega (arith, c.loop-low-test.false, c.loop-low.invariant.order) in
     let from : above c.args.after (drop low ks) ≡ drop low ks = subst (λ i. above c.args.after (drop i ks) ≡ drop i ks) met c.loop-low.invariant.from in
     cut c.args.after low ks c.loop-low.invariant.before from

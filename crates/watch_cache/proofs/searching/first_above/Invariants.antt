@@ -1,6 +1,6 @@
 use Rattle.std.proofs.Common.{◌≡◌, ◌≤◌, ◌-◌, [], map, take, drop, length}
 use Rattle.server_state.specs.Recorded.{above}
-use Rattle.watch_cache.specs.Changes.{kept_seen}
+use Rattle.watch_cache.specs.Changes.{change_seen}
 use Rattle.watch_cache.proofs.searching.first_above.Given as goal
 
 -- no change before `low` is above the revision, and each from `high` on is
@@ -8,8 +8,8 @@ abbrev pub invariant-loop-low : goal.invariant-loop-low
 invariant-loop-low l = record {
   order : l.low ≤ l.high;
   bound : l.high ≤ length l.changes.items;
-  before : above l.after (take l.low (map kept_seen l.changes.items)) ≡ [];
-  from : above l.after (drop l.high (map kept_seen l.changes.items)) ≡ drop l.high (map kept_seen l.changes.items);
+  before : above l.after (take l.low (map change_seen l.changes.items)) ≡ [];
+  from : above l.after (drop l.high (map change_seen l.changes.items)) ≡ drop l.high (map change_seen l.changes.items);
 }
 
 abbrev pub decreases-loop-low : goal.decreases-loop-low

@@ -4,7 +4,7 @@ use Rattle.std.specs.Option.{option_copied}
 use Rattle.server_state.specs.Recorded.{undone}
 use Rattle.selector.specs.Views.{view_of}
 use Rattle.revisions.specs.Seen.{seen}
-use Rattle.watch_cache.specs.Changes.{kept_seen}
+use Rattle.watch_cache.specs.Changes.{change_seen}
 use Rattle.watch_cache.proofs.NewestUndone.{undone_at}
 use Rattle.watch_cache.proofs.Rising.{not_none}
 use Rattle.watch_cache.proofs.undoing.undone_to.Goals as goal
@@ -13,7 +13,7 @@ pub loop-place-preserved-in-Continue-branch-2 : goal.loop-place-preserved-in-Con
 loop-place-preserved-in-Continue-branch-2 c =
     let v = view_of c.args.view.now in
     let items = c.args.changes.now.items in
-    let ks = map kept_seen items in
+    let ks = map change_seen items in
     let start = c.first_above-start.result in
     let place = c.loop-place.place - 1 in
     let before = seen c.loop-place.state.entries in

@@ -1,7 +1,7 @@
 use Rattle.std.proofs.Common.{◌≡◌, map, ap, sym, subst, ◌∙◌}
 use Rattle.std.specs.List.Sorted.{IsStrictlySortedBy}
 use Rattle.std.specs.Map.{keys_of}
-use Rattle.definitions.specs.Names.{name_cmp}
+use Rattle.definitions.specs.Keys.{key_cmp}
 use Rattle.definitions.specs.History.{viewed}
 use Rattle.definitions.proofs.PutLaws.{sorted_from}
 use Rattle.meta.specs.Members.{member_of}
@@ -15,7 +15,7 @@ list_at-requires c =
     let v = view_of c.args.view.now in
     let ms = c.args.self.now.snapshot.members in
     let listed : map member_of c.as_slice.result.now ≡ viewed v ms = ap (map member_of) c.as_slice.ensures.value ∙ c.in_ok-listed.ensures.members in
-    subst (λ z. IsStrictlySortedBy name_cmp (keys_of z)) (sym listed) (sorted_from (viewed v ms) (viewed_ascending v ms (ascending_from ms c.added.ensures.in_order)))
+    subst (λ z. IsStrictlySortedBy key_cmp (keys_of z)) (sym listed) (sorted_from (viewed v ms) (viewed_ascending v ms (ascending_from ms c.added.ensures.in_order)))
 
 pub page_of-page-requires : goal.page_of-page-requires
 page_of-page-requires c =

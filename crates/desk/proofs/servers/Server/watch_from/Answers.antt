@@ -2,8 +2,8 @@ use Rattle.std.proofs.Common.{◌≡◌, ◌<◌, ◌+◌, length, map, take, ap
 use Rattle.std.proofs.lemmas.List.{length-map, take-map}
 use Rattle.definitions.specs.Versions.{last_change}
 use Rattle.server_state.specs.Servers.{window_of}
-use Rattle.server_state.specs.Recorded.{since_kept}
-use Rattle.revisions.specs.Events.{change_seen}
+use Rattle.server_state.specs.Recorded.{recorded_since}
+use Rattle.revisions.specs.Events.{event_seen}
 use Rattle.selector.specs.Views.{view_of}
 use Rattle.watch_cache.specs.Served.{Serves}
 use Rattle.desk.proofs.Watches.{given_part}
@@ -15,11 +15,11 @@ returns c =
     let s = c.args.self.now in
     let n = c.args.max in
     let events = c.in_ok-events.events in
-    let all = since_kept (window_of v.kind s) s.snapshot.revision v c.args.after (n + 1) in
-    let given : Serves (λ es. map change_seen es.items) all (Ok events) = c.in_ok-events.ensures in
-    let more : n < length (map change_seen events.items) = omega (arith, c.if-len-max.false, c.len.ensures, length-map events.items change_seen) in
-    let changes : map change_seen c.truncate.new.self.items ≡ take n (map change_seen events.items) = ap (map change_seen) c.truncate.ensures.items ∙ sym (take-map change_seen n events.items) in
-    let stands : c.last_revision-stands.result ≡ last_change c.args.after (take n (map change_seen events.items)) =
-    c.last_revision-stands.ensures ∙ ap (λ es. last_change c.args.after (map change_seen es)) c.deref.ensures.value ∙ ap (last_change c.args.after) changes
+    let all = recorded_since (window_of v.kind s) s.snapshot.revision v c.args.after (n + 1) in
+    let given : Serves (λ es. map event_seen es.items) all (Ok events) = c.in_ok-events.ensures in
+    let more : n < length (map event_seen events.items) = omega (arith, c.if-len-max.false, c.len.ensures, length-map events.items event_seen) in
+    let changes : map event_seen c.truncate.new.self.items ≡ take n (map event_seen events.items) = ap (map event_seen) c.truncate.ensures.items ∙ sym (take-map event_seen n events.items) in
+    let stands : c.last_revision-stands.result ≡ last_change c.args.after (take n (map event_seen events.items)) =
+    c.last_revision-stands.ensures ∙ ap (λ es. last_change c.args.after (map event_seen es)) c.deref.ensures.value ∙ ap (last_change c.args.after) changes
     in
-    given_part (λ es. map change_seen es.items) all events s.snapshot.revision c.args.after n (record { events = c.truncate.new.self; stands = c.last_revision-stands.result }) given more changes stands
+    given_part (λ es. map event_seen es.items) all events s.snapshot.revision c.args.after n (record { events = c.truncate.new.self; stands = c.last_revision-stands.result }) given more changes stands

@@ -21,6 +21,6 @@ invariant_of-result c =
 pub returns-clause-rest : goal.returns-clause-rest
 returns-clause-rest c =
     λ m. let ms = members_view c.into_members-rest.result.entries in
-    let held = view c.into_value.result in
+    let existing = view c.into_value.result in
     ap (λ ns. object (put (codes "metadata") (object m) ns)) c.in_ok-take.ensures.left ∙ ap object (put-put (codes "metadata") (object m) null ms)
-    ∙ ap (λ ns. object (put (codes "metadata") (object m) ns)) c.into_members-rest.ensures ∙ ap (with_metadata m) (object-members_of held c.into_value.ensures.object) ∙ ap (with_metadata m) c.into_value.ensures.value
+    ∙ ap (λ ns. object (put (codes "metadata") (object m) ns)) c.into_members-rest.ensures ∙ ap (with_metadata m) (object-members_of existing c.into_value.ensures.object) ∙ ap (with_metadata m) c.into_value.ensures.value

@@ -1,7 +1,7 @@
 use Rattle.std.proofs.Common.{◌∙◌, ap, option_map}
 use Rattle.definitions.specs.History.{found}
 use Rattle.server_state.specs.Snapshots.{Snapshot}
-use Rattle.meta.specs.Keys.{name_of}
+use Rattle.meta.specs.Keys.{key_of}
 use Rattle.meta.specs.declared.stored.StoredObject.{StoredObject}
 use Rattle.store.proofs.SeenMaps.{option_map-copied}
 use Rattle.store.proofs.stores.Store.get.Goals as goal
@@ -9,4 +9,4 @@ use Rattle.store.proofs.stores.Store.get.Goals as goal
 pub returns : goal.returns
 returns c =
     option_map-copied c.get.result ∙ ap (option_map (λ (o : StoredObject). o.value)) c.get.ensures.value ∙ c.self.invariant.indexed c.args.key.now
-    ∙ ap (λ (s : Snapshot). found (name_of c.args.key.now) s.members) c.self.view_is
+    ∙ ap (λ (s : Snapshot). found (key_of c.args.key.now) s.members) c.self.view_is

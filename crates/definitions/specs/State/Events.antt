@@ -1,17 +1,17 @@
 -- The changes of a view: what each write does to the objects that the view asks for.
 use Rattle.std.specs.Prelude.{ℕ, ◌+◌, ◌-◌, List, [], ◌∷◌, ◌++◌, length, drop, Option, Some, None}
 use Rattle.serde_json.specs.Data.{Data}
-use Rattle.definitions.specs.Texts.Names.{Name}
+use Rattle.definitions.specs.Texts.Keys.{Key}
 use Rattle.definitions.specs.State.History.{History, Write, View, Members, up_to, last_of, put_or_remove, seen}
 use Rattle.definitions.specs.Objects.Metadata.{metadata_of, at_revision}
 use Rattle.definitions.specs.declared.frames.ChangeKind.{ChangeKind}
 use Rattle.definitions.specs.declared.frames.ChangeKind.TheVariants.{Added, Modified, Deleted}
 
 -- what a write did to an object: the write's revision, the object's name, and what is shown of it
-pub record Change : Type 0 where
+pub record Event : Type 0 where
   pub kind : ChangeKind
   pub revision : ℕ
-  pub key : Name
+  pub key : Key
   pub object : Data
 
 -- an object as it was, at the revision of the write by which it is removed
@@ -19,24 +19,24 @@ abbrev pub gone_at : ℕ → Data → Data
 gone_at r d = at_revision r (metadata_of d) d
 
 -- by whether the view shows an object before the write of revision r, and whether it shows one after it (Kubernetes API Concepts, Efficient detection of changes)
-abbrev pub change_of : ℕ → Name → Option Data → Option Data → List Change
-change_of r k None None = []
-change_of r k None (Some new) = record { kind = Added; revision = r; key = k; object = new } ∷ []
-change_of r k (Some old) (Some new) = record { kind = Modified; revision = r; key = k; object = new } ∷ []
-change_of r k (Some old) None = record { kind = Deleted; revision = r; key = k; object = gone_at r old } ∷ []
+abbrev pub event_of : ℕ → Key → Option Data → Option Data → List Event
+event_of r k None None = []
+event_of r k None (Some new) = record { kind = Added; revision = r; key = k; object = new } ∷ []
+event_of r k (Some old) (Some new) = record { kind = Modified; revision = r; key = k; object = new } ∷ []
+event_of r k (Some old) None = record { kind = Deleted; revision = r; key = k; object = gone_at r old } ∷ []
 
 -- the change, if there is one, of a write after these
-abbrev pub write_change : View → List Write → Write → List Change
-write_change v before w = change_of (length before + 2) w.key (seen v w.key (last_of None w.key before)) (seen v w.key w.put)
+abbrev pub write_change : View → List Write → Write → List Event
+write_change v before w = event_of (length before + 2) w.key (seen v w.key (last_of None w.key before)) (seen v w.key w.put)
 
 -- the changes of writes after these, in order
-abbrev pub changes_after : View → List Write → List Write → List Change
+abbrev pub changes_after : View → List Write → List Write → List Event
 changes_after v before [] = []
 changes_after v before (w ∷ ws) = write_change v before w ++ changes_after v (before ++ w ∷ []) ws
 
 -- the changes of the writes with a revision above a and up to b, in order
-abbrev pub changes : History → View → ℕ → ℕ → List Change
-changes h v a b = changes_after v (up_to a h) (drop (a - 1) (up_to b h))
+abbrev pub events : History → View → ℕ → ℕ → List Event
+events h v a b = changes_after v (up_to a h) (drop (a - 1) (up_to b h))
 
 -- ---- what they make of the list
 
@@ -46,10 +46,10 @@ put_of Deleted d = None
 put_of kind d = Some d
 
 -- a change applied to what is there
-abbrev pub play_one : Members → Change → Members
-play_one ms c = put_or_remove ms c.key (put_of c.kind c.object)
+abbrev pub apply : Members → Event → Members
+apply ms c = put_or_remove ms c.key (put_of c.kind c.object)
 
 -- changes applied one after another
-abbrev pub play : Members → List Change → Members
-play ms [] = ms
-play ms (c ∷ cs) = play (play_one ms c) cs
+abbrev pub applied : Members → List Event → Members
+applied ms [] = ms
+applied ms (c ∷ cs) = applied (apply ms c) cs

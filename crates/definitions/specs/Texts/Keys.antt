@@ -8,17 +8,17 @@ use Rattle.definitions.specs.declared.kinds.Kind.{Kind}
 use Rattle.definitions.specs.Texts.Kinds.{rank}
 
 -- one object of a kind at a time has a given name in a namespace (Kubernetes, Object Names and IDs)
-pub record Name : Type 0 where
+pub record Key : Type 0 where
   pub kind : Kind
   pub namespace : List ℕ
   pub name : List ℕ
 
 -- by kind, then namespace, then name, the texts in byte order
-abbrev pub name_cmp : Name → Name → Ordering
-name_cmp = then_cmp (on (λ (n : Name). rank n.kind) nat_cmp) (then_cmp (on (λ (n : Name). n.namespace) (slice_cmp nat_cmp)) (on (λ (n : Name). n.name) (slice_cmp nat_cmp)))
+abbrev pub key_cmp : Key → Key → Ordering
+key_cmp = then_cmp (on (λ (n : Key). rank n.kind) nat_cmp) (then_cmp (on (λ (n : Key). n.namespace) (slice_cmp nat_cmp)) (on (λ (n : Key). n.name) (slice_cmp nat_cmp)))
 
-abbrev pub is_named : Name → Name → Bool
-is_named a b = is_eq (name_cmp a b)
+abbrev pub is_same_key : Key → Key → Bool
+is_same_key a b = is_eq (key_cmp a b)
 
 abbrev pub is_letter_or_digit : ℕ → Bool
 is_letter_or_digit b = (nat_le 97 b && nat_le b 122) || (nat_le 48 b && nat_le b 57)
