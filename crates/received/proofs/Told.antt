@@ -52,7 +52,7 @@ known_asks (Some input) (Some left) bytes r reads asks =
 
 told : (c : Result Opening Refusal) (rest left : List ℕ) (after : Option (List ℕ)) (r : Received) → Tells c rest (Some left) after (Ok r) → asked_after c (rest ++ left) ≡ said r
 told c rest left None r tells = absurd tells.1
-told c rest left (Some last) r (more, consumes, fits, says, ends) =
+told c rest left (Some last) r (more, consumes, fits, (says, ends)) =
     let whole : rest ++ left ≡ (rest ++ more) ++ last = ap (λ m. rest ++ m) consumes ∙ sym (append_assoc rest more last) in
     ap (asked_after c) whole ∙ stays c (rest ++ more) last (said r) says ends
 
