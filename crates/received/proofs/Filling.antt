@@ -1,9 +1,12 @@
 -- Bodies that are filled from a place on.
-use Rattle.std.proofs.Common.{◌≡◌, ◌<◌, ◌≤◌, ◌+◌, ◌-◌, ℕ, List, [], ◌++◌, take, drop, length, Option, refl, sym, ap, ◌∙◌, subst, arith, append_assoc, append-nil, length-append, length-take-le, take_all}
+use Rattle.std.proofs.Common.{◌≡◌, ◌<◌, ◌≤◌, ◌+◌, ◌-◌, ℕ, List, [], ◌++◌, take, drop, length, Option, Result, Err, refl, sym, ap, ◌∙◌, subst, arith, append_assoc, append-nil, length-append, length-drop, length-take-le, take_all}
 use Rattle.std.proofs.lemmas.List.{take-append-le}
-use Rattle.std.proofs.Math.Seq.{take-append-add}
+use Rattle.std.proofs.Math.Seq.{take-append-add, take-append_seam}
 use Rattle.std.specs.Io.KnownBytes.{Consumes, Keeps, IsAtEnd}
 use Rattle.std.proofs.KnownBytes.{Consumes-nil, Consumes-trans, Consumes-kept}
+use Rattle.request_heads.specs.declared.fault.ReadFault.{ReadFault}
+use Rattle.request_heads.specs.declared.fault.ReadFault.TheVariants as fault
+use Rattle.received.specs.Bodies.{Fills, StopsShort}
 use borrow.Rule.Slice.PartMut.{put_mid}
 
 -- what was consumed so far stands after the front, up to this place
@@ -33,6 +36,11 @@ filled_more front body buf place n before mid after (more, is, consumes, fits) f
     in
     (more ++ take n buf, text, Consumes-trans before mid after more (take n buf) consumes next, omega (arith, few, long_put body buf place fits long))
 
+pub same_length : (body buf : List ℕ) (place : ℕ) → place ≤ length body → length buf ≡ length body - place → length (put_mid place (length body - place) body buf) ≡ length body
+same_length body buf place fits long =
+    let none : length (drop (length body - place) (drop place body)) ≡ 0 = omega (arith, length-drop (length body - place) (drop place body), length-drop place body) in
+    omega (arith, long_put body buf place fits long, long, fits, none)
+
 -- the body is full
 pub filled_whole : (front body : List ℕ) (place : ℕ) (before now : Option (List ℕ)) → IsFilled front body place before now → length body ≤ place
     → (more : List ℕ) × Consumes before now more × (body ≡ front ++ more)
@@ -54,3 +62,14 @@ filled_to_the_end front body buf place n before mid after (more, is, consumes, f
     let nothing : Consumes mid after [] = subst (λ n. Consumes mid after (take n buf)) none next in
     let all : Consumes before after more = subst (Consumes before after) (append-nil more) (Consumes-trans before mid after more [] consumes nothing) in
     (more, all, (omega (arith, short front body more place is less, long_put body buf place fits long), end))
+
+-- a reader that fails before a body is whole
+pub fault_reads : (front text body : List ℕ) (size : ℕ) (before after : Option (List ℕ)) (f : ReadFault) → Fills text body before after (Err f) → text ≡ front → length body ≡ size
+    → (more : List ℕ) × Consumes before after more × StopsShort front size more f
+fault_reads front text body size before after fault.Device (more, consumes, short) same long = (more, consumes, omega (arith, short, long, ap length same, length-append text more, length-append front more))
+fault_reads front text body size before after fault.Want (more, consumes, none) same long = absurd none
+
+-- a body that begins with its front, and then has room
+pub begins_with : (front text body left : List ℕ) (size : ℕ) → text ≡ front → length front ≤ size → body ≡ take size text ++ left → take (length front) body ≡ front
+begins_with front text body left size same fits is =
+    ap (take (length front)) (is ∙ ap (λ t. take size t ++ left) same ∙ ap (λ t. t ++ left) (take_all size front fits)) ∙ take-append_seam front left

@@ -1,5 +1,6 @@
 -- What is said of a head and of its body.
 use Rattle.std.proofs.Common.{◌≡◌, ◌<◌, ◌≤◌, ℕ, List, [], ◌++◌, take, drop, length, Option, Some, None, Result, Ok, Err, Vec, inl, inr, refl, sym, ap, ◌∙◌, subst, arith, append-nil}
+use Rattle.std.specs.Result.{IsErrAnd}
 use Rattle.std.specs.Io.KnownBytes.{Consumes}
 use Rattle.std.proofs.KnownBytes.{Consumes-nil}
 use Rattle.definitions.specs.Refusals.{Refusal}
@@ -73,6 +74,10 @@ refused_tells c follows before e (Err f) opens refuses =
 -- out of memory before anything is read
 pub want_tells : (c : Result Opening Refusal) (follows : List ℕ) (before : Option (List ℕ)) → Tells c follows before before (Err read.Want)
 want_tells c follows before = ([], Consumes-nil before, nothing_of_body c follows, tt)
+
+pub result_tells : (c : Result Opening Refusal) (follows : List ℕ) (before : Option (List ℕ)) (result : Result Received ReadFault) → IsErrAnd result (λ f. f ≡ read.Want) → Tells c follows before before result
+result_tells c follows before (Ok r) is = absurd is
+result_tells c follows before (Err f) is = subst (λ f. Tells c follows before before (Err f)) (sym is) (want_tells c follows before)
 
 -- what is asked with a body
 pub says : (o : Opening) (bytes body : List ℕ) (a : Result Asked Fault) (result : Result Received ReadFault) → o.body_length ≤ length bytes → body ≡ take o.body_length bytes
