@@ -29,10 +29,13 @@ impl Server {
         ensures err { OnErr result (self.new ≡ self.old) }
     {
         let (reply, write) = verbs::accept(alloc, &self.store, request, moment)?;
-        if let Some(write) = write {
-            self.take(write)?;
+        match write {
+            None => Ok(reply),
+            Some(write) => {
+                self.take(write)?;
+                Ok(reply)
+            }
         }
-        Ok(reply)
     }
 
     /// Returns the reply to a request at a moment with what it writes, or why it is refused. Nothing is written yet: who has to

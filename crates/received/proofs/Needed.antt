@@ -53,9 +53,10 @@ no_more : (h : RequestHead) (follows more bytes : List ℕ) (after : Option (Lis
     → TellsWith (checked (head_of h)) (follows ++ more) after result → ReadsNoMore (bytes ++ more) result
 no_more h follows more bytes after (Ok r) reads fits short tells = λ front back. front_is_short h (checked (head_of h)) follows more bytes front back refl reads fits short
 no_more h follows more bytes after (Err fault.Want) reads fits short tells = λ front back. front_is_short h (checked (head_of h)) follows more bytes front back refl reads fits short
-no_more h follows more bytes after (Err fault.Device) reads fits short tells =
-    (λ whole. not_asked (asked_after (checked (head_of h)) (follows ++ more)) tells (is_whole (bytes ++ more) (follows ++ more) h reads whole),
-      λ front back. front_is_short h (checked (head_of h)) follows more bytes front back refl reads fits short)
+no_more h follows more bytes after (Err fault.Device) reads fits short tells = (
+  λ whole. not_asked (asked_after (checked (head_of h)) (follows ++ more)) tells (is_whole (bytes ++ more) (follows ++ more) h reads whole),
+  λ front back. front_is_short h (checked (head_of h)) follows more bytes front back refl reads fits short,
+)
 
 -- what is read of a head, and what is read after it
 pub head_needs : (before mid after : Option (List ℕ)) (bytes : List ℕ) (fields : List HeaderSpan) (spans : RequestSpans) (result : Result Received ReadFault)
@@ -65,9 +66,11 @@ head_needs before mid after bytes fields spans result reads short is tells =
     let h = is.0.0 in
     let at = is.0.1 in
     let told = tells h at in
-    let all : Consumes before mid bytes = subst (Consumes before mid) (sym reads.1) reads.2 in
-    (bytes ++ told.0, Consumes-trans before mid after bytes told.0 all told.1,
-      no_more h (drop spans.len bytes) told.0 bytes after result (ReadsRequest-append bytes h (drop spans.len bytes) told.0 at.reads) told.2 short told.3)
+    let all : Consumes before mid bytes = subst (Consumes before mid) (sym reads.1) reads.2 in (
+      bytes ++ told.0,
+      Consumes-trans before mid after bytes told.0 all told.1,
+      no_more h (drop spans.len bytes) told.0 bytes after result (ReadsRequest-append bytes h (drop spans.len bytes) told.0 at.reads) told.2 short told.3,
+    )
 
 -- where no head was found nothing else is read
 pub nothing_needs : (before mid : Option (List ℕ)) (bytes : List ℕ) (r : Received) → Reads before mid [] bytes → length bytes ≤ longest_head → Needs before mid (Ok r)

@@ -65,8 +65,8 @@ head_asks before mid after bytes fields spans r reads is tells =
     let at = is.0.1 in
     known_asks before mid bytes r reads
     (λ left here.
-      subst (Asks (bytes ++ left)) (told (checked (head_of h)) (drop spans.len bytes) left after r (subst (λ m. Tells (checked (head_of h)) (drop spans.len bytes) m after (Ok r)) here (tells h at)))
-      (found_asks bytes fields (found.Whole spans) left is h at))
+    subst (Asks (bytes ++ left)) (told (checked (head_of h)) (drop spans.len bytes) left after r (subst (λ m. Tells (checked (head_of h)) (drop spans.len bytes) m after (Ok r)) here (tells h at)))
+    (found_asks bytes fields (found.Whole spans) left is h at))
 
 -- what is asked with a head that was found, if anything is
 pub whole_asks : (before mid after : Option (List ℕ)) (bytes : List ℕ) (fields : List HeaderSpan) (spans : RequestSpans) (result : Result Received ReadFault)

@@ -1,17 +1,17 @@
 //! Sessions.
-use asked::{Asked, read_request};
 use crate::lines::{change_lines, fault_line, initial_lines, line, refusal_line, success_line};
+use asked::{Asked, read_request};
 use definitions::methods::Method;
 use definitions::refusals::Part;
 use desk::Server;
 use line_service::LineService;
 use meta::{Fault, Write};
 use reply::Reply;
-use revisions::Watched;
-use revisions::watched::last_bookmark;
 use requests::line::{Line, read_line};
 use requests::list_options::ListOptions;
 use requests::watch_options::WatchOptions;
+use revisions::Watched;
+use revisions::watched::last_bookmark;
 use routes::table::Routes;
 use selector::View;
 use stamps::moments::Moment;

@@ -14,7 +14,7 @@ loop-filled-preserved g c =
     let so_far = c.loop-filled.invariant.0 in
     let long : length buf ≡ length body - place = omega (arith, c.in-Ok.ensures.len, length-take-le (length body - place) (drop place body) (omega (arith, length-drop place body)), length-drop place body) in (
       filled_more (take c.args.front c.args.body.now) body buf place c.in-Ok.n (g.R.Read.remaining (device_of c.args.reader.now)) (g.R.Read.remaining (device_of c.loop-filled.reader))
-      (g.R.Read.remaining (device_of c.receive.new.self)) so_far c.in-Ok.ensures.bound long c.in-Ok.ensures.read,
+          (g.R.Read.remaining (device_of c.receive.new.self)) so_far c.in-Ok.ensures.bound long c.in-Ok.ensures.read,
       same_length body buf place so_far.3 long ∙ c.loop-filled.invariant.1,
       c.in-Ok.ensures.sound,
     )
