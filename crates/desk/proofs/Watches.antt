@@ -15,19 +15,8 @@ use Rattle.server_state.specs.Recorded.{Window, above, event_recorded, events_re
 use Rattle.revisions.specs.Events.{event_seen}
 use Rattle.revisions.specs.declared.events.Event.{Event}
 use Rattle.watch_cache.specs.Served.{Serves}
-use Rattle.desk.specs.Seen.{watched_of}
-use Rattle.desk.specs.declared.watching.Watched.{Watched}
-
-last_at : (a : ℕ) (x : Event) (es : List Event) (e : Event) → slice_get (x ∷ es) (length es) ≡ Some e → last_change a (map event_seen (x ∷ es)) ≡ e.revision
-last_at a x [] e is = cc
-last_at a x (y ∷ es) e is = last_at x.revision y es e is
-
--- the revision of the last event
-pub last_event : (a : ℕ) (es : List Event) (e : Event) → slice_get es (length es - 1) ≡ Some e → last_change a (map event_seen es) ≡ e.revision
-last_event a [] e is = cc
-last_event a (x ∷ es) e is =
-    let place : length es ≡ suc (length es) - 1 = omega arith in
-    last_at a x es e (ap (slice_get (x ∷ es)) place ∙ is)
+use Rattle.revisions.specs.Watches.{watched_of}
+use Rattle.revisions.specs.declared.watched.Watched.{Watched}
 
 -- the first n of more than n changes
 pub given_part : {Y : Type 0} (seen : Y → List Change) (all : Result (List Change) Refusal) (y : Y) (now a n : ℕ) (w : Watched) → Serves seen all (Ok y) → n < length (seen y)

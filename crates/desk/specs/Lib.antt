@@ -1,4 +1,3 @@
 pub mod Pages
 pub mod Replies
 pub mod Standing
-pub mod Seen

@@ -9,4 +9,3 @@ mod serving;
 pub mod watching;
 
 pub use servers::Server;
-pub use watching::Watched;

@@ -1,22 +1,10 @@
 //! What watches are given.
-ghost use Rattle.std.specs.Prelude.{◌≡◌, map};
-ghost use Rattle.definitions.specs.Versions.{last_change};
-ghost use Rattle.revisions.specs.Events.{event_seen};
-
 use crate::servers::Server;
 use meta::Fault;
-use revisions::Event;
+use revisions::watched::last_revision;
+use revisions::{Event, Watched};
 use selector::View;
 use std::alloc::Global;
-
-/// A part of what a watch asks for.
-#[derive(Drop)]
-pub struct Watched {
-    /// The changes, in order.
-    pub events: Vec<Event>,
-    /// The revision up to which these are all: from here the watch goes on.
-    pub stands: u64,
-}
 
 impl Server {
     ghost use Rattle.std.specs.Prelude.{◌+◌, map};
@@ -25,7 +13,7 @@ impl Server {
     ghost use Rattle.revisions.specs.Events.{event_seen};
     ghost use Rattle.selector.specs.Views.{view_of};
     ghost use Rattle.watch_cache.specs.Served.{Serves};
-    ghost use Rattle.desk.specs.Seen.{watched_of};
+    ghost use Rattle.revisions.specs.Watches.{watched_of};
 
     /// Returns the first changes of a view after a revision, at most `max`, which may be any number. The errors are a revision
     /// below what is kept, one above the present, and running out of memory. A revision that is refused takes no memory.
@@ -67,16 +55,5 @@ impl Server {
         // says that no more changes are kept than there is room for
         let _ = cache.window();
         cache.since(alloc, self.revision(), view, after, max.saturating_add(1))
-    }
-}
-
-/// Returns the revision of the last event; without any, that after which they come. A watch that stands above it has seen more
-/// than it was given.
-pub fn last_revision(events: &[Event], after: u64) -> u64
-    ensures { result ≡ last_change after (map event_seen events.now) }
-{
-    match events.last() {
-        None => after,
-        Some(event) => event.revision,
     }
 }

@@ -1,4 +1,3 @@
-pub mod Asked
 pub mod SessionStates
 pub mod Laws
 pub mod Shown

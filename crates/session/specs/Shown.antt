@@ -1,5 +1,4 @@
 -- The lines of a watch as the definitions say them.
-use Rattle.std.specs.Prelude.{ℕ, List, [], ◌∷◌, Option, Some, None}
 use Rattle.definitions.specs.Streams as streams
 use Rattle.definitions.specs.Streams.{event as change, bookmark, initial}
 use Rattle.meta.specs.Members.{member_of}
@@ -12,8 +11,3 @@ abbrev pub line_seen : Shown → streams.Line
 line_seen (Change event) = change (event_seen event.now)
 line_seen (Bookmark revision) = bookmark revision
 line_seen (Initial member) = initial (member_of member).0 (member_of member).1
-
--- the bookmark that comes last, if any does
-abbrev pub last_bookmark : Option ℕ → List streams.Line
-last_bookmark None = []
-last_bookmark (Some r) = bookmark r ∷ []

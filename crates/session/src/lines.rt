@@ -10,7 +10,8 @@ ghost use Rattle.meta.specs.Faults.{refusal_of};
 ghost use Rattle.meta.specs.Members.{member_of};
 ghost use Rattle.meta.specs.declared.faults.Fault.TheVariants as faults;
 ghost use Rattle.revisions.specs.Events.{event_seen};
-ghost use Rattle.session.specs.Shown.{line_seen, last_bookmark};
+ghost use Rattle.revisions.specs.Watches.{last_bookmark};
+ghost use Rattle.session.specs.Shown.{line_seen};
 
 use definitions::kinds::Kind;
 use meta::{Fault, Member};

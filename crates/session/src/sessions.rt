@@ -1,17 +1,17 @@
 //! Sessions.
-use crate::asked::Asked;
-use crate::asking::read_request;
-use crate::bookmarks::last_bookmark;
 use crate::lines::{change_lines, fault_line, initial_lines, line, refusal_line, success_line};
+use asked::{Asked, read_request};
 use definitions::methods::Method;
 use definitions::refusals::Part;
-use desk::{Server, Watched};
+use desk::Server;
 use line_service::LineService;
 use meta::{Fault, Write};
 use reply::Reply;
 use requests::line::{Line, read_line};
 use requests::list_options::ListOptions;
 use requests::watch_options::WatchOptions;
+use revisions::Watched;
+use revisions::watched::last_bookmark;
 use routes::table::Routes;
 use selector::View;
 use stamps::moments::Moment;
@@ -41,7 +41,7 @@ impl Session {
     ghost use Rattle.std.specs.Prelude.{◌≡◌, IfOk, OnOk, OnErr, IfSome, option_map, false};
     ghost use Rattle.answers.specs.Serves as answers;
     ghost use Rattle.desk.specs.Replies.{Lists};
-    ghost use Rattle.desk.specs.Seen.{watched_of};
+    ghost use Rattle.revisions.specs.Watches.{watched_of};
     ghost use Rattle.watch_cache.specs.Served.{Serves};
     ghost use Rattle.definitions.specs.Replies.{outcome, watch_reply};
     ghost use Rattle.line_protocol.specs.Lines.{reply_text};

@@ -5,20 +5,18 @@ ghost use Rattle.meta.specs.Faults.{refusal_of};
 ghost use Rattle.meta.specs.Keys.{key_of};
 ghost use Rattle.requests.specs.Collected.{collection_seen, read_seen};
 ghost use Rattle.requests.specs.Queried.{query_seen};
-ghost use Rattle.requests.specs.Seen.{check_refusal};
 ghost use Rattle.routes.specs.Seen.{now, route_seen};
-ghost use Rattle.session.specs.Asked.{Asks, ReadsData, ReadsDelete, asked_seen};
+ghost use Rattle.asked.specs.Asked.{Asks, ReadsData, ReadsDelete, asked_seen};
 
-use crate::asked::Asked;
+use crate::meaning::Asked;
 use definitions::kinds::Kind;
 use definitions::methods::Method;
 use definitions::refusals::Part;
 use lifecycle::DeleteOptions;
 use meta::{Fault, Key};
 use requests::body::{BodyFault, is_too_long, read_body};
-use requests::check::{CheckFault, check_request, decode};
+use requests::check::{check_request, decode};
 use requests::collections::{Collection, Read};
-use requests::faults::QueryFault;
 use requests::query::{Query, read_query};
 use routes::table::Routes;
 use routes::targets::Target;
@@ -28,7 +26,7 @@ use std::alloc::{AllocError, Global};
 use verbs::Request;
 
 /// Returns what a method, a target and a body ask. The error is the first refusal: of the path, the method, the query, the
-/// length of the body, which each method looks at, what the body says; or running out of memory.
+/// length of the body, which each method looks at, what the body says; or out of memory.
 pub fn read_request(
     alloc: Global,
     routes: &Routes,
@@ -42,7 +40,7 @@ pub fn read_request(
     let target = decoded.as_str();
     match check_request(routes, method, target) {
         Ok(named) => ask_with(alloc, method, named, target, body),
-        Err(fault) => Err(check_fault(fault)),
+        Err(fault) => Err(Fault::from(fault)),
     }
 }
 
@@ -60,14 +58,13 @@ fn ask_with(
     match read_query(alloc, method, named, target) {
         Ok(_) if is_too_long(body) => Err(Fault::TooLarge),
         Ok(query) => ask(alloc, method, named, query, body),
-        Err(QueryFault::BadQuery) => Err(Fault::BadRequest(Part::Query)),
-        Err(QueryFault::BadToken) => Err(Fault::BadRequest(Part::Token)),
-        Err(QueryFault::NoMemory) => Err(Fault::NoMemory),
+        Err(fault) => Err(Fault::from(fault)),
     }
 }
 
-/// Returns what a method asks of a target, with a query and a body that is not too long.
-fn ask(
+/// Returns what a method asks of a target, with a query and a body that is not too long. The error is the first refusal: of the
+/// method, of what the body says; or out of memory.
+pub fn ask(
     alloc: Global,
     method: Method,
     target: Target<'_>,
@@ -168,15 +165,4 @@ fn delete_options(alloc: Global, query: &Query, body: &[u8]) -> Result<DeleteOpt
     }
     let value = read(alloc, body)?;
     DeleteOptions::from_value(alloc, &value)
-}
-
-/// Returns the fault of a request that a check refuses.
-fn check_fault(fault: CheckFault) -> Fault
-    ensures { refusal_of result ≡ check_refusal fault }
-{
-    match fault {
-        CheckFault::NoSuchPath => Fault::NoSuchPath,
-        CheckFault::BadNamespace => Fault::BadRequest(Part::Path),
-        CheckFault::MethodNotAllowed => Fault::MethodNotAllowed,
-    }
 }

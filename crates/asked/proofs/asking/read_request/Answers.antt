@@ -1,9 +1,9 @@
 use Rattle.std.proofs.Common.{Ok, Err, inr, ap, sym, subst, ◌∙◌}
 use Rattle.requests.specs.Seen.{check_refusal}
 use Rattle.routes.specs.Seen.{route_seen}
-use Rattle.session.specs.Asked.{Asks}
-use Rattle.session.proofs.Checks.{checked-asks}
-use Rattle.session.proofs.asking.read_request.Goals as goal
+use Rattle.asked.specs.Asked.{Asks}
+use Rattle.asked.proofs.Checks.{checked-asks}
+use Rattle.asked.proofs.asking.read_request.Goals as goal
 
 pub returns-in-Ok : goal.returns-in-Ok
 returns-in-Ok c =
@@ -15,4 +15,4 @@ pub returns : goal.returns
 returns c =
     inr
     (checked-asks c.args.method c.args.target.now c.args.body.now c.as_str-target.result.now (Err (check_refusal c.in-Err.fault)) (c.as_str-target.ensures.value ∙ c.in_ok-decoded.ensures.text) c.in-Err.ensures
-    ∙ ap Err (sym c.check_fault.ensures))
+    ∙ ap Err (sym c.from.ensures))

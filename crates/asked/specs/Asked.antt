@@ -14,8 +14,8 @@ use Rattle.meta.specs.declared.faults.Fault.TheVariants as fault
 use Rattle.verbs.specs.Requests.{request_of}
 use Rattle.requests.specs.Collected.{list_seen, watch_seen}
 use Rattle.selector.specs.Views.{view_of}
-use Rattle.session.specs.declared.asked.Asked.{Asked}
-use Rattle.session.specs.declared.asked.Asked.TheVariants.{Request, List, Watch}
+use Rattle.asked.specs.declared.meaning.Asked.{Asked}
+use Rattle.asked.specs.declared.meaning.Asked.TheVariants.{Request, List, Watch}
 
 -- what is asked as the definitions say it
 abbrev pub asked_seen : Asked → targets.Asked

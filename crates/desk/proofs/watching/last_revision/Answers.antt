@@ -1,6 +1,0 @@
-use Rattle.std.proofs.Common.{sym}
-use Rattle.desk.proofs.Watches.{last_event}
-use Rattle.desk.proofs.watching.last_revision.Goals as goal
-
-pub returns-in-Some : goal.returns-in-Some
-returns-in-Some c = sym (last_event c.args.after c.args.events.now c.in-Some.event.now (sym c.in-Some.ensures.value))

@@ -1,0 +1,19 @@
+-- What is asked, apart from running out of memory.
+use Rattle.std.specs.Prelude.{◌≡◌, Result, Ok, Err}
+use Rattle.meta.specs.declared.faults.Fault.{Fault}
+use Rattle.meta.specs.declared.faults.Fault.TheVariants as fault
+use Rattle.asked.specs.declared.meaning.Asked.{Asked}
+use Rattle.request_heads.specs.declared.fault.ReadFault.{ReadFault}
+use Rattle.request_heads.specs.declared.fault.ReadFault.TheVariants as read
+use Rattle.received.specs.declared.received.Received.{Received}
+use Rattle.received.specs.declared.received.Received.TheVariants as received
+
+-- the result is this refusal, or out of memory
+abbrev pub Refuses : Fault → Result Received ReadFault → Type 0
+Refuses e (Ok r) = (r ≡ received.Refused e) × (e ≡ fault.NoMemory → ⊥)
+Refuses e (Err f) = (e ≡ fault.NoMemory) × (f ≡ read.Want)
+
+-- the result is what is asked, or why it is refused, or out of memory
+abbrev pub Answers : Result Asked Fault → Result Received ReadFault → Type 0
+Answers (Ok a) result = result ≡ Ok (received.Asked a)
+Answers (Err e) result = Refuses e result

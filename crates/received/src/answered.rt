@@ -1,0 +1,32 @@
+//! What is asked, apart from running out of memory.
+ghost use Rattle.std.specs.Prelude.{◌≡◌, IfOk};
+ghost use Rattle.meta.specs.declared.faults.Fault.TheVariants.{NoMemory};
+ghost use Rattle.received.specs.declared.received.Received.TheVariants as received;
+ghost use Rattle.received.specs.Answered.{Answers, Refuses};
+
+use crate::received::Received;
+use asked::Asked;
+use meta::Fault;
+use request_heads::ReadFault;
+
+/// Returns what is asked, or why it is refused; out of memory is no refusal of the request.
+pub(crate) fn answered(asked: Result<Asked, Fault>) -> Result<Received, ReadFault>
+    ensures answers { Answers asked result }
+    ensures memory { IfOk result (λ r. r ≡ received.Refused NoMemory → ⊥) }
+{
+    match asked {
+        Ok(asked) => Ok(Received::Asked(asked)),
+        Err(fault) => refused(fault),
+    }
+}
+
+/// Returns why a request is refused; out of memory is no refusal of the request.
+pub(crate) fn refused(fault: Fault) -> Result<Received, ReadFault>
+    ensures refuses { Refuses fault result }
+    ensures memory { IfOk result (λ r. r ≡ received.Refused NoMemory → ⊥) }
+{
+    match fault {
+        Fault::NoMemory => Err(ReadFault::Want),
+        fault => Ok(Received::Refused(fault)),
+    }
+}

@@ -1,0 +1,10 @@
+//! Requests over HTTP/1.1, read from a connection: what a peer asks, or why it is refused.
+#![tactic(auto)]
+
+mod answered;
+mod body;
+pub mod reading;
+pub mod received;
+
+pub use reading::receive;
+pub use received::Received;

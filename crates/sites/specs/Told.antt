@@ -1,0 +1,12 @@
+-- What a site answers, as the definitions say it.
+use Rattle.std.specs.Prelude.{Result, Ok, Err}
+use Rattle.definitions.specs.Verbs.{Answer, Outcome, answered, refused}
+use Rattle.desk.specs.Replies.{Says}
+use Rattle.meta.specs.Faults.{refusal_of}
+use Rattle.meta.specs.declared.faults.Fault.{Fault}
+use Rattle.reply.specs.declared.reply.Reply.{Reply}
+
+-- the result says an outcome that is so
+abbrev pub Tells : (Outcome → Type 0) → Result Reply Fault → Type 0
+Tells is_so (Ok r) = (a : Answer) × Says a r × is_so (answered a)
+Tells is_so (Err e) = is_so (refused (refusal_of e))

@@ -1,0 +1,37 @@
+//! What a connection asks of a server.
+ghost use Rattle.std.specs.Prelude.{ℕ, List};
+ghost use Rattle.definitions.specs.Collections as collections;
+ghost use Rattle.definitions.specs.History as history;
+ghost use Rattle.definitions.specs.Verbs as outcomes;
+ghost use Rattle.definitions.specs.Verbs.{Outcome};
+ghost use Rattle.requests.specs.Collected.{list_seen};
+ghost use Rattle.selector.specs.Views.{view_of};
+ghost use Rattle.sites.specs.Told.{Tells};
+ghost use Rattle.verbs.specs.Requests.{request_of};
+
+use meta::Fault;
+use reply::Reply;
+use requests::list_options::ListOptions;
+use selector::View;
+use stamps::moments::Moment;
+use std::alloc::Global;
+use verbs::Request;
+use watch_service::WatchSource;
+
+/// A server as a connection asks it. Others may write between two calls, so that what a call answers is a relation between what
+/// the site has seen before it and after it. Out of memory is an outcome as each refusal is.
+pub trait Site: WatchSource {
+    /// A request at a moment has this outcome.
+    ghost Calls: { Self → outcomes.Request → List ℕ → Outcome → Self → Type 0 };
+
+    /// A list of a view has this outcome.
+    ghost Lists: { Self → history.View → collections.ListOptions → Outcome → Self → Type 0 };
+
+    /// Answers a request at a moment, after which what it writes is written.
+    fn call(&mut self, alloc: Global, request: Request, moment: Moment) -> Result<Reply, Fault>
+        ensures calls { Tells (λ o. Calls self.old (request_of request) moment o self.new) result };
+
+    /// Answers a list of a view.
+    fn list(&mut self, alloc: Global, view: &View, options: &ListOptions) -> Result<Reply, Fault>
+        ensures lists { Tells (λ o. Lists self.old (view_of view.now) (list_seen options.now) o self.new) result };
+}
