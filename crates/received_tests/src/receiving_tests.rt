@@ -54,7 +54,10 @@ fn requests_are_read_in_any_pieces(rt: HostRuntime) -> Result<(), Fail> {
         assert_eq!(rt; received(alloc, &POST[..body], most)?, (Word::Create, 0));
         assert_eq!(rt; received(alloc, &POST[..body - 1], most)?, (Word::Ended, 0));
         assert_eq!(rt; received(alloc, b"", most)?.0, Word::Ended);
-        assert_eq!(rt; received(alloc, b"GET /api/v1/pods HTTP/1.1\r\n\r\n", most)?.0, Word::List);
+        assert_eq!(rt;
+            received(alloc, b"GET /api/v1/pods HTTP/1.1\r\n\r\n", most)?.0,
+            Word::List
+        );
         assert_eq!(rt; received(alloc, b"GET /\x01", most)?.0, Word::BadRequest);
     }
     // a byte a call: none is read after the body
