@@ -37,6 +37,7 @@ impl Journal {
     ghost use Rattle.definitions.specs.History.{writes, list};
     ghost use Rattle.definitions.specs.Events.{events};
     ghost use Rattle.revisions.specs.Events.{event_seen};
+    ghost use Rattle.revisions.specs.Journals.{put_at};
 
     /// Returns a journal of no writes.
     pub fn new(alloc: Global) -> Journal
