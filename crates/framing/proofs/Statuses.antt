@@ -1,5 +1,5 @@
 -- A Status has no fractions.
-use Rattle.std.proofs.Common.{◌≡◌, ℕ, List, Option, Some, None, codes, Bool, true, false, cond, length, ◌==◌, refl}
+use Rattle.std.proofs.Common.{◌≡◌, ℕ, List, Option, Some, None, option_map, codes, Bool, true, false, cond, length, ◌==◌, refl}
 use Rattle.serde_json.specs.Data.{number, unsigned, string, object, no_members, member}
 use Rattle.serde_json.specs.Written.{has_float}
 use Rattle.definitions.specs.declared.kinds.Kind.{Kind}
