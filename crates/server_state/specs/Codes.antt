@@ -8,7 +8,7 @@ use Rattle.definitions.specs.declared.kinds.Kind.{Kind}
 use Rattle.definitions.specs.contracts.kinds.Kind as kind
 use Rattle.definitions.specs.Kinds.{kinds, rank, kinds_at}
 use Rattle.codes.specs.Codes.{coded_data}
-use Rattle.codes.specs.HistoryCodes.{coded_key as coded_name}
+use Rattle.codes.specs.HistoryCodes.{coded_key}
 use Rattle.definitions.specs.Keys.{Key}
 use Rattle.definitions.specs.Windows.{Change}
 use Rattle.server_state.specs.Recorded.{Window, opened}
