@@ -39,7 +39,11 @@ fn has_new_spec(alloc: Global, existing: &Object, object: &Object) -> Result<boo
     Ok(before.as_str() != after.as_str())
 }
 
-fn has_new_annotations(alloc: Global, existing: &Object, object: &Object) -> Result<bool, AllocError>
+fn has_new_annotations(
+    alloc: Global,
+    existing: &Object,
+    object: &Object,
+) -> Result<bool, AllocError>
     ensures { IfOk result (λ b. b ≡ has_new_annotations existing.now.value object.now.value) }
 {
     let before = annotations_text(alloc, existing)?;

@@ -17,8 +17,8 @@ use Rattle.controllers.specs.WorkQueues.{WorkKey, WorkKeys, WorkQueue, work_key_
 
 abbrev pub coded_reflector : Coded Reflector
 coded_reflector =
-    code_by ((Kind × ℕ) × (Phase × List ℕ)) (coded× (coded× kind.the_row.coded coded_ℕ) (coded× phase.the_row.coded coded_text)) (λ s. ((s.kind, s.revision), (s.phase, s.held)))
-    (λ p. record { kind = p.0.0; revision = p.0.1; phase = p.1.0; held = p.1.1 }) (λ _. refl)
+    code_by ((Kind × ℕ) × (Phase × List ℕ)) (coded× (coded× kind.the_row.coded coded_ℕ) (coded× phase.the_row.coded coded_text)) (λ s. ((s.kind, s.revision), (s.phase, s.buffered)))
+    (λ p. record { kind = p.0.0; revision = p.0.1; phase = p.1.0; buffered = p.1.1 }) (λ _. refl)
 
 abbrev pub coded_work_key : Coded WorkKey
 coded_work_key = code_by (Controller × Key) (coded× controller.the_row.coded coded_key) (λ t. (t.controller, t.key)) (λ p. record { controller = p.0; key = p.1 }) (λ _. refl)

@@ -59,18 +59,18 @@ rest bytes = get_or (cut_at_newlines bytes) (length (cut_at_newlines bytes) - 1)
 -- what was read: the events in order, and then the bytes of a line that is not whole, or a fault
 pub record Read : Type 0 where
   pub events : List Frame
-  pub held : List ℕ
+  pub buffered : List ℕ
   pub fault : Option FrameFault
 
 abbrev pub holding : List ℕ → Read
-holding left = record { events = []; held = left; fault = None }
+holding left = record { events = []; buffered = left; fault = None }
 
 abbrev pub failed : FrameFault → Read
-failed f = record { events = []; held = []; fault = Some f }
+failed f = record { events = []; buffered = []; fault = Some f }
 
 -- these events, and then what was read after them
 abbrev pub onto : List Frame → Read → Read
-onto es r = record { events = es ++ r.events; held = r.held; fault = r.fault }
+onto es r = record { events = es ++ r.events; buffered = r.buffered; fault = r.fault }
 
 abbrev pub next : Result Frame FrameFault → Read → Read
 next (Ok e) r = onto (e ∷ []) r

@@ -210,11 +210,11 @@ pub record Reflector : Type 0 where
   pub kind : Kind
   pub revision : ℕ
   pub phase : Phase
-  pub held : List ℕ
+  pub buffered : List ℕ
 
 -- nothing was taken in yet
 abbrev pub begun : Kind → Reflector
-begun k = record { kind = k; revision = 0; phase = Listing; held = [] }
+begun k = record { kind = k; revision = 0; phase = Listing; buffered = [] }
 
 abbrev pub ask_at : Phase → ℕ → Ask
 ask_at Listing r = ask.List
@@ -224,9 +224,9 @@ ask_at Watching r = ask.Watch r
 abbrev pub asks : Reflector → Ask
 asks s = ask_at s.phase s.revision
 
--- the reflector at a revision, with nothing held
+-- the reflector at a revision, with nothing buffered
 abbrev pub turned : Phase → ℕ → Reflector → Reflector
-turned p r s = record { kind = s.kind; revision = r; phase = p; held = [] }
+turned p r s = record { kind = s.kind; revision = r; phase = p; buffered = [] }
 
 -- a list that was read is taken in; another changes nothing
 abbrev pub with_list : Option Listed → Reflector → Reflector
@@ -264,27 +264,27 @@ abbrev pub phase_after : Option End → Phase
 phase_after (Some e) = Listing
 phase_after None = Watching
 
--- and the bytes that were held are dropped
+-- and the bytes that were buffered are dropped
 abbrev pub held_after : Option End → List ℕ → List ℕ
-held_after (Some e) held = []
-held_after None held = held
+held_after (Some e) buffered = []
+held_after None buffered = buffered
 
 abbrev pub left_by : Option End → ℕ → List ℕ → Reflector → Reflector
-left_by e r held s = record { kind = s.kind; revision = r; phase = phase_after e; held = held_after e held }
+left_by e r buffered s = record { kind = s.kind; revision = r; phase = phase_after e; buffered = held_after e buffered }
 
 abbrev pub ran : Run → Read → Reflector → Fed
-ran t r s = record { deltas = t.deltas; ended = end_of t.ended r.fault; after = left_by (end_of t.ended r.fault) t.revision r.held s }
+ran t r s = record { deltas = t.deltas; ended = end_of t.ended r.fault; after = left_by (end_of t.ended r.fault) t.revision r.buffered s }
 
 abbrev pub watched : Read → Reflector → Fed
 watched r s = ran (run s.kind s.revision r.events) r s
 
--- bytes after those held; while a list is asked for they are nothing
+-- bytes after those buffered; while a list is asked for they are nothing
 abbrev pub fed_in : Phase → List ℕ → Reflector → Fed
 fed_in Listing bytes s = nothing s
 fed_in Watching bytes s = watched (frames.reading bytes) s
 
 abbrev pub fed : Reflector → List ℕ → Fed
-fed s piece = fed_in s.phase (s.held ++ piece) s
+fed s piece = fed_in s.phase (s.buffered ++ piece) s
 
 -- ---- pieces one after another
 

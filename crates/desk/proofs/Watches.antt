@@ -25,7 +25,7 @@ given_part seen (Err f) y now a n w is more changes stands = absurd is
 given_part seen (Ok cs) y now a n w is more changes stands =
     let over : nat_le (length (seen y)) n ≡ false = grind (arith, nat_tests) in
     let at : (if nat_le (length (seen y)) n then now else last_change a (take n (seen y))) ≡ w.stands = ap (λ b. cond b now (last_change a (take n (seen y)))) over ∙ sym stands in
-    ap (watched now a n) is ∙ (λ i. record { changes = sym changes i; stands = at i })
+    ap (watched now a n) is ∙ (λ i. record { events = sym changes i; stands = at i })
 
 -- ---- no window has more changes than it keeps
 

@@ -12,19 +12,19 @@ use Rattle.controllers.specs.Reflectors.{Reflector, Fed, Delta, put, mark, asks,
 
 -- a reflector of ConfigMaps that watches from revision 3, with bytes held
 abbrev pub at_three : List ℕ → Reflector
-at_three existing = record { kind = ConfigMap; revision = 3; phase = Watching; existing = existing }
+at_three buffered = record { kind = ConfigMap; revision = 3; phase = Watching; buffered = buffered }
 
 -- this came of the bytes, and the reflector watches from a revision, with nothing held
 abbrev gives : List Delta → ℕ → Fed
-gives ds r = record { deltas = ds; ended = None; after = record { kind = ConfigMap; revision = r; phase = Watching; existing = [] } }
+gives ds r = record { deltas = ds; ended = None; after = record { kind = ConfigMap; revision = r; phase = Watching; buffered = [] } }
 
 -- nothing came of the bytes, and they are held
 abbrev pub holds : List ℕ → Fed
-holds existing = record { deltas = []; ended = None; after = at_three existing }
+holds buffered = record { deltas = []; ended = None; after = at_three buffered }
 
 -- nothing came of the bytes but this end, and a list is asked for
 abbrev pub ends : End → Fed
-ends e = record { deltas = []; ended = Some e; after = record { kind = ConfigMap; revision = 3; phase = Listing; existing = [] } }
+ends e = record { deltas = []; ended = Some e; after = record { kind = ConfigMap; revision = 3; phase = Listing; buffered = [] } }
 
 abbrev a_map : Object
 a_map =
@@ -75,7 +75,7 @@ pub record ExpiriesAskForLists : Type 0 where
   pub another_code : fed (at_three []) (error (codes "504")) ≡ ends Unreadable
   pub no_code : fed (at_three []) (error (codes "\"410\"")) ≡ ends Unreadable
   pub frames_before_count : fed (at_three []) (first_part ++ (second_part ++ error (codes "410")))
-      ≡ record { deltas = put a_map ∷ []; ended = Some Expired; after = record { kind = ConfigMap; revision = 4; phase = Listing; existing = [] } }
+      ≡ record { deltas = put a_map ∷ []; ended = Some Expired; after = record { kind = ConfigMap; revision = 4; phase = Listing; buffered = [] } }
 
 -- ---- bookmarks
 

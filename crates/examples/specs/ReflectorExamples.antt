@@ -49,7 +49,7 @@ frame type version =
 
 -- a reflector of ConfigMaps that watches from a revision, with bytes held
 abbrev watching : ℕ → List ℕ → Reflector
-watching r existing = record { kind = ConfigMap; revision = r; phase = Watching; existing = existing }
+watching r buffered = record { kind = ConfigMap; revision = r; phase = Watching; buffered = buffered }
 
 -- the first update puts the object and moves the revision to 3, its removal takes it away at 4
 abbrev pub ChangesAreTakenIn : Type 0
@@ -69,7 +69,7 @@ PartsAreHeld =
 
 -- nothing comes of the frame but this end, after which a list is asked for
 abbrev ends : End → Fed
-ends e = record { deltas = []; ended = Some e; after = record { kind = ConfigMap; revision = 3; phase = Listing; existing = [] } }
+ends e = record { deltas = []; ended = Some e; after = record { kind = ConfigMap; revision = 3; phase = Listing; buffered = [] } }
 
 abbrev error : List ℕ → List ℕ
 error code = codes "{\"object\":{\"apiVersion\":\"v1\",\"code\":" ++ (code ++ codes ",\"kind\":\"Status\",\"status\":\"Failure\"},\"type\":\"ERROR\"}\n")

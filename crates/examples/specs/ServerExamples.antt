@@ -24,7 +24,7 @@ server_of_four = after_entries (opened_server 4) six_writes
 
 -- the revisions of the changes that a watch is given, and where it then stands
 abbrev given : Result Watched Refusal → Result (List ℕ × ℕ) Refusal
-given r = result_map_both (λ w. (map (λ c. c.revision) w.changes, w.stands)) (λ f. f) r
+given r = result_map_both (λ w. (map (λ c. c.revision) w.events, w.stands)) (λ f. f) r
 
 -- lists at single revisions, down to the floor and no further; one that need not be so new is the present one
 abbrev pub ListsAreAnswered : Type 0

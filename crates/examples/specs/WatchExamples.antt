@@ -87,15 +87,15 @@ ErrorsAreSaid =
 abbrev pub FramesAreRead : Type 0
 FramesAreRead =
     reading (codes "{\"type\":\"ADDED\", \"n\":1, \"object\":{\"k\":\"v\"}}\n{\"ty")
-    ≡ record { events = record { kind = Added; object = object (member (codes "k") (string (codes "v")) no_members) } ∷ []; existing = codes "{\"ty"; fault = None }
+    ≡ record { events = record { kind = Added; object = object (member (codes "k") (string (codes "v")) no_members) } ∷ []; buffered = codes "{\"ty"; fault = None }
 
 -- an empty line, another type, and an object that is none are no frames, and end what is read
 abbrev pub OthersAreRefused : Type 0
 OthersAreRefused =
-    (reading (codes "\n{\"object\":{},\"type\":\"ERROR\"}\n") ≡ record { events = []; existing = []; fault = Some NotAFrame })
-    × (reading (codes "{\"object\":{},\"type\":\"added\"}\n") ≡ record { events = []; existing = []; fault = Some NotAFrame })
+    (reading (codes "\n{\"object\":{},\"type\":\"ERROR\"}\n") ≡ record { events = []; buffered = []; fault = Some NotAFrame })
+    × (reading (codes "{\"object\":{},\"type\":\"added\"}\n") ≡ record { events = []; buffered = []; fault = Some NotAFrame })
     × (reading (codes "{\"object\":{},\"type\":\"ERROR\"}\n{\"object\":[],\"type\":\"ERROR\"}\n{}")
-    ≡ record { events = record { kind = Error; object = object no_members } ∷ []; existing = []; fault = Some NotAFrame })
+    ≡ record { events = record { kind = Error; object = object no_members } ∷ []; buffered = []; fault = Some NotAFrame })
 
 abbrev create_a : List ℕ
 create_a = codes "POST /api/v1/namespaces/default/configmaps {\"metadata\":{\"name\":\"a\"},\"data\":{\"k\":\"v\"}}\n"

@@ -54,7 +54,7 @@ module _ (es : List Event) (bytes rest : List ℕ) (so_far : onto es (reading re
   pub reads_frame : (n : ℕ) (line rest' : List ℕ) (e : Event) → (n < length rest) × IsPartial (take n rest) × (rest ≡ take n rest ++ 10 ∷ drop (n + 1) rest) → line ≡ take n rest → Ok e ≡ line_read line → rest' ≡ drop (n + 1) rest
       → onto (es ++ e ∷ []) (reading rest') ≡ reading bytes
   reads_frame n line rest' e h l r t =
-      ap (λ fs. record { events = fs; held = (reading rest').held; fault = (reading rest').fault }) (append_assoc es (e ∷ []) (reading rest').events)
+      ap (λ fs. record { events = fs; buffered = (reading rest').buffered; fault = (reading rest').fault }) (append_assoc es (e ∷ []) (reading rest').events)
       ∙ ap (λ z. onto es (onto (e ∷ []) (reading z))) t ∙ ap (λ o. onto es (next o (reading (drop (n + 1) rest)))) (r ∙ ap line_read l)
       ∙ ap (onto es) (sym (reading-line (take n rest) (drop (n + 1) rest) h.1) ∙ ap reading (sym h.2)) ∙ so_far
 

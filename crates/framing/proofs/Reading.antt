@@ -34,12 +34,12 @@ too_long q c h k = rw (lines_before q c h, rest_before q c h) (too_long_at q (li
 abbrev flat : List (List ℕ) → List ℕ
 flat ps = flat_map (λ p. p) ps
 
-ended : (f : FrameFault) (ps : List (List ℕ)) → all_fed (record { held = []; fault = Some f }) ps ≡ failed f
+ended : (f : FrameFault) (ps : List (List ℕ)) → all_fed (record { buffered = []; fault = Some f }) ps ≡ failed f
 ended f [] = refl
 ended f (p ∷ ps) = ended f ps
 
 abbrev Goes : List (List ℕ) → Type 0
-Goes ps = (r : List ℕ) → IsPartial r → length r < longest_frame → all_fed (record { held = r; fault = None }) ps ≡ reading (r ++ flat ps)
+Goes ps = (r : List ℕ) → IsPartial r → length r < longest_frame → all_fed (record { buffered = r; fault = None }) ps ≡ reading (r ++ flat ps)
 
 limited_more : (ps : List (List ℕ)) → Goes ps → (q : List ℕ) (b : Bool) → IsPartial q → nat_lt (length q) longest_frame ≡ b
     → (let r = cond b (holding q) (failed TooLong) in onto r.events (all_fed (left r) ps)) ≡ reading (q ++ flat ps)

@@ -12,7 +12,7 @@ abbrev pub LinesAreWhole : Type 0
 LinesAreWhole =
     (bytes : List ℕ) → Splits bytes (lines bytes) (rest bytes) × ((ls : List (List ℕ)) (left : List ℕ) → Splits bytes ls left → (ls ≡ lines bytes) × (left ≡ rest bytes))
 
--- however the bytes are cut into pieces, all that is given and all that is held is what they say at once
+-- however the bytes are cut into pieces, all that is given and all that is buffered is what they say at once
 abbrev pub NoCuttingMatters : Type 0
 NoCuttingMatters = (pieces : List (List ℕ)) → all_fed opened pieces ≡ reading (flat_map (λ p. p) pieces)
 

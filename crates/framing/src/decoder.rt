@@ -12,7 +12,7 @@ use std::marker::Model;
 /// What has come of a stream of frames: the bytes of a line that is not whole yet, or the fault that ended the stream.
 #[derive(Drop)]
 pub struct Decoder {
-    held: Vec<u8>,
+    buffered: Vec<u8>,
     fault: Option<FrameFault>,
 }
 
@@ -24,9 +24,9 @@ impl Model for Decoder {
 
     ghost coded = { coded_held };
 
-    ghost view = { λ d. record { held = d.held.items; fault = d.fault } };
+    ghost view = { λ d. record { buffered = d.buffered.items; fault = d.fault } };
 
-    ghost invariant = { λ d. IsPartial d.held.items };
+    ghost invariant = { λ d. IsPartial d.buffered.items };
 }
 
 /// The whole frames that came, in order, and the fault that is final, if there is one.
@@ -42,7 +42,7 @@ impl Decoder {
         ensures { result ≡ opened }
     {
         Decoder {
-            held: Vec::new(alloc),
+            buffered: Vec::new(alloc),
             fault: None,
         }
     }
@@ -57,17 +57,17 @@ impl Decoder {
         ensures ended { IsSome self.old.fault → IsOk result }
     {
         if let Some(fault) = self.fault {
-            self.held.clear();
+            self.buffered.clear();
             return Ok(Decoded {
                 frames: Vec::new(alloc),
                 fault: Some(fault),
             });
         }
-        let known = self.held.len();
-        self.held.extend_from_slice(piece)?;
-        match read_lines(alloc, self.held.as_slice(), known) {
+        let known = self.buffered.len();
+        self.buffered.extend_from_slice(piece)?;
+        match read_lines(alloc, self.buffered.as_slice(), known) {
             Ok(lines) => {
-                keep_last(&mut self.held, lines.kept);
+                keep_last(&mut self.buffered, lines.kept);
                 self.fault = lines.fault;
                 Ok(Decoded {
                     frames: lines.frames,
@@ -75,7 +75,7 @@ impl Decoder {
                 })
             }
             Err(want) => {
-                self.held.truncate(known);
+                self.buffered.truncate(known);
                 Err(want)
             }
         }

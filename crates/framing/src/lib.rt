@@ -9,8 +9,8 @@ pub mod scan;
 pub mod texts;
 pub mod wants;
 
-pub use decoder::{Decoded, Decoder};
 pub use controllers::frame_fault::FrameFault;
+pub use decoder::{Decoded, Decoder};
 use definitions::frames::FrameKind;
 pub use frames::Frame;
 pub use texts::{added_text, bookmark_text, error_text, frame_text};

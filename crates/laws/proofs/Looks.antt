@@ -119,9 +119,9 @@ looks_ask_for_any_number size h v a n = (
   λ w is.
       let given = given_stands size h v a n w is in
       let cs = events h v a (present h) in (
-        subst (λ z. length z.changes ≤ n) given.2 (no_more n cs),
+        subst (λ z. length z.events ≤ n) given.2 (no_more n cs),
         lines_stream h v a w given.3,
-        subst (λ z. length z.changes < n → z.stands ≡ present h) given.2 (few_stand (present h) a n cs),
+        subst (λ z. length z.events < n → z.stands ≡ present h) given.2 (few_stand (present h) a n cs),
       ),
 )
 

@@ -7,7 +7,8 @@ use Rattle.serde_json.specs.Data.{Data, null, boolean, number, string, array, ob
 use Rattle.serde_json.specs.Find.{as_object}
 use Rattle.serde_json.specs.Written.{compact_text, has_float}
 use Rattle.definitions.specs.declared.kinds.Kind.{Kind}
-
+use Rattle.definitions.specs.declared.schemas.Shape.TheVariants.{Object}
+use Rattle.definitions.specs.declared.schemas.Schema.TheVariants.{Root}
 use Rattle.definitions.specs.Kinds.{rank}
 use Rattle.definitions.specs.Events.{Event, event_of, changes_after, gone_at}
 use Rattle.definitions.specs.History.{Write, writes, present, up_to, last_of, in_view, seen}

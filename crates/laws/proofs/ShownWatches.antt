@@ -38,8 +38,8 @@ lines_told : (bookmarks : Bool) (size : ℕ) (h : History) (v : View) (a : ℕ) 
 lines_told true size h v a w is = subst (λ b. IsStream h v a b (lines_from a w)) (all_stand size h v a w is) (lines_stream h v a w (given_stands size h v a (present h) w is).3)
 lines_told false size h v a w is =
     let s = (given_stands size h v a (present h) w is).3 in
-    let same : events h v a (present h) ≡ w.changes = ap (λ b. events h v a b) (sym (all_stand size h v a w is)) ∙ s.3 in
-    subst (λ cs. Goes a (present h) cs (map event w.changes)) (sym same) (goes_alone a (present h) w.changes)
+    let same : events h v a (present h) ≡ w.events = ap (λ b. events h v a b) (sym (all_stand size h v a w is)) ∙ s.3 in
+    subst (λ cs. Goes a (present h) cs (map event w.events)) (sym same) (goes_alone a (present h) w.events)
 
 shown_at : (r : Result Watched Refusal) (bookmarks : Bool) (size : ℕ) (h : History) (v : View) (a : ℕ) (ls : List Line) → watched_from size h v a (present h) ≡ r
     → result_map_both (told_lines bookmarks a) (λ f. f) r ≡ Ok ls → (a ≤ present h) × IsStream h v a (present h) ls

@@ -65,7 +65,7 @@ first_changes h v a n le =
 
 -- what is given are all changes up to where the watch stands
 abbrev pub Stands : History → View → ℕ → Watched → Type 0
-Stands h v a w = (a ≤ w.stands) × (w.stands ≤ present h) × (last_change a w.changes ≤ w.stands) × (events h v a w.stands ≡ w.changes)
+Stands h v a w = (a ≤ w.stands) × (w.stands ≤ present h) × (last_change a w.events ≤ w.stands) × (events h v a w.stands ≡ w.events)
 
 stands_at : (b : Bool) (h : History) (v : View) (a n : ℕ) → a ≤ present h → nat_le (length (events h v a (present h))) n ≡ b
     → Stands h v a (record { events = take n (events h v a (present h)); stands = cond b (present h) (last_change a (take n (events h v a (present h)))) })
@@ -108,7 +108,7 @@ lines_go (c ∷ cs) a b ls g = (refl, lines_go cs c.revision b ls g)
 pub lines_stream : (h : History) (v : View) (a : ℕ) (w : Watched) → Stands h v a w → IsStream h v a w.stands (lines_from a w)
 lines_stream h v a w s =
     subst (λ cs. Goes a w.stands cs (lines_from a w)) (sym s.3)
-    (lines_go w.changes a w.stands (cond (nat_lt (last_change a w.changes) w.stands) (bookmark w.stands ∷ []) []) (bookmark_goes (nat_lt (last_change a w.changes) w.stands) (last_change a w.changes) w.stands refl))
+    (lines_go w.events a w.stands (cond (nat_lt (last_change a w.events) w.stands) (bookmark w.stands ∷ []) []) (bookmark_goes (nat_lt (last_change a w.events) w.stands) (last_change a w.events) w.stands refl))
 
 -- a watch that is given something stands
 pub given_stands : (size : ℕ) (h : History) (v : View) (a n : ℕ) (w : Watched) → watched_from size h v a n ≡ Ok w
@@ -123,7 +123,7 @@ watches_stand size h v a n w is =
     let given = given_stands size h v a n w is in
     let s = given.3 in
     let stream = lines_stream h v a w s in (
-      rw (le-ltb a (floor v.kind size h) given.0, le-ltb (present h) a given.1) (ap (λ z. Ok z.changes) given.2),
+      rw (le-ltb a (floor v.kind size h) given.0, le-ltb (present h) a given.1) (ap (λ z. Ok z.events) given.2),
       s.0,
       s.1,
       stream,

@@ -51,7 +51,7 @@ LooksAskForAnyNumber =
     (size : ℕ) (h : History) (v : View) (a n : ℕ)
     → (IsOk (watched_from size h v a n) ↔ ((floor v.kind size h ≤ a) × (a ≤ present h)))
     × ((w : Watched) → watched_from size h v a n ≡ Ok w
-    → (length w.changes ≤ n) × IsStream h v a w.stands (lines_from a w) × (length w.changes < n → w.stands ≡ present h))
+    → (length w.events ≤ n) × IsStream h v a w.stands (lines_from a w) × (length w.events < n → w.stands ≡ present h))
 
 -- a watch from no revision, or from 0, is shown the list as it is at present: each of its objects in order as added, and these alone
 abbrev pub WatchesBeginWithTheList : Type 0

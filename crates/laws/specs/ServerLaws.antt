@@ -63,19 +63,19 @@ ServersWatch = (size : ℕ) (s : Server) (h : History) (v : View) (a n : ℕ) �
 abbrev pub WatchesStand : Type 0
 WatchesStand =
     (size : ℕ) (h : History) (v : View) (a n : ℕ) (w : Watched) → watched_from size h v a n ≡ Ok w
-    → (since size h v a n ≡ Ok w.changes)
+    → (since size h v a n ≡ Ok w.events)
     × (a ≤ w.stands)
     × (w.stands ≤ present h)
     × IsStream h v a w.stands (lines_from a w)
-    × (applied (list h v a) w.changes ≡ list h v w.stands)
+    × (applied (list h v a) w.events ≡ list h v w.stands)
     × (applied_lines (list h v a) (lines_from a w) ≡ list h v w.stands)
-    × (events h v a (present h) ≡ w.changes ++ events h v w.stands (present h))
+    × (events h v a (present h) ≡ w.events ++ events h v w.stands (present h))
 
 -- whatever happens after it, the changes from a are what it was given and then those from where it stands
 abbrev pub WatchesGoOn : Type 0
 WatchesGoOn =
     (size : ℕ) (h more : History) (v : View) (a n b : ℕ) (w : Watched) → watched_from size h v a n ≡ Ok w → w.stands ≤ b
-    → events (h ++ more) v a b ≡ w.changes ++ events (h ++ more) v w.stands b
+    → events (h ++ more) v a b ≡ w.events ++ events (h ++ more) v w.stands b
 
 -- a list at a revision is answered from the floor up to the present one, one that is not older up to the present one, and the newest always
 abbrev pub ListsAreServed : Type 0

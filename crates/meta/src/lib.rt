@@ -5,7 +5,6 @@ pub mod drafts;
 pub mod faults;
 pub mod finalizers;
 pub(crate) mod items;
-pub(crate) mod stored_texts;
 pub mod keys;
 pub(crate) mod labels;
 pub mod lent_members;
@@ -18,6 +17,7 @@ pub(crate) mod pieces;
 pub mod reading;
 pub mod schemas;
 pub mod stored;
+pub(crate) mod stored_texts;
 pub mod values;
 pub mod writes;
 

@@ -38,7 +38,12 @@ impl Object {
 
     /// Returns the object with the member `name` as `held` has it, or without it where `held` has none. The error is running
     /// out of memory.
-    pub fn keep_member(self, alloc: Global, name: &str, existing: &Object) -> Result<Object, AllocError>
+    pub fn keep_member(
+        self,
+        alloc: Global,
+        name: &str,
+        existing: &Object,
+    ) -> Result<Object, AllocError>
         ensures value { IfOk result (λ o. o.value
             ≡ object (as_held name.now (get_member name.now (members_of existing.now.value)) (members_of self.value))) }
         ensures kind { IfOk result (λ o. o.kind ≡ self.kind) }

@@ -6,8 +6,8 @@ ghost use Rattle.serde_json.specs.Written.{has_float, compact_text, IsInOrder};
 ghost use Rattle.definitions.specs.Metadata.{label};
 ghost use Rattle.definitions.specs.Verbs.{as_item};
 
-use crate::stored_texts::StoredTexts;
 use crate::objects::Object;
+use crate::stored_texts::StoredTexts;
 use definitions::kinds::Kind;
 use std::alloc::{AllocError, Global};
 use std::marker::Model;

@@ -5,7 +5,7 @@ use Rattle.std.proofs.KnownBytes.{Consumes-nil, Consumes-trans}
 use Rattle.httparse.specs.declared.spans.HeaderSpan.{HeaderSpan}
 use Rattle.httparse.specs.declared.spans.RequestSpans.{RequestSpans}
 use Rattle.httparse.specs.Spans.{IsRequestAt}
-use Rattle.httparse.specs.Grammar.{RequestHead, ReadsRequest, HasNoRequest, print_request, print_blank}
+use Rattle.httparse.specs.Grammar.{RequestHead, ReadsRequest, HasNoRequest, print_blank, print_version, print_end, print_section}
 use Rattle.httparse.proofs.GrammarLemmas.{request_unique, ReadsRequest-append, print_request-append}
 use Rattle.definitions.specs.Refusals.{Refusal}
 use Rattle.definitions.specs.Targets.{Asked}
@@ -51,8 +51,8 @@ front_is_short h (Ok o) follows more bytes front back is reads (inr fits) short 
 no_more : (h : RequestHead) (follows more bytes : List ℕ) (after : Option (List ℕ)) (result : Result Received ReadFault)
     → ReadsRequest (bytes ++ more) h (follows ++ more) → IsOfBody (checked (head_of h)) follows more → length bytes ≤ longest_head
     → TellsWith (checked (head_of h)) (follows ++ more) after result → ReadsNoMore (bytes ++ more) result
-no_more h follows more bytes after (Ok r) reads fits short tells front back = front_is_short h (checked (head_of h)) follows more bytes front back refl reads fits short
-no_more h follows more bytes after (Err fault.Want) reads fits short tells front back = front_is_short h (checked (head_of h)) follows more bytes front back refl reads fits short
+no_more h follows more bytes after (Ok r) reads fits short tells = λ front back. front_is_short h (checked (head_of h)) follows more bytes front back refl reads fits short
+no_more h follows more bytes after (Err fault.Want) reads fits short tells = λ front back. front_is_short h (checked (head_of h)) follows more bytes front back refl reads fits short
 no_more h follows more bytes after (Err fault.Device) reads fits short tells =
     (λ whole. not_asked (asked_after (checked (head_of h)) (follows ++ more)) tells (is_whole (bytes ++ more) (follows ++ more) h reads whole),
       λ front back. front_is_short h (checked (head_of h)) follows more bytes front back refl reads fits short)
@@ -74,10 +74,13 @@ pub nothing_needs : (before mid : Option (List ℕ)) (bytes : List ℕ) (r : Rec
 nothing_needs before mid bytes r reads short = (bytes, subst (Consumes before mid) (sym reads.1) reads.2, short_needed bytes short)
 
 -- nothing is no request
+no_method : (a b c : List ℕ) → 0 < length b → [] ≡ a ++ (b ++ c) → ⊥
+no_method a b c some e = absurd (omega (arith, some, ap length e, length-append a (b ++ c), length-append b c))
+
 no_request : HasNoRequest []
 no_request h rest (ok, e) =
-    let text = e ∙ print_request-append h rest in
-    absurd (omega (arith, ok.method.0, ap length text, length-append (print_blank h.blank) _, length-append h.method _))
+    let after = h.target ++ 32 ∷ (print_version h.minor ++ (print_end h.line_end ++ (print_section h.fields h.last ++ rest))) in
+    no_method (print_blank h.blank) h.method (32 ∷ after) ok.method.0 (e ∙ print_request-append h rest)
 
 none_is_whole : (bytes : List ℕ) → HasNoRequest bytes → IsWhole bytes → ⊥
 none_is_whole bytes none (h, rest, reads, whole) = none h rest reads

@@ -1,5 +1,6 @@
 -- What is said of a head and of its body.
 use Rattle.std.proofs.Common.{◌≡◌, ◌<◌, ◌≤◌, ℕ, List, [], ◌++◌, take, drop, length, Option, Some, None, Result, Ok, Err, Vec, inl, inr, refl, sym, ap, ◌∙◌, subst, arith, append-nil}
+use Rattle.std.specs.Result.{IsErrAnd}
 use Rattle.std.specs.Io.KnownBytes.{Consumes}
 use Rattle.std.proofs.KnownBytes.{Consumes-nil}
 use Rattle.definitions.specs.Refusals.{Refusal}
@@ -31,7 +32,7 @@ no_device e = cc
 
 says_tells : (o : Opening) (follows more : List ℕ) (before after : Option (List ℕ)) (result : Result Received ReadFault) → Consumes before after more → IsOfBody (Ok o) follows more
     → Says o (follows ++ more) result → Tells (Ok o) follows before after result
-says_tells o follows more before after (Ok r) consumes fits says = (more, consumes, fits, says.0, λ none. absurd (says.1 none))
+says_tells o follows more before after (Ok r) consumes fits says = (more, consumes, fits, (says.0, λ none. absurd (says.1 none)))
 says_tells o follows more before after (Err read.Want) consumes fits says = (more, consumes, fits, tt)
 says_tells o follows more before after (Err read.Device) consumes fits says = absurd (no_device says)
 
@@ -43,12 +44,12 @@ body_tells o follows before result says =
 -- or after it
 pub read_tells : {Z : Type 0} → (o : Opening) (follows text : List ℕ) (body : Vec ℕ Z) (before after : Option (List ℕ)) (result : Result Received ReadFault)
     → ReadsBody follows o.body_length before after (Ok (Some body)) → text ≡ body.items → Says o text result → Tells (Ok o) follows before after result
-read_tells o follows text body before after result (more, consumes, is, long) same says =
+read_tells o follows text body before after result (more, consumes, (is, long)) same says =
     says_tells o follows more before after result consumes (inr (omega (arith, long, ap length is))) (subst (λ b. Says o b result) (same ∙ is) says)
 
 pub ended_tells : {Z : Type 0} → (o : Opening) (follows : List ℕ) (before after : Option (List ℕ)) (body : Result (Option (Vec ℕ Z)) ReadFault)
     → body ≡ Ok None → ReadsBody follows o.body_length before after body → Tells (Ok o) follows before after (Ok received.Ended)
-ended_tells o follows before after (Ok None) is (more, consumes, short, end) = (more, consumes, inr (omega (arith, short)), short_body o (follows ++ more) short, λ none. end)
+ended_tells o follows before after (Ok None) is (more, consumes, (short, end)) = (more, consumes, inr (omega (arith, short)), (short_body o (follows ++ more) short, λ none. end))
 ended_tells o follows before after (Ok (Some b)) is reads = absurd (cc)
 ended_tells o follows before after (Err f) is reads = absurd (cc)
 
@@ -66,13 +67,17 @@ pub refused_tells : (c : Result Opening Refusal) (follows : List ℕ) (before : 
 refused_tells c follows before e (Ok r) (inl none) refuses = absurd (refuses.1 none)
 refused_tells c follows before e (Ok r) (inr is) refuses =
     subst (λ x. Tells c follows before before (Ok x)) (sym refuses.0)
-    (subst (λ x. Tells x follows before before (Ok (received.Refused e))) (sym is) ([], Consumes-nil before, refl, refl, λ none. absurd (cc)))
+    (subst (λ x. Tells x follows before before (Ok (received.Refused e))) (sym is) ([], Consumes-nil before, refl, (refl, λ none. absurd (cc))))
 refused_tells c follows before e (Err f) opens refuses =
     subst (λ x. Tells c follows before before (Err x)) (sym refuses.1) ([], Consumes-nil before, nothing_of_body c follows, tt)
 
 -- out of memory before anything is read
 pub want_tells : (c : Result Opening Refusal) (follows : List ℕ) (before : Option (List ℕ)) → Tells c follows before before (Err read.Want)
 want_tells c follows before = ([], Consumes-nil before, nothing_of_body c follows, tt)
+
+pub result_tells : (c : Result Opening Refusal) (follows : List ℕ) (before : Option (List ℕ)) (result : Result Received ReadFault) → IsErrAnd result (λ f. f ≡ read.Want) → Tells c follows before before result
+result_tells c follows before (Ok r) is = absurd is
+result_tells c follows before (Err f) is = subst (λ f. Tells c follows before before (Err f)) (sym is) (want_tells c follows before)
 
 -- what is asked with a body
 pub says : (o : Opening) (bytes body : List ℕ) (a : Result Asked Fault) (result : Result Received ReadFault) → o.body_length ≤ length bytes → body ≡ take o.body_length bytes

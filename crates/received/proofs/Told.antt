@@ -1,5 +1,5 @@
 -- What is asked by what was read, and by what follows it.
-use Rattle.std.proofs.Common.{◌≡◌, ◌<◌, ◌≤◌, ℕ, List, [], ◌++◌, take, drop, length, Bool, true, false, cond, nat_lt, Option, Some, None, Result, Ok, Err, inl, inr, refl, sym, ap, ◌∙◌, subst, arith, append_assoc, append-nil, length-append}
+use Rattle.std.proofs.Common.{◌≡◌, ◌<◌, ◌≤◌, ℕ, List, [], ◌++◌, take, drop, length, Bool, true, false, cond, nat_lt, Option, Some, None, Result, Ok, Err, IfOk, inl, inr, refl, sym, ap, ◌∙◌, subst, arith, append_assoc, append-nil, length-append}
 use Rattle.std.proofs.lemmas.Bool.{le-ltb, ltb-false, ltb-true, lt-ltb}
 use Rattle.std.proofs.lemmas.List.{take-append-le}
 use Rattle.std.specs.Io.KnownBytes.{Consumes, IsAtEnd}
@@ -14,6 +14,7 @@ use Rattle.connections.specs.Checks.{Opening, checked}
 use Rattle.connections.specs.Connections.{asked_with_body, asked_after, Asks}
 use Rattle.request_heads.proofs.Wholes.{found_asks}
 use Rattle.request_heads.specs.Reading.{IsFound, Reads}
+use Rattle.request_heads.specs.declared.fault.ReadFault.{ReadFault}
 use Rattle.request_heads.specs.declared.found.Found.{Found}
 use Rattle.request_heads.specs.declared.found.Found.TheVariants as found
 use Rattle.received.specs.declared.received.Received.{Received}
@@ -52,7 +53,7 @@ known_asks (Some input) (Some left) bytes r reads asks =
 
 told : (c : Result Opening Refusal) (rest left : List ℕ) (after : Option (List ℕ)) (r : Received) → Tells c rest (Some left) after (Ok r) → asked_after c (rest ++ left) ≡ said r
 told c rest left None r tells = absurd tells.1
-told c rest left (Some last) r (more, consumes, fits, says, ends) =
+told c rest left (Some last) r (more, consumes, fits, (says, ends)) =
     let whole : rest ++ left ≡ (rest ++ more) ++ last = ap (λ m. rest ++ m) consumes ∙ sym (append_assoc rest more last) in
     ap (asked_after c) whole ∙ stays c (rest ++ more) last (said r) says ends
 
@@ -66,6 +67,17 @@ head_asks before mid after bytes fields spans r reads is tells =
     (λ left here.
       subst (Asks (bytes ++ left)) (told (checked (head_of h)) (drop spans.len bytes) left after r (subst (λ m. Tells (checked (head_of h)) (drop spans.len bytes) m after (Ok r)) here (tells h at)))
       (found_asks bytes fields (found.Whole spans) left is h at))
+
+-- what is asked with a head that was found, if anything is
+pub whole_asks : (before mid after : Option (List ℕ)) (bytes : List ℕ) (fields : List HeaderSpan) (spans : RequestSpans) (result : Result Received ReadFault)
+    → Reads before mid [] bytes → IsFound bytes fields (found.Whole spans)
+    → ((h : RequestHead) → IsRequestAt bytes fields spans h → Tells (checked (head_of h)) (drop spans.len bytes) mid after result) → IfOk result (λ r. AsksKnown before r)
+whole_asks before mid after bytes fields spans (Ok r) reads is tells = head_asks before mid after bytes fields spans r reads is tells
+whole_asks before mid after bytes fields spans (Err f) reads is tells = tt
+
+-- what was read onto nothing, and then lent
+pub from_first : (before mid : Option (List ℕ)) (old bytes lent : List ℕ) → old ≡ [] → lent ≡ bytes → Reads before mid old bytes → Reads before mid [] lent
+from_first before mid old bytes lent nothing same reads = subst (λ o. Reads before mid o lent) nothing (subst (Reads before mid old) (sym same) reads)
 
 pub cut_asks : (before mid : Option (List ℕ)) (bytes : List ℕ) (fields : List HeaderSpan) → Reads before mid [] bytes → IsFound bytes fields found.Cut → IsAtEnd mid
     → AsksKnown before received.Ended

@@ -8,7 +8,7 @@ ghost use Rattle.chunked.specs.Devices.{device_of, has_failed};
 ghost use Rattle.meta.specs.declared.faults.Fault.TheVariants.{NoMemory};
 ghost use Rattle.request_heads.specs.Reading.{IsFound, IsWatched};
 ghost use Rattle.request_heads.specs.declared.fault.ReadFault.TheVariants as fault;
-ghost use Rattle.request_heads.specs.declared.found.Found.TheVariants as found;
+ghost use Rattle.request_heads.specs.declared.found.Found.TheVariants.{Whole};
 ghost use Rattle.head_checks.specs.Openings.{opening_seen};
 ghost use Rattle.received.specs.declared.received.Received.TheVariants as received;
 ghost use Rattle.received.specs.Receiving.{AsksKnown, Needs, Tells, Says};
@@ -64,7 +64,7 @@ fn after_head<R: Read + Drop>(
     fields: &[HeaderSpan],
 ) -> Result<Received, ReadFault>
     requires sound { has_failed reader.old ≡ false }
-    requires found { IsFound bytes.now fields.now (found.Whole found) }
+    requires found { IsFound bytes.now fields.now (Whole found) }
     ensures tells { (h : grammar.RequestHead) → IsRequestAt bytes.now fields.now found h
         → Tells (checked (head_of h)) (drop found.len bytes.now) (R.remaining (device_of reader.old)) (R.remaining (device_of reader.new)) result }
     ensures memory { IfOk result (λ r. r ≡ received.Refused NoMemory → ⊥) }
@@ -101,7 +101,7 @@ fn after_opening<R: Read + Drop>(
 
 /// Returns what is asked by a head whose checks pass, with the body that these bytes begin with.
 fn with_body(alloc: Global, opening: Opening<'_>, bytes: &[u8]) -> Result<Received, ReadFault>
-    requires whole { opening.entry.body_length ≤ length bytes.now }
+    requires whole { opening.body_length ≤ length bytes.now }
     ensures says { Says (opening_seen opening.entry) bytes.now result }
     ensures memory { IfOk result (λ r. r ≡ received.Refused NoMemory → ⊥) }
 {

@@ -14,11 +14,11 @@ use Rattle.reflector.proofs.Runs.{after_deltas}
 
 -- ---- reading
 
-pub reading_twice : (x q : List ℕ) → reading (x ++ q) ≡ onto (reading x).events (fed_after (reading x).fault ((reading x).held ++ q))
+pub reading_twice : (x q : List ℕ) → reading (x ++ q) ≡ onto (reading x).events (fed_after (reading x).fault ((reading x).buffered ++ q))
 reading_twice x q =
-    let r = fed_after (reading x).fault ((reading x).held ++ q) in
+    let r = fed_after (reading x).fault ((reading x).buffered ++ q) in
     ap (λ z. reading (x ++ z)) (sym (append-nil q)) ∙ sym (no_cutting (x ∷ q ∷ []))
-    ∙ ap (λ es. onto (reading x).events (record { events = es; held = r.held; fault = r.fault })) (append-nil r.events)
+    ∙ ap (λ es. onto (reading x).events (record { events = es; buffered = r.buffered; fault = r.fault })) (append-nil r.events)
 
 -- ---- runs
 
@@ -43,16 +43,16 @@ run_on k (e ∷ es) fs last = step_on k last es fs (step k last e) (λ r. run_on
 -- ---- two pieces
 
 abbrev pub at_revision : Kind → ℕ → Phase → List ℕ → Reflector
-at_revision k r p held = record { kind = k; revision = r; phase = p; held = held }
+at_revision k r p buffered = record { kind = k; revision = r; phase = p; buffered = buffered }
 
 -- what was read first, and what is read then
-parts : (k : Kind) (r : ℕ) (h : List ℕ) (ended : Option End) (fault : Option FrameFault) (ds : List Delta) (last : ℕ) (es : List Frame) (held q : List ℕ)
-    → (let t : Run = record { deltas = ds; revision = last; ended = ended } in let first : Read = record { events = es; held = held; fault = fault } in
-    let s = at_revision k r Watching h in let then = onto es (fed_after fault (held ++ q)) in
-    joined (ran t first s) (fed (ran t first s).after q) ≡ ran (run_then ended t (run k last (fed_after fault (held ++ q)).events)) then s)
-parts k r h (Some e) fault ds last es held q = ap (λ z. record { deltas = z; ended = Some e; after = at_revision k last Listing [] }) (append-nil ds)
-parts k r h None (Some f) ds last es held q = refl
-parts k r h None None ds last es held q = refl
+parts : (k : Kind) (r : ℕ) (h : List ℕ) (ended : Option End) (fault : Option FrameFault) (ds : List Delta) (last : ℕ) (es : List Frame) (buffered q : List ℕ)
+    → (let t : Run = record { deltas = ds; revision = last; ended = ended } in let first : Read = record { events = es; buffered = buffered; fault = fault } in
+    let s = at_revision k r Watching h in let then = onto es (fed_after fault (buffered ++ q)) in
+    joined (ran t first s) (fed (ran t first s).after q) ≡ ran (run_then ended t (run k last (fed_after fault (buffered ++ q)).events)) then s)
+parts k r h (Some e) fault ds last es buffered q = ap (λ z. record { deltas = z; ended = Some e; after = at_revision k last Listing [] }) (append-nil ds)
+parts k r h None (Some f) ds last es buffered q = refl
+parts k r h None None ds last es buffered q = refl
 
 fed_twice_at : (k : Kind) (r : ℕ) (phase : Phase) (h p q : List ℕ) → (let s = at_revision k r phase h in joined (fed s p) (fed (fed s p).after q) ≡ fed s (p ++ q))
 fed_twice_at k r Listing h p q = refl
@@ -60,13 +60,13 @@ fed_twice_at k r Watching h p q =
     let s = at_revision k r Watching h in
     let first = reading (h ++ p) in
     let t = run k r first.events in
-    let more = fed_after first.fault (first.held ++ q) in
-    parts k r h t.ended first.fault t.deltas t.revision first.events first.held q
+    let more = fed_after first.fault (first.buffered ++ q) in
+    parts k r h t.ended first.fault t.deltas t.revision first.events first.buffered q
     ∙ ap (λ u. ran u (onto first.events more) s) (sym (run_on k first.events more.events r))
     ∙ ap (λ z. watched z s) (sym (reading_twice (h ++ p) q)) ∙ ap (λ z. watched (reading z) s) (append_assoc h p q)
 
 pub fed_twice : (s : Reflector) (p q : List ℕ) → joined (fed s p) (fed (fed s p).after q) ≡ fed s (p ++ q)
-fed_twice s p q = fed_twice_at s.kind s.revision s.phase s.held p q
+fed_twice s p q = fed_twice_at s.kind s.revision s.phase s.buffered p q
 
 -- ---- any number of pieces
 
@@ -89,6 +89,6 @@ pub no_cutting_at : (k : Kind) (r : ℕ) (phase : Phase) (ps : List (List ℕ)) 
 no_cutting_at k r phase [] = none_fed k r phase
 no_cutting_at k r phase (p ∷ ps) = some_fed (at_revision k r phase []) p ps
 
-pub no_cutting_matters : (s : Reflector) (ps : List (List ℕ)) → s.held ≡ [] → all_fed s ps ≡ fed s (flat ps)
+pub no_cutting_matters : (s : Reflector) (ps : List (List ℕ)) → s.buffered ≡ [] → all_fed s ps ≡ fed s (flat ps)
 no_cutting_matters s ps h =
     ap (λ z. all_fed (at_revision s.kind s.revision s.phase z) ps) h ∙ no_cutting_at s.kind s.revision s.phase ps ∙ ap (λ z. fed (at_revision s.kind s.revision s.phase z) (flat ps)) (sym h)

@@ -22,9 +22,9 @@ read_back k [] more h = refl
 read_back k (l ∷ ls) more h =
     ap reading (append_assoc (frame_text (frame_of k l)) (text_of k ls) more) ∙ h.0 (text_of k ls ++ more) ∙ ap (onto (frame_of k l ∷ [])) (read_back k ls more h.1)
 
-all_back : (k : Kind) (ls : List Line) → AllByRecursion (IsReadBack k) ls → reading (text_of k ls) ≡ record { events = map (frame_of k) ls; held = []; fault = None }
+all_back : (k : Kind) (ls : List Line) → AllByRecursion (IsReadBack k) ls → reading (text_of k ls) ≡ record { events = map (frame_of k) ls; buffered = []; fault = None }
 all_back k ls h =
-    ap reading (sym (append-nil (text_of k ls))) ∙ read_back k ls [] h ∙ ap (λ es. record { events = es; held = []; fault = None }) (append-nil (map (frame_of k) ls))
+    ap reading (sym (append-nil (text_of k ls))) ∙ read_back k ls [] h ∙ ap (λ es. record { events = es; buffered = []; fault = None }) (append-nil (map (frame_of k) ls))
 
 -- what is wrong stays wrong
 no_fault : (f : Option FrameFault) (bytes : List ℕ) → (fed_after f bytes).fault ≡ None → f ≡ None
@@ -40,12 +40,12 @@ record Begins (es : List Frame) (bytes more : List ℕ) : Type 0 where
 begins : (k : Kind) (ls : List Line) (bytes more : List ℕ) → AllByRecursion (IsReadBack k) ls → bytes ++ more ≡ text_of k ls → Begins (map (frame_of k) ls) bytes more
 begins k ls bytes more h e =
     let first = reading bytes in
-    let all : onto first.events (fed_after first.fault (first.held ++ more)) ≡ record { events = map (frame_of k) ls; held = []; fault = None } =
+    let all : onto first.events (fed_after first.fault (first.buffered ++ more)) ≡ record { events = map (frame_of k) ls; buffered = []; fault = None } =
     sym (reading_twice bytes more) ∙ ap reading e ∙ all_back k ls h in
     record {
-      later = (fed_after first.fault (first.held ++ more)).events;
+      later = (fed_after first.fault (first.buffered ++ more)).events;
       events = ap (λ (r : Read). r.events) all;
-      fault = no_fault first.fault (first.held ++ more) (ap (λ (r : Read). r.fault) all);
+      fault = no_fault first.fault (first.buffered ++ more) (ap (λ (r : Read). r.fault) all);
     }
 
 -- what is taken in, where there was no fault
@@ -90,7 +90,7 @@ module _ (h : History) (a b : ℕ) (ls : List Line) where
   Whole k t = (pieces : List (List ℕ)) → IsSent h k a b ls → flat pieces ≡ text_of k ls → GoesOn h k a b (all_fed t pieces) × (play_deltas (list h (whole k) a) (all_fed t pieces).deltas ≡ list h (whole k) b)
 
   stands : (t : Reflector) → IsAt t a → at_revision t.kind a Watching [] ≡ t
-  stands t at = λ i. record { kind = t.kind; revision = sym at.revision i; phase = sym at.watches i; held = sym at.holds i }
+  stands t at = λ i. record { kind = t.kind; revision = sym at.revision i; phase = sym at.watches i; buffered = sym at.holds i }
 
   pub cut_streams : (t : Reflector) → IsAt t a → Cut t.kind t
   cut_streams t at = subst (Cut t.kind) (stands t at) (λ pieces more sent e. cut_followed h t.kind a b ls pieces sent more e)

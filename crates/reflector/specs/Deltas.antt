@@ -46,10 +46,10 @@ IsStep (Err e) r = Err e ≡ r
 abbrev pub RefusesList : Kind → List ℕ → ListFault → Type 0
 RefusesList k body e = (e ≡ fault.Want) ⊎ ((e ≡ fault.Unreadable) × (list_of k body ≡ None))
 
--- what was taken in of these bytes: their run, its end or that of the lines, and what is held then
+-- what was taken in of these bytes: their run, its end or that of the lines, and what is buffered then
 pub record IsTaken (t : Taken) (k : Kind) (last : ℕ) (bytes : List ℕ) : Type 0 where
   pub deltas : deltas_of t.deltas.items ≡ (run k last (reading bytes).events).deltas
   pub revision : t.revision ≡ (run k last (reading bytes).events).revision
   pub ended : t.end ≡ end_of (run k last (reading bytes).events).ended (reading bytes).fault
   pub phase : t.phase ≡ phase_after t.end
-  pub held : drop (length bytes - t.kept) bytes ≡ held_after t.end (reading bytes).held
+  pub buffered : drop (length bytes - t.kept) bytes ≡ held_after t.end (reading bytes).buffered

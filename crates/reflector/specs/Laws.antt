@@ -15,7 +15,7 @@ use Rattle.framing.specs.Texts.{ReadsAs, IsWithin}
 
 -- however the bytes of a watch are cut into pieces, what comes of them, and the reflector in the end, are the same
 abbrev pub NoCuttingMatters : Type 0
-NoCuttingMatters = (s : Reflector) (pieces : List (List ℕ)) → s.held ≡ [] → all_fed s pieces ≡ fed s (flat_map (λ p. p) pieces)
+NoCuttingMatters = (s : Reflector) (pieces : List (List ℕ)) → s.buffered ≡ [] → all_fed s pieces ≡ fed s (flat_map (λ p. p) pieces)
 
 -- the line is read back as what it shows, whatever follows
 abbrev pub IsReadBack : Kind → Line → Type 0
@@ -33,7 +33,7 @@ pub record IsSent (h : History) (k : Kind) (a b : ℕ) (ls : List Line) : Type 0
 pub record IsAt (s : Reflector) (a : ℕ) : Type 0 where
   pub watches : s.phase ≡ Watching
   pub revision : s.revision ≡ a
-  pub holds : s.held ≡ []
+  pub holds : s.buffered ≡ []
 
 -- it goes on to the revision that it names: the deltas make of the list at a the list there
 pub record GoesOn (h : History) (k : Kind) (a b : ℕ) (f : Fed) : Type 0 where
@@ -83,7 +83,7 @@ ServedStreamsAreFollowed =
     → GoesOn h s.kind a b (all_fed s pieces) × (play_deltas (list h (whole s.kind) a) (all_fed s pieces).deltas ≡ list h (whole s.kind) b)
 
 -- whoever asked a server: who takes in its list at a, and then whatever part of a watch from a has come, in whatever pieces,
--- holds the list at the revision named, whatever it held before
+-- holds the list at the revision named, whatever it buffered before
 abbrev pub ListsAndWatchesAreFollowed : Type 0
 ListsAndWatchesAreFollowed =
     (h : History) (a b : ℕ) (ls : List Line) (s : Reflector) (ms : Members) (body : List ℕ) (pieces : List (List ℕ)) (more : List ℕ)

@@ -8,8 +8,8 @@ ghost use Rattle.reflector.specs.Deltas.{shown_of, step_of, run_of, IsStep};
 
 use crate::deltas::Delta;
 use crate::shown::{Shown, key_of, revision, says, show};
-use definitions::frames::FrameKind;
 use controllers::reflectors::End;
+use definitions::frames::FrameKind;
 use framing::{Frame, Want};
 use meta::Kind;
 use serde_json::Value;

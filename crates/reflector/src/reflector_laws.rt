@@ -32,7 +32,7 @@ pub fn served_streams_are_followed()
 {}
 
 /// Whoever asked a server: who takes in its list, and then any part of its watch from there, in any pieces, holds the list
-/// at the revision that the reflector names, whatever it held before.
+/// at the revision that the reflector names, whatever it buffered before.
 pub fn lists_and_watches_are_followed()
     ensures { ListsAndWatchesAreFollowed }
 {}

@@ -18,7 +18,7 @@ pub struct Reflector {
     kind: Kind,
     revision: u64,
     phase: Phase,
-    held: Vec<u8>,
+    buffered: Vec<u8>,
 }
 
 impl Model for Reflector {
@@ -32,9 +32,9 @@ impl Model for Reflector {
 
     ghost coded = { coded_reflector };
 
-    ghost view = { λ s. record { kind = s.kind; revision = s.revision; phase = s.phase; held = s.held.items } };
+    ghost view = { λ s. record { kind = s.kind; revision = s.revision; phase = s.phase; buffered = s.buffered.items } };
 
-    ghost invariant = { λ s. IsPartial s.held.items × (length s.held.items < longest_frame) };
+    ghost invariant = { λ s. IsPartial s.buffered.items × (length s.buffered.items < longest_frame) };
 }
 
 impl Reflector {
@@ -52,7 +52,7 @@ impl Reflector {
             kind,
             revision: 0,
             phase: Phase::Listing,
-            held: Vec::new(alloc),
+            buffered: Vec::new(alloc),
         }
     }
 
@@ -98,7 +98,7 @@ impl Reflector {
         ensures end { IfOk result (λ f. f.end ≡ (fed self.old piece.now).ended) }
         ensures after { OnOk result (self.new ≡ (fed self.old piece.now).after) }
         ensures err { OnErr result (self.new ≡ self.old) }
-        ensures bounded { length self.new.held < longest_frame }
+        ensures bounded { length self.new.buffered < longest_frame }
     {
         match self.phase {
             Phase::Listing => Ok(Fed {
@@ -116,13 +116,19 @@ impl Reflector {
         ensures end { IfOk result (λ f. f.end ≡ (fed self.old piece.now).ended) }
         ensures after { OnOk result (self.new ≡ (fed self.old piece.now).after) }
         ensures err { OnErr result (self.new ≡ self.old) }
-        ensures bounded { length self.new.held < longest_frame }
+        ensures bounded { length self.new.buffered < longest_frame }
     {
-        let known = self.held.len();
-        self.held.extend_from_slice(piece)?;
-        match take_in(alloc, self.kind, self.revision, self.held.as_slice(), known) {
+        let known = self.buffered.len();
+        self.buffered.extend_from_slice(piece)?;
+        match take_in(
+            alloc,
+            self.kind,
+            self.revision,
+            self.buffered.as_slice(),
+            known,
+        ) {
             Ok(taken) => {
-                keep_last(&mut self.held, taken.kept);
+                keep_last(&mut self.buffered, taken.kept);
                 self.revision = taken.revision;
                 self.phase = taken.phase;
                 Ok(Fed {
@@ -131,7 +137,7 @@ impl Reflector {
                 })
             }
             Err(want) => {
-                self.held.truncate(known);
+                self.buffered.truncate(known);
                 Err(want)
             }
         }
@@ -152,11 +158,11 @@ impl Reflector {
         self.turn(Phase::Listing, self.revision);
     }
 
-    /// Goes on from a revision, with nothing held of a frame.
+    /// Goes on from a revision, with nothing buffered of a frame.
     fn turn(&mut self, phase: Phase, revision: u64)
         ensures { self.new ≡ turned phase revision self.old }
     {
-        self.held.clear();
+        self.buffered.clear();
         self.phase = phase;
         self.revision = revision;
     }

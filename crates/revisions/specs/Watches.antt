@@ -6,7 +6,7 @@ use Rattle.revisions.specs.Events.{event_seen}
 use Rattle.revisions.specs.declared.watched.Watched.{Watched}
 
 abbrev pub watched_of : Watched → versions.Watched
-watched_of w = record { changes = map event_seen w.events.items; stands = w.stands }
+watched_of w = record { events = map event_seen w.events.items; stands = w.stands }
 
 -- the bookmark that comes last, if any does
 abbrev pub last_bookmark : Option ℕ → List Line

@@ -32,7 +32,7 @@ pub fn last_revision(events: &[Event], after: u64) -> u64
 /// are shown and it stands above the last change.
 pub fn last_bookmark(bookmarks: bool, from: u64, watched: &Watched) -> Option<u64>
     ensures { told_lines bookmarks from (watched_of watched.now)
-        ≡ map change (watched_of watched.now).changes ++ last_bookmark result }
+        ≡ map change (watched_of watched.now).events ++ last_bookmark result }
 {
     if bookmarks && last_revision(&watched.events, from) < watched.stands {
         Some(watched.stands)

@@ -1,9 +1,10 @@
 -- What a view asks for after a place lies between the first key that it may ask for there and the first past them.
-use Rattle.std.proofs.Common.{◌≡◌, ◌<◌, ◌≤◌, nat_lt, ℕ, zero, suc, ◌==◌, ◌&&◌, not, Bool, true, false, cond, List, [], ◌∷◌, ◌++◌, Option, Some, None, IfSome, option_map, unwrap_or, nat_cmp, is_lt, is_eq, is_le, is_gt, Ordering, Less, Equal, Greater, refl, sym, ap, ◌∙◌, subst, arith}
+use Rattle.std.proofs.Common.{◌≡◌, ◌<◌, ◌≤◌, nat_lt, ℕ, zero, suc, ◌==◌, ◌&&◌, not, Bool, true, false, cond, List, [], ◌∷◌, ◌++◌, Option, Some, None, IfSome, option_map, unwrap_or, length, nat_cmp, is_lt, is_eq, is_le, is_gt, Ordering, Less, Equal, Greater, refl, sym, ap, ◌∙◌, subst, arith}
 use Rattle.std.proofs.lemmas.Cmp.{nat_cmp_total, nat_list_cmp_total, tied_itself, upto, on_total, then_total}
 use Rattle.std.proofs.lemmas.Map.Text.{is_eq-slice_cmp}
 use Rattle.std.proofs.lemmas.Slice.Eq.{bytes_eq-Decides}
 use Rattle.std.specs.List.{filter}
+use Rattle.std.proofs.Math.Dec.{eqb-suc-zero}
 use Rattle.std.proofs.lemmas.Bool.{ltb-true, ltb-false}
 use Rattle.std.specs.Cmp.{IsTotalOrder, nat_cmp_is}
 use Rattle.std.specs.Ordering.{ordering_then, ordering_reverse}
@@ -308,8 +309,16 @@ whole_view j o [] [] k d plain same is = all_four (rank j == rank k.kind) (in_na
     all_four true true p q = refl
     all_four true false p q = q
     all_four false b p q = p
-whole_view j o [] (f ∷ fs) k d plain same is = let not_so : true ≡ false = plain in cc
-whole_view j o (l ∷ ls) fs k d plain same is = let not_so : true ≡ false = plain in cc
+whole_view j o [] (f ∷ fs) k d plain same is = let not_so : true ≡ false = sym (selects (length {A = Requirement} [] == 0) (length (f ∷ fs) == 0) (eqb-suc-zero (length fs))) ∙ plain in cc
+  where
+    selects : (a b : Bool) → b ≡ false → not (a && b) ≡ true
+    selects true b e = ap not e
+    selects false b e = refl
+whole_view j o (l ∷ ls) fs k d plain same is = let not_so : true ≡ false = sym (lists (length (l ∷ ls) == 0) (length fs == 0) (eqb-suc-zero (length ls))) ∙ plain in cc
+  where
+    lists : (a b : Bool) → a ≡ false → not (a && b) ≡ true
+    lists true b e = cc
+    lists false b e = refl
 
 all-asked : (v : View) → is_selective v ≡ false → (k : Name) (d : Data) → is_le (name_cmp (first_asked v) k) ≡ true → IfSome (first_past v.kind v.namespace) (λ p. is_le (name_cmp p k) ≡ false) → in_view v k d ≡ true
 all-asked v plain k d from below =

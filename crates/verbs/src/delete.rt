@@ -56,7 +56,14 @@ fn delete_held(
         (decided key.kind (options_seen options.now) moment existing.value)) result }
 {
     match decide_delete(alloc, key.kind, &existing, options, moment) {
-        Ok(fate) => by_fate(alloc, key, kept_code(options.policy), existing, before, fate),
+        Ok(fate) => by_fate(
+            alloc,
+            key,
+            kept_code(options.policy),
+            existing,
+            before,
+            fate,
+        ),
         Err(DeleteFault::Mismatch(why)) => Err(Fault::Conflict(key, why)),
         Err(DeleteFault::NoMemory) => Err(Fault::NoMemory),
     }
@@ -137,7 +144,12 @@ fn remove(
 }
 
 /// Returns the text that answers a removal: of a Pod the Pod, at the revision of its removal, of the others that it is gone.
-fn removal_text(alloc: Global, key: &Key, existing: Object, before: u64) -> Result<String, AllocError>
+fn removal_text(
+    alloc: Global,
+    key: &Key,
+    existing: Object,
+    before: u64,
+) -> Result<String, AllocError>
     requires { before ≤ greatest_revision }
     ensures { IfOk result (λ t. string_bytes t
         ≡ compact_text (removal_of key.now.kind (key_of key.now) (before + 1) existing.value)) }

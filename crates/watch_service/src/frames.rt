@@ -43,7 +43,7 @@ pub(crate) fn push_look(
     bookmark: Option<u64>,
 ) -> Result<(), AllocError>
     ensures { OnOk result (text.new.items ≡ text.old.items
-        ++ frames_text kind (map event (watched_of watched.now).changes ++ last_bookmark bookmark)) }
+        ++ frames_text kind (map event (watched_of watched.now).events ++ last_bookmark bookmark)) }
 {
     push_changes(alloc, text, &watched.events)?;
     match bookmark {
@@ -55,7 +55,7 @@ pub(crate) fn push_look(
 /// Returns how many looks in a row have given no line, after one that gave these.
 pub(crate) fn idle_after(idle: u64, watched: &Watched, bookmark: Option<u64>) -> u64
     requires { idle < most_idle }
-    ensures { result ≡ idle_after idle (map event (watched_of watched.now).changes ++ last_bookmark bookmark) }
+    ensures { result ≡ idle_after idle (map event (watched_of watched.now).events ++ last_bookmark bookmark) }
 {
     if watched.events.is_empty() && bookmark.is_none() {
         idle + 1

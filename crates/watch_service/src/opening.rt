@@ -46,7 +46,7 @@ fn first_text(
     bookmark: Option<u64>,
 ) -> Result<Vec<u8>, AllocError>
     ensures { IfOk result (λ text. text.items
-        ≡ watch_head ++ frames_text kind (map event (watched_of watched.now).changes ++ last_bookmark bookmark)) }
+        ≡ watch_head ++ frames_text kind (map event (watched_of watched.now).events ++ last_bookmark bookmark)) }
 {
     let mut text = Vec::new(alloc);
     text.extend_from_slice(watch_head())?;

@@ -1,6 +1,6 @@
 //! Reflectors that are given bodies and frames from outside.
-use definitions::kinds::Kind;
 use controllers::reflectors::{Ask, End};
+use definitions::kinds::Kind;
 use reflector::deltas::{Delta, Fed};
 use reflector::faults::ListFault;
 use reflector::reflectors::Reflector;

@@ -36,7 +36,7 @@ list_for size h v at = listed_at (present h) (list h v (present h)) (list_within
 
 -- what a watch is given at a time: changes, and the revision up to which they are all that it asks for
 pub record Watched : Type 0 where
-  pub changes : List Event
+  pub events : List Event
   pub stands : ℕ
 
 -- the revision of the last of these changes, a if there is none
@@ -46,7 +46,7 @@ last_change a (c ∷ cs) = last_change c.revision cs
 
 -- the first n of these changes after a: where there is no other, the watch then stands at the present revision, else at that of the last one given
 abbrev pub watched : ℕ → ℕ → ℕ → List Event → Watched
-watched now a n cs = record { changes = take n cs; stands = if nat_le (length cs) n then now else last_change a (take n cs) }
+watched now a n cs = record { events = take n cs; stands = if nat_le (length cs) n then now else last_change a (take n cs) }
 
 -- the first n changes of the view after a, from a window of this size; one more is asked for, which tells whether there is more
 -- (Kubernetes API Concepts, Efficient detection of changes)

@@ -10,11 +10,11 @@ use Rattle.definitions.specs.Answers.Versions.{Watched, last_change, watched_fro
 
 -- the lines that show this to a watch from a: the changes, and a bookmark where it stands above the last one (Kubernetes API Concepts, Watch bookmarks)
 abbrev pub lines_from : ℕ → Watched → List Line
-lines_from a w = map event w.changes ++ (if nat_lt (last_change a w.changes) w.stands then bookmark w.stands ∷ [] else [])
+lines_from a w = map event w.events ++ (if nat_lt (last_change a w.events) w.stands then bookmark w.stands ∷ [] else [])
 
 -- the lines of what a watch from a is given, with bookmarks or without
 abbrev pub told_lines : Bool → ℕ → Watched → List Line
-told_lines bookmarks a w = if bookmarks then lines_from a w else map event w.changes
+told_lines bookmarks a w = if bookmarks then lines_from a w else map event w.events
 
 -- by what is there, and by what a watch from each revision is given
 abbrev pub lines_by : history.Members → (ℕ → Result Watched Refusal) → Bool → Option ℕ → Result (List Line) Refusal

@@ -15,4 +15,4 @@ pub returns : goal.returns
 returns c =
     inr
     (checked-asks c.args.method c.args.target.now c.args.body.now c.as_str-target.result.now (Err (check_refusal c.in-Err.fault)) (c.as_str-target.ensures.value ∙ c.in_ok-decoded.ensures.text) c.in-Err.ensures
-    ∙ ap Err (sym c.check_fault.ensures))
+    ∙ ap Err (sym c.from.ensures))

@@ -1,0 +1,59 @@
+-- Words, and the commands that they ask, computed from the definitions.
+use Rattle.std.specs.Prelude.{◌≡◌, ℕ, List, [], ◌∷◌, codes, Option, Some, None}
+use Rattle.options.specs.declared.command.Command.{Command}
+use Rattle.options.specs.declared.command.Command.TheVariants.{Replay, Serve}
+use Rattle.options.specs.Options.{command}
+
+-- what `serve` is asked by an option and its value
+abbrev pub with_one : List ℕ → List ℕ → Option Command
+with_one name value = command (codes "serve" ∷ name ∷ value ∷ [])
+
+-- no word, another word, and a word after `replay` ask nothing; `replay` alone asks a replay
+abbrev pub CommandsAreNamed : Type 0
+CommandsAreNamed =
+    (command [] ≡ None)
+    × (command (codes "Replay" ∷ []) ≡ None)
+    × (command (codes "replay" ∷ codes "serve" ∷ []) ≡ None)
+    × (command (codes "replay" ∷ []) ≡ Some Replay)
+
+-- `serve` alone has the defaults; options stand in any order
+abbrev pub OptionsAreSaid : Type 0
+OptionsAreSaid =
+    (command (codes "serve" ∷ []) ≡ Some (Serve (record { port = 8080; window = 1024; threads = 16; requests = None })))
+    × (command (codes "serve" ∷ codes "--threads" ∷ codes "64" ∷ codes "--port" ∷ codes "0" ∷ [])
+    ≡ Some (Serve (record { port = 0; window = 1024; threads = 64; requests = None })))
+    × (command (codes "serve" ∷ codes "--requests" ∷ codes "007" ∷ codes "--window" ∷ codes "4" ∷ [])
+    ≡ Some (Serve (record { port = 8080; window = 4; threads = 16; requests = Some 7 })))
+
+-- an option that is said twice, one without its value, a value without its option, and one that there is not, are bad arguments
+abbrev pub OptionsStandOnce : Type 0
+OptionsStandOnce =
+    (command (codes "serve" ∷ codes "--port" ∷ codes "1" ∷ codes "--port" ∷ codes "1" ∷ []) ≡ None)
+    × (command (codes "serve" ∷ codes "--port" ∷ []) ≡ None)
+    × (command (codes "serve" ∷ codes "--port" ∷ codes "1" ∷ codes "--window" ∷ []) ≡ None)
+    × (command (codes "serve" ∷ codes "8080" ∷ []) ≡ None)
+    × (command (codes "serve" ∷ codes "--port=1" ∷ []) ≡ None)
+    × (with_one (codes "--workers") (codes "4") ≡ None)
+
+-- numbers at their bounds and beyond them
+abbrev pub NumbersHaveBounds : Type 0
+NumbersHaveBounds =
+    (with_one (codes "--port") (codes "65535") ≡ Some (Serve (record { port = 65535; window = 1024; threads = 16; requests = None })))
+    × (with_one (codes "--port") (codes "65536") ≡ None)
+    × (with_one (codes "--window") (codes "0") ≡ None)
+    × (with_one (codes "--window") (codes "65536") ≡ Some (Serve (record { port = 8080; window = 65536; threads = 16; requests = None })))
+    × (with_one (codes "--window") (codes "65537") ≡ None)
+    × (with_one (codes "--threads") (codes "0") ≡ None)
+    × (with_one (codes "--threads") (codes "65") ≡ None)
+    × (with_one (codes "--requests") (codes "0") ≡ None)
+    × (with_one (codes "--requests") (codes "999999999") ≡ Some (Serve (record { port = 8080; window = 1024; threads = 16; requests = Some 999999999 })))
+
+-- ten digits, none, a sign, a blank, and other characters are no number
+abbrev pub NumbersAreDigits : Type 0
+NumbersAreDigits =
+    (with_one (codes "--port") (codes "0000000001") ≡ None)
+    × (with_one (codes "--port") [] ≡ None)
+    × (with_one (codes "--port") (codes "+1") ≡ None)
+    × (with_one (codes "--port") (codes " 1") ≡ None)
+    × (with_one (codes "--port") (codes "1a") ≡ None)
+    × (with_one (codes "--port") (codes "--window") ≡ None)

@@ -1,0 +1,94 @@
+//! The commands of the program.
+ghost use Rattle.std.specs.Prelude.{◌≡◌, map, string_bytes};
+
+use crate::setting::Setting;
+use crate::words::{are_options, said};
+
+/// What `kcp serve` is asked.
+#[derive(Clone, Copy, Debug, PartialEq, Eq)]
+pub struct ServeOptions {
+    /// The port to listen on; with 0 the system takes a free one.
+    pub port: u16,
+    /// How many changes of each kind are kept.
+    pub window: usize,
+    /// How many threads serve.
+    pub threads: usize,
+    /// After how many connections the program ends, if it does.
+    pub requests: Option<u64>,
+}
+
+/// What the program is asked.
+#[derive(Clone, Copy, Debug, PartialEq, Eq)]
+pub enum Command {
+    /// Request lines are answered.
+    Replay,
+    /// Connections are served.
+    Serve(ServeOptions),
+}
+
+/// The options of `kcp serve`.
+const SERVE_SETTINGS: [Setting; 4] = [
+    Setting::Port,
+    Setting::Window,
+    Setting::Threads,
+    Setting::Requests,
+];
+
+impl Default for ServeOptions {
+    ghost use Rattle.std.specs.Prelude.{◌≡◌};
+    ghost use Rattle.options.specs.Options.{serve_defaults};
+
+    /// Returns the options of `kcp serve` where none is said.
+    fn default() -> ServeOptions
+        ensures { result ≡ serve_defaults }
+    {
+        ServeOptions {
+            port: 8080,
+            window: 1024,
+            threads: 16,
+            requests: None,
+        }
+    }
+}
+
+impl ServeOptions {
+    ghost use Rattle.std.specs.Prelude.{◌≡◌, map, string_bytes};
+    ghost use Rattle.options.specs.Options.{serve_options};
+
+    /// Returns the options that the words give.
+    fn of_words(words: &[String]) -> ServeOptions
+        ensures { result ≡ serve_options (map string_bytes words.now) }
+    {
+        let mut options = ServeOptions::default();
+        if let Some(port) = said(Setting::Port, words) {
+            options.port = port as u16;
+        }
+        if let Some(window) = said(Setting::Window, words) {
+            options.window = window as usize;
+        }
+        if let Some(threads) = said(Setting::Threads, words) {
+            options.threads = threads as usize;
+        }
+        options.requests = said(Setting::Requests, words);
+        options
+    }
+}
+
+impl Command {
+    ghost use Rattle.std.specs.Prelude.{◌≡◌, map, string_bytes};
+    ghost use Rattle.options.specs.Options.{command};
+
+    /// Returns the command that the words after the program's name ask; none where they are bad arguments.
+    pub fn parse(words: &[String]) -> Option<Command>
+        ensures { result ≡ command (map string_bytes words.now) }
+    {
+        let (word, rest) = words.split_first()?;
+        if word.as_str() == "replay" && rest.is_empty() {
+            return Some(Command::Replay);
+        }
+        if word.as_str() == "serve" && are_options(&SERVE_SETTINGS, rest) {
+            return Some(Command::Serve(ServeOptions::of_words(rest)));
+        }
+        None
+    }
+}

@@ -1,0 +1,16 @@
+//! Words, and the commands that they ask, computed by the checker.
+ghost use Rattle.options.specs.Examples.{CommandsAreNamed, OptionsAreSaid, OptionsStandOnce, NumbersHaveBounds, NumbersAreDigits};
+
+/// What the words after the program's name ask.
+pub fn words_ask()
+    // A command is named by the first word.
+    ensures commands_are_named { CommandsAreNamed }
+    // What is not said has its default.
+    ensures options_are_said { OptionsAreSaid }
+    // Each option stands once, with its value.
+    ensures options_stand_once { OptionsStandOnce }
+    // Each option takes the numbers within its bounds.
+    ensures numbers_have_bounds { NumbersHaveBounds }
+    // A number is one to nine digits.
+    ensures numbers_are_digits { NumbersAreDigits }
+{}

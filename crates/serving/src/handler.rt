@@ -1,0 +1,13 @@
+//! What answers a connection.
+use stamps::moments::Moment;
+use std::io::{Read, Write};
+
+/// A state that answers one connection after another.
+pub trait Handler {
+    /// What one connection may make of the state.
+    ghost step: { Self → Self → Type 0 };
+
+    /// Answers what is read at the moment. A connection that fails ends here: there is no error.
+    fn handle<R: Read, W: Write>(&mut self, reader: &mut R, writer: &mut W, moment: Moment)
+        ensures { step self.old self.new };
+}
