@@ -5,7 +5,7 @@ ghost use Rattle.connections.specs.Replies.{line, phrase, head_text};
 use std::alloc::{AllocError, Global};
 
 /// Returns the phrase of a status code, nothing where none is answered.
-fn phrase(code: u16) -> &'static str
+pub(crate) fn phrase(code: u16) -> &'static str
     ensures { result.now ≡ phrase code }
 {
     match code {

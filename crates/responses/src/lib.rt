@@ -6,7 +6,9 @@ pub mod constants;
 pub mod frames;
 pub mod heads;
 pub mod replies;
+pub mod sending;
 
 pub use constants::{last_chunk, out_of_memory, watch_head};
 pub use frames::{push_bookmark, push_changes, push_error, push_objects};
 pub use replies::{refusal, response};
+pub use sending::send_response;

@@ -2,7 +2,7 @@
 ghost use Rattle.std.specs.Prelude.{ℕ, List};
 ghost use Rattle.definitions.specs.Collections as collections;
 ghost use Rattle.definitions.specs.History as history;
-ghost use Rattle.definitions.specs.Verbs as outcomes;
+ghost use Rattle.definitions.specs.ObjectRequests as requests;
 ghost use Rattle.definitions.specs.Verbs.{Outcome};
 ghost use Rattle.requests.specs.Collected.{list_seen};
 ghost use Rattle.selector.specs.Views.{view_of};
@@ -22,7 +22,7 @@ use watch_service::WatchSource;
 /// the site has seen before it and after it. Out of memory is an outcome as each refusal is.
 pub trait Site: WatchSource {
     /// A request at a moment has this outcome.
-    ghost Calls: { Self → outcomes.Request → List ℕ → Outcome → Self → Type 0 };
+    ghost Calls: { Self → requests.Request → List ℕ → Outcome → Self → Type 0 };
 
     /// A list of a view has this outcome.
     ghost Lists: { Self → history.View → collections.ListOptions → Outcome → Self → Type 0 };

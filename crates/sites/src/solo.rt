@@ -1,16 +1,14 @@
 //! The owner of a server.
-ghost use Rattle.std.specs.Prelude.{◌≡◌, IfOk, map};
-ghost use Rattle.meta.specs.Members.{member_of};
-
+use crate::alone;
 use crate::site::Site;
 use desk::Server;
-use meta::{Fault, Member, StoredObject};
+use meta::Fault;
 use reply::Reply;
 use requests::list_options::ListOptions;
 use revisions::Watched;
 use selector::View;
 use stamps::moments::Moment;
-use std::alloc::{AllocError, Global};
+use std::alloc::Global;
 use std::marker::Model;
 use verbs::Request;
 use watch_service::{Begun, WatchSource};
@@ -43,17 +41,6 @@ impl Solo {
     }
 }
 
-/// Copies objects that are lent; their texts are shared.
-fn copies_of(alloc: Global, members: &[Member<'_>]) -> Result<Vec<StoredObject>, AllocError>
-    ensures { IfOk result (λ copies. map (λ o. o.value) copies.items ≡ map (λ m. (member_of m).1) members.now) }
-{
-    let mut copies = Vec::with_capacity(alloc, members.len())?;
-    for member in members {
-        copies.push(member.object.try_copy()?)?;
-    }
-    Ok(copies)
-}
-
 impl WatchSource for Solo {
     ghost use Rattle.sites.specs.Alone.{WatchesAlone, BeginsAlone};
 
@@ -68,17 +55,17 @@ impl WatchSource for Solo {
         after: u64,
         most: usize,
     ) -> Result<Watched, Fault> {
-        match self.server.watch_from(alloc, view, after, most) {
+        match alone::watch_from(alloc, &self.server, view, after, most) {
             Ok(watched) => Ok(watched),
             Err(fault) => Err(fault),
         }
     }
 
     fn begin(&mut self, alloc: Global, view: &View) -> Result<Begun, Fault> {
-        let revision = self.server.revision();
-        let members = self.server.added(alloc, view)?;
-        let objects = copies_of(alloc, &members)?;
-        Ok(Begun { objects, revision })
+        match alone::begin(alloc, &self.server, view) {
+            Ok(begun) => Ok(begun),
+            Err(fault) => Err(fault),
+        }
     }
 }
 
@@ -90,18 +77,14 @@ impl Site for Solo {
     ghost Lists = { ListsAlone };
 
     fn call(&mut self, alloc: Global, request: Request, moment: Moment) -> Result<Reply, Fault> {
-        match self.server.serve(alloc, request, moment) {
+        match alone::call(alloc, &mut self.server, request, moment) {
             Ok(reply) => Ok(reply),
             Err(fault) => Err(fault),
         }
     }
 
     fn list(&mut self, alloc: Global, view: &View, options: &ListOptions) -> Result<Reply, Fault> {
-        let after = options.after.as_ref();
-        match self
-            .server
-            .list(alloc, view, options.at, options.limit, after)
-        {
+        match alone::list(alloc, &self.server, view, options) {
             Ok(reply) => Ok(reply),
             Err(fault) => Err(fault),
         }

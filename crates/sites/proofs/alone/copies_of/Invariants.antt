@@ -1,6 +1,6 @@
 use Rattle.std.proofs.Common.{◌≡◌, ◌++◌, map, drop}
 use Rattle.meta.specs.Members.{member_of}
-use Rattle.sites.proofs.solo.copies_of.Given as goal
+use Rattle.sites.proofs.alone.copies_of.Given as goal
 
 -- the copies so far and those of the objects that are left are all
 abbrev pub invariant-loop-member : goal.invariant-loop-member

@@ -1,0 +1,74 @@
+-- What was done, and how a connection is left then.
+use Rattle.std.proofs.Common.{◌≡◌, inl, inr, ℕ, List, Bool, true, false, Option, Some, None, Result, Ok, Err, refl, sym, ap, subst, ◌∙◌}
+use Rattle.std.specs.Io.KnownBytes.{Consumes}
+use Rattle.definitions.specs.Collections.{ListOptions}
+use Rattle.definitions.specs.History.{View}
+use Rattle.definitions.specs.ObjectRequests.{Request}
+use Rattle.definitions.specs.Refusals.{Refusal}
+use Rattle.definitions.specs.Targets as targets
+use Rattle.definitions.specs.Verbs.{Outcome, refused}
+use Rattle.definitions.specs.Versions.{Listed}
+use Rattle.chunked.specs.declared.watched.Watched.{Watched}
+use Rattle.meta.specs.Faults.{refusal_of}
+use Rattle.received.specs.Receiving as received
+use Rattle.received.specs.Receiving.{IsNeeded, IsWhole, Needs}
+use Rattle.received.specs.declared.received.Received.{Received}
+use Rattle.request_heads.specs.declared.fault.ReadFault.{ReadFault}
+use Rattle.request_heads.specs.declared.fault.ReadFault.TheVariants as read
+use Rattle.watch_service.specs.Served.{Serves}
+use Rattle.watch_service.specs.Watches.{Look}
+use Rattle.watch_service.specs.declared.fault.Cut.TheVariants as cut
+use Rattle.watch_service.specs.declared.fault.WatchFault.{WatchFault}
+use Rattle.watch_service.specs.declared.fault.WatchFault.TheVariants as left
+use Rattle.api.proofs.Written.{replies_fault}
+use Rattle.api.specs.Replying.{Replies}
+use Rattle.api.specs.Serving.{AsksKnown, Concludes, Answers, Does, Reads, has_reader_failed}
+use Rattle.api.specs.declared.fault.ServeFault.{ServeFault}
+use Rattle.api.specs.declared.fault.ServeFault.TheVariants as fault
+
+module _ {D : Type 0} (contents : D → Option (List ℕ)) where
+  concludes_fault : (served : Result (Unit {0}) WatchFault) (old new : Watched D) (r : Result (Unit {0}) ServeFault) → Concludes contents served old new r → has_reader_failed r ≡ false
+  concludes_fault (Ok u) old new r c = ap has_reader_failed c.1
+  concludes_fault (Err (left.Cut cut.Device)) old new r c = ap has_reader_failed c.1
+  concludes_fault (Err (left.Cut cut.NoMemory)) old new r c = ap has_reader_failed c.1
+  concludes_fault (Err (left.Refused e)) old new r c = replies_fault contents old new (refused (refusal_of e)) r c
+
+module _ {S D : Type 0} (calls : S → Request → List ℕ → Outcome → S → Type 0) (lists : S → View → ListOptions → Outcome → S → Type 0)
+    (begins : S → View → Result Listed Refusal → S → Type 0) (watches : S → View → ℕ → ℕ → Look → S → Type 0) (contents : D → Option (List ℕ)) (moment : List ℕ)
+    (s t : S) (old new : Watched D) where
+  answers_fault : (a : Result targets.Asked Refusal) (r : Result (Unit {0}) ServeFault) → Answers calls lists begins watches contents moment s t old new a r → has_reader_failed r ≡ false
+  answers_fault (Err f) r a = replies_fault contents old new (refused f) r a.1
+  answers_fault (Ok (targets.request q)) r (o, called, w) = replies_fault contents old new o r w
+  answers_fault (Ok (targets.list v options)) r (o, listed, w) = replies_fault contents old new o r w
+  answers_fault (Ok (targets.watch v options)) r (mid, served, serves, c) = concludes_fault contents served mid new r c
+
+  -- what is done of a request is no fault of the reader
+  pub does_fault : (said : Option (Result targets.Asked Refusal)) (r : Result (Unit {0}) ServeFault) → Does calls lists begins watches contents moment s t old new said r → has_reader_failed r ≡ false
+  does_fault None r d = ap has_reader_failed d.2
+  does_fault (Some a) r d = answers_fault a r d
+
+no_read_fault : (r : Result (Unit {0}) ServeFault) → has_reader_failed r ≡ false → r ≡ Err fault.Read → ⊥
+no_read_fault r e same = cc
+
+-- what was read of a request
+pub reads_then : (before after : Option (List ℕ)) (received : Received) (r : Result (Unit {0}) ServeFault) → Needs before after (Ok received) → has_reader_failed r ≡ false → Reads before after r
+reads_then before after received r (bytes, consumed, needed) e = (bytes, consumed, needed, λ same whole. no_read_fault r e same)
+
+pub reads_out : (before after : Option (List ℕ)) (r : Result (Unit {0}) ServeFault) → Needs before after (Err read.Want) → has_reader_failed r ≡ false → Reads before after r
+reads_out before after r (bytes, consumed, needed) e = (bytes, consumed, needed, λ same whole. no_read_fault r e same)
+
+pub reads_failed : (before after : Option (List ℕ)) → Needs before after (Err read.Device) → Reads before after (Err fault.Read)
+reads_failed before after (bytes, consumed, (half, needed)) = (bytes, consumed, needed, λ same whole. half whole)
+
+-- what was received is what the connection asks
+pub asks_said : (known : Option (List ℕ)) (r : Received) → received.AsksKnown known r → AsksKnown known (received.said r)
+asks_said None r a = tt
+asks_said (Some bytes) r a = a
+
+module _ {S D : Type 0} (begins : S → View → Result Listed Refusal → S → Type 0) (watches : S → View → ℕ → ℕ → Look → S → Type 0) (v : View) (bookmarks : Bool)
+    (contents : D → Option (List ℕ)) where
+  -- a watch that was served so
+  pub concluded : (s t : S) (from : Option ℕ) (old mid new : Watched D) (served known : Result (Unit {0}) WatchFault) (r : Result (Unit {0}) ServeFault) → served ≡ known
+      → Serves begins watches v bookmarks contents s t old mid from served → Concludes contents known mid new r
+      → (mid : Watched D) × (served : Result (Unit {0}) WatchFault) × Serves begins watches v bookmarks contents s t old mid from served × Concludes contents served mid new r
+  concluded s t from old mid new served known r e h c = (mid, known, subst (Serves begins watches v bookmarks contents s t old mid from) e h, c)

@@ -1,0 +1,51 @@
+//! One request of a connection, served.
+ghost use Rattle.std.specs.Prelude.{◌≡◌};
+ghost use Rattle.api.specs.Serving.{Reads, ServesOne, has_reader_failed};
+ghost use Rattle.chunked.specs.Devices.{device_of, has_failed};
+
+use crate::answering::do_received;
+use crate::fault::ServeFault;
+use crate::replying::send;
+use chunked::Watched;
+use received::receive;
+use request_heads::ReadFault;
+use responses::out_of_memory;
+use routes::table::Routes;
+use sites::Site;
+use stamps::moments::Moment;
+use std::alloc::Global;
+use std::io::{Read, Write};
+use watch_service::Pace;
+
+/// Serves one request of a connection: reads it, asks a server at a moment, and writes the reply. Half a request is neither done
+/// nor replied to. A reply to what was done never lacks memory; what is not done because memory ran out is replied to with that,
+/// and so is a refusal for whose reply there is none.
+///
+/// The error says why the connection is left: its reader failed, and nothing was done or written; its writer failed, and a
+/// beginning of the reply was written to what was done; or out of memory within a watch, whose end is then missing.
+pub fn serve_one<S: Site, P: Pace, R: Read + Drop, W: Write + Drop>(
+    alloc: Global,
+    routes: &Routes,
+    reader: &mut Watched<R>,
+    writer: &mut Watched<W>,
+    site: &mut S,
+    moment: Moment,
+    pace: &mut P,
+) -> Result<(), ServeFault>
+    ensures serves { ServesOne S.Calls S.Lists S.Begins S.Watches W.contents moment site.old site.new writer.old writer.new
+        (R.remaining (device_of reader.old)) result }
+    ensures reads { Reads (R.remaining (device_of reader.old)) (R.remaining (device_of reader.new)) result }
+    ensures failed { has_failed reader.new ≡ has_reader_failed result }
+{
+    match receive(alloc, routes, reader) {
+        Ok(received) => match do_received(alloc, received, site, moment, pace, writer) {
+            Ok(()) => Ok(()),
+            Err(fault) => Err(fault),
+        },
+        Err(ReadFault::Device) => Err(ServeFault::Read),
+        Err(ReadFault::Want) => match send(out_of_memory(), writer) {
+            Ok(()) => Ok(()),
+            Err(fault) => Err(fault),
+        },
+    }
+}

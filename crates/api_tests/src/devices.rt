@@ -1,0 +1,59 @@
+//! Devices that fail at one of their calls.
+use std::io;
+use std::io::{ErrorKind, Read, Write};
+
+/// Gives a text, at most `most` bytes a call, and an error at the call `bad`, counted from 0.
+#[derive(Drop)]
+pub struct Source<'a> {
+    pub left: &'a [u8],
+    pub most: usize,
+    pub bad: u64,
+    pub calls: u64,
+}
+
+impl<'a> Read for Source<'a> {
+    fn read(&mut self, buf: &mut [u8]) -> io::Result<usize> {
+        let call = self.calls;
+        self.calls = call.saturating_add(1);
+        if call == self.bad {
+            return Err(io::Error::from(ErrorKind::BrokenPipe));
+        }
+        let len = self.left.len().min(self.most).min(buf.len());
+        buf[..len].copy_from_slice(&self.left[..len]);
+        self.left = self.left.split_at(len).1;
+        Ok(len)
+    }
+}
+
+/// Holds what is written, at most 16 bytes a call, and gives an error at the call `bad` of `write` or `flush`.
+#[derive(Drop)]
+pub struct Sink {
+    pub written: Vec<u8>,
+    pub bad: u64,
+    pub calls: u64,
+}
+
+impl Sink {
+    /// Answers a call: an error at the bad one.
+    fn call(&mut self) -> io::Result<()> {
+        let call = self.calls;
+        self.calls = call.saturating_add(1);
+        if call == self.bad {
+            return Err(io::Error::from(ErrorKind::BrokenPipe));
+        }
+        Ok(())
+    }
+}
+
+impl Write for Sink {
+    fn write(&mut self, buf: &[u8]) -> io::Result<usize> {
+        self.call()?;
+        let len = buf.len().min(16);
+        self.written.extend_from_slice(&buf[..len])?;
+        Ok(len)
+    }
+
+    fn flush(&mut self) -> io::Result<()> {
+        self.call()
+    }
+}

@@ -1,0 +1,94 @@
+//! What a server answers that one thread owns.
+ghost use Rattle.std.specs.Prelude.{◌≡◌, IfOk, map};
+ghost use Rattle.meta.specs.Members.{member_of};
+ghost use Rattle.requests.specs.Collected.{list_seen};
+ghost use Rattle.revisions.specs.Watches.{watched_of};
+ghost use Rattle.selector.specs.Views.{view_of};
+ghost use Rattle.sites.specs.Alone.{CallsAlone, ListsAlone, WatchesAlone, BeginsAlone};
+ghost use Rattle.sites.specs.Told.{Tells};
+ghost use Rattle.verbs.specs.Requests.{request_of};
+ghost use Rattle.watch_service.specs.Given.{Gives, GivesBegun};
+
+use desk::Server;
+use meta::{Fault, Member, StoredObject};
+use reply::Reply;
+use requests::list_options::ListOptions;
+use revisions::Watched;
+use selector::View;
+use stamps::moments::Moment;
+use std::alloc::{AllocError, Global};
+use verbs::Request;
+use watch_service::Begun;
+
+/// Answers a request at a moment, after which what it writes is written.
+pub(crate) fn call(
+    alloc: Global,
+    server: &mut Server,
+    request: Request,
+    moment: Moment,
+) -> Result<Reply, Fault>
+    ensures { Tells (λ o. CallsAlone server.old (request_of request) moment o server.new) result }
+{
+    match server.serve(alloc, request, moment) {
+        Ok(reply) => Ok(reply),
+        Err(fault) => Err(fault),
+    }
+}
+
+/// Answers a list of a view.
+pub(crate) fn list(
+    alloc: Global,
+    server: &Server,
+    view: &View,
+    options: &ListOptions,
+) -> Result<Reply, Fault>
+    ensures { Tells (λ o. ListsAlone server.now (view_of view.now) (list_seen options.now) o server.now) result }
+{
+    let after = options.after.as_ref();
+    match server.list(alloc, view, options.at, options.limit, after) {
+        Ok(reply) => Ok(reply),
+        Err(fault) => Err(fault),
+    }
+}
+
+/// Gives the first changes of a view after a revision, at most so many.
+pub(crate) fn watch_from(
+    alloc: Global,
+    server: &Server,
+    view: &View,
+    after: u64,
+    most: usize,
+) -> Result<Watched, Fault>
+    ensures { Gives watched_of (λ w. WatchesAlone server.now (view_of view.now) after most w server.now) result }
+{
+    match server.watch_from(alloc, view, after, most) {
+        Ok(watched) => Ok(watched),
+        Err(fault) => Err(fault),
+    }
+}
+
+/// Copies objects that are lent; their texts are shared.
+fn copies_of(alloc: Global, members: &[Member<'_>]) -> Result<Vec<StoredObject>, AllocError>
+    ensures { IfOk result (λ copies. map (λ o. o.value) copies.items ≡ map (λ m. (member_of m).1) members.now) }
+{
+    let mut copies = Vec::with_capacity(alloc, members.len())?;
+    for member in members {
+        copies.push(member.object.try_copy()?)?;
+    }
+    Ok(copies)
+}
+
+/// Gives what is there of a view.
+pub(crate) fn begin(alloc: Global, server: &Server, view: &View) -> Result<Begun, Fault>
+    ensures { GivesBegun (λ l. BeginsAlone server.now (view_of view.now) l server.now) result }
+{
+    let revision = server.revision();
+    let members = match server.added(alloc, view) {
+        Ok(members) => members,
+        Err(_) => return Err(Fault::NoMemory),
+    };
+    match copies_of(alloc, &members) {
+        Ok(objects) => Ok(Begun { objects, revision }),
+        Err(_) => Err(Fault::NoMemory),
+    }
+}
