@@ -1,14 +1,20 @@
-//! The control plane's program: `kcp replay` answers the request lines of its standard input.
+//! The control plane's program: `kcp replay` answers the request lines of its standard input, and `kcp serve` the requests that come
+//! over HTTP/1.1.
 #![tactic(auto)]
 
-ghost use Rattle.std.specs.Prelude.{◌≡◌, OnOk, OnErr, IfErr, IfSome, option_map, string_bytes};
+ghost use Rattle.std.specs.Prelude.{◌≡◌, OnOk, OnErr, IfErr, IfSome};
 ghost use Rattle.std.specs.Io.KnownBytes.{Appends};
 ghost use Rattle.definitions.specs.Replies.{default_window};
 ghost use Rattle.line_protocol.specs.Lines as lines;
 ghost use Rattle.line_service.specs.Replies.{AppendsBeginning};
-ghost use Rattle.kcp.specs.Replays.{asks_replay, fault_text, AnswersSome};
+ghost use Rattle.kcp.specs.Replays.{fault_text, serve_fault_text, AnswersSome};
 
+mod connections;
+
+use connections::Connections;
 use line_service::RunFault;
+use options::{Command, ServeOptions};
+use serving::ServeFault;
 use session::Session;
 use std::alloc::Global;
 use std::io::{BufRead, BufReader, BufWriter, Write};
@@ -57,22 +63,13 @@ pub fn replay<R: BufRead, W: Write>(
     replay_with(alloc, DEFAULT_WINDOW, reader, writer)
 }
 
-/// Returns whether the word after the program's name, with no more after it, asks for a replay.
-fn asks_replay(word: Option<String>, more: Option<String>) -> bool
-    ensures { result ≡ asks_replay (option_map string_bytes word) (option_map string_bytes more) }
-{
-    match (word, more) {
-        (Some(word), None) => word.as_str() == "replay",
-        _ => false,
+/// Returns what the words after the program's name ask, if they ask something.
+fn command(rt: &HostRuntime) -> io::Result<Option<Command>> {
+    let mut words = Vec::new(rt.alloc());
+    for word in env::args(rt)?.skip(1) {
+        words.push(word)?;
     }
-}
-
-/// Returns whether the program is called as `kcp replay`.
-fn is_replay(rt: &HostRuntime) -> io::Result<bool> {
-    let mut words = env::args(rt)?;
-    let _program = words.next();
-    let word = words.next();
-    Ok(asks_replay(word, words.next()))
+    Ok(Command::parse(&words))
 }
 
 /// Answers the request lines of standard input on standard output.
@@ -97,19 +94,53 @@ fn fault_name(fault: RunFault) -> &'static str
     }
 }
 
+/// Serves requests over HTTP/1.1 on the loopback address, one connection after another.
+fn serve(rt: &HostRuntime, options: ServeOptions) -> Result<(), ServeFault> {
+    let Ok(mut connections) = Connections::new(rt.alloc(), options.window, rt) else {
+        return Err(ServeFault::NoMemory);
+    };
+    let mut writer = io::writer(rt);
+    serving::serve(rt, options.port, options.requests, &mut writer, &mut connections)
+}
+
+/// Returns what a fault of serving is called on standard error.
+fn serve_fault_name(fault: ServeFault) -> &'static str
+    ensures { result.now ≡ serve_fault_text fault }
+{
+    match fault {
+        ServeFault::Listen => "listen",
+        ServeFault::Write => "write",
+        ServeFault::NoMemory => "no memory",
+    }
+}
+
+/// Does what is asked. The error is what the fault is called.
+fn run(rt: &HostRuntime, command: Command) -> Result<(), &'static str> {
+    match command {
+        Command::Replay => match replay_standard_input(rt) {
+            Ok(()) => Ok(()),
+            Err(fault) => Err(fault_name(fault)),
+        },
+        Command::Serve(options) => match serve(rt, options) {
+            Ok(()) => Ok(()),
+            Err(fault) => Err(serve_fault_name(fault)),
+        },
+    }
+}
+
 fn main(rt: HostRuntime) -> io::Result<ExitCode> {
-    let outcome = match is_replay(&rt) {
-        Ok(true) => replay_standard_input(&rt),
-        Ok(false) => {
+    let outcome = match command(&rt) {
+        Ok(Some(command)) => run(&rt, command),
+        Ok(None) => {
             eprintln!(rt; "kcp: bad arguments")?;
             return Ok(ExitCode::from(2));
         }
-        Err(_) => Err(RunFault::Want),
+        Err(_) => Err(fault_name(RunFault::Want)),
     };
     match outcome {
         Ok(()) => Ok(ExitCode::SUCCESS),
-        Err(fault) => {
-            eprintln!(rt; "kcp: {}", fault_name(fault))?;
+        Err(name) => {
+            eprintln!(rt; "kcp: {}", name)?;
             Ok(ExitCode::from(1))
         }
     }
