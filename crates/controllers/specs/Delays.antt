@@ -1,4 +1,4 @@
--- When a key of work that failed is looked at again, and which keys come due.
+-- When a work key that failed is added again, and which work keys come due.
 use Rattle.std.specs.Prelude.{ℕ, ◌+◌, ◌*◌, ◌^◌, min, unwrap_or, Bool, false, List, Option, Some, None, not, nat_le, map as list_map}
 use Rattle.std.specs.List.{filter}
 use Rattle.std.specs.Ordering.{nat_cmp, then_cmp, on}

@@ -22,7 +22,7 @@ pub enum Kind {
     Deployment,
 }
 
-/// What is said of a kind.
+/// The facts of a kind.
 #[derive(Clone, Copy)]
 struct Facts {
     /// Its place in the order of kinds.
@@ -76,7 +76,7 @@ impl Kind {
         Kind::Deployment,
     ];
 
-    /// Returns what is said of the kind: the one table of kinds.
+    /// Returns the facts of the kind: the one table of kinds.
     fn facts(self) -> Facts
         ensures rank { result.rank ≡ rank self }
         ensures name { result.name.now ≡ kind_text self }

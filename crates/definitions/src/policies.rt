@@ -12,7 +12,7 @@ pub enum Policy {
     Background,
 }
 
-/// What is said of a policy.
+/// The policy that a request names, if it names one.
 #[derive(Clone, Copy, Debug, PartialEq, Eq)]
 pub enum StatedPolicy {
     Nothing,
