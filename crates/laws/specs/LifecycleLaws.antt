@@ -20,11 +20,11 @@ use Rattle.definitions.specs.Values.{merged}
 use Rattle.definitions.specs.Verbs.{Outcome, accept, write_of, outcome_body, history_after, object_in}
 use Rattle.definitions.specs.ObjectRequests.{Request, create_object, update_object, update_status, patch_object, delete_object}
 
--- what holds of the object that is there before a request, and of the one that it writes in its place
+-- what is true of the object that is there before a request, and of the one that it writes in its place
 abbrev pub OfReplaced : History → Outcome → (Key → Data → Data → Type 0) → Type 0
 OfReplaced h o P = OfStored o (λ k new. IfSome (state h (present h) k) (λ existing. P k existing new))
 
--- what holds of the object that a request removes
+-- what is true of the object that a request removes
 abbrev pub IfRemoved : Option Data → Type 0 → Type 0
 IfRemoved None P = P
 IfRemoved (Some d) P = Unit {0}
@@ -114,11 +114,11 @@ StatusesChangeNothingElse =
 
 -- ---- named versions
 
--- what is written under a name, or removed, stood there at just this version
+-- what is written under a key, or removed, stood there at just this version
 abbrev pub ReplacesVersion : Key → List ℕ → History → Outcome → Type 0
 ReplacesVersion k named h o = IfSome (write_of o) (λ w. (existing : Data) × (w.key ≡ k) × (state h (present h) k ≡ Some existing) × (version existing ≡ Some named))
 
--- what is written under a name, or removed, had just this uid
+-- what is written under a key, or removed, had just this uid
 abbrev pub ReplacesUid : Key → List ℕ → History → Outcome → Type 0
 ReplacesUid k named h o = IfSome (write_of o) (λ w. (existing : Data) × (w.key ≡ k) × (state h (present h) k ≡ Some existing) × (uid existing ≡ Some named))
 
