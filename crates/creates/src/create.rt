@@ -97,7 +97,7 @@ fn new_key(
     }
 }
 
-/// Returns the object with the first status of a kind, whatever status the body said.
+/// Returns the object with the first status of a kind, whatever status the body has.
 fn with_first_status(alloc: Global, object: Object, kind: Kind) -> Result<Object, AllocError>
     ensures value { IfOk result (λ o. o.value ≡ with_first_status kind object.value) }
     ensures kind { IfOk result (λ o. o.kind ≡ object.kind) }

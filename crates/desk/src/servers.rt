@@ -8,7 +8,7 @@ use store::Store;
 use watch_cache::{Cache, Caches, Change};
 
 /// What is there, with one revision over all kinds, and the last changes of each kind, from which watches and lists of
-/// earlier revisions are served. A change that is kept no longer is answered as expired.
+/// earlier revisions are served. A change that is no longer recorded is answered as expired.
 #[derive(Drop)]
 pub struct Server {
     pub(crate) store: Store,

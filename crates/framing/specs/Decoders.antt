@@ -1,4 +1,4 @@
--- A decoder as what it holds, and what a piece gives.
+-- A decoder as the bytes that it has buffered, and what a piece gives.
 use Rattle.std.specs.Prelude.{ℕ, List, [], ◌∷◌, ◌++◌, map, Option, Some, None, refl}
 use Rattle.std.specs.Coded.{Coded, code_by, coded×, coded_option}
 use Rattle.serde_json.specs.View.{view}
@@ -9,7 +9,7 @@ use Rattle.controllers.specs.declared.frame_fault.FrameFault.{FrameFault}
 use Rattle.controllers.specs.contracts.frame_fault.FrameFault as fault
 use Rattle.framing.specs.declared.frames.Frame.{Frame}
 
--- the bytes held of a line that is not whole, or the fault that is final
+-- the bytes buffered of a line that is not whole, or the fault that is final
 pub record Held : Type 0 where
   pub held : List ℕ
   pub fault : Option FrameFault
@@ -29,7 +29,7 @@ events_of fs = map event_of fs
 abbrev pub opened : Held
 opened = record { held = []; fault = None }
 
--- a piece after what is held
+-- a piece after what is buffered
 abbrev pub fed_after : Option FrameFault → List ℕ → Read
 fed_after None bytes = reading bytes
 fed_after (Some f) bytes = failed f
@@ -41,11 +41,11 @@ fed h piece = fed_after h.fault (h.held ++ piece)
 abbrev pub left : Read → Held
 left r = record { held = r.held; fault = r.fault }
 
--- pieces one after another: all their events, and what is held in the end
+-- pieces one after another: all their frames, and what is buffered in the end
 abbrev pub all_fed : Held → List (List ℕ) → Read
 all_fed h [] = record { events = []; held = h.held; fault = h.fault }
 all_fed h (p ∷ ps) = onto (fed h p).events (all_fed (left (fed h p)) ps)
 
--- events, and then the bytes held, or a fault
+-- frames, and then the bytes buffered, or a fault
 abbrev pub given : List Event → List ℕ → Option FrameFault → Read
 given es bytes fault = record { events = es; held = bytes; fault = fault }

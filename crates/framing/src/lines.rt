@@ -59,7 +59,7 @@ pub fn read_lines(alloc: Global, bytes: &[u8], known: usize) -> Result<Lines, Wa
     }
 }
 
-/// Drops all but the last `kept` bytes.
+/// Removes all but the last `kept` bytes.
 pub fn keep_last(bytes: &mut Vec<u8>, kept: usize)
     requires { kept ≤ vec_len bytes.old }
     ensures { bytes.new.items ≡ drop (vec_len bytes.old - kept) bytes.old.items }

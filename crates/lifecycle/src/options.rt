@@ -82,7 +82,7 @@ fn policy_said(value: &Value) -> StatedPolicy
     StatedPolicy::read(text_at(value, "propagationPolicy"))
 }
 
-/// Returns the options with what is said of the policy, or the part of the request that says it wrong.
+/// Returns the options with the policy that is named or, where that is unknown, the part of the request that names it.
 fn with_policy(
     part: Part,
     uid: Option<String>,

@@ -192,8 +192,8 @@ impl Object {
         }
     }
 
-    /// Returns the generation after the object's; the greatest whole number that every reader of JSON holds exactly has none
-    /// after it.
+    /// Returns the generation after the object's; the greatest whole number that every reader of JSON represents exactly has
+    /// none after it.
     pub fn next_generation(&self) -> u64
         ensures { result ≡ next_generation (generation self.now.value) }
     {
@@ -205,7 +205,7 @@ impl Object {
         }
     }
 
-    /// Returns whether the object is marked for deletion.
+    /// Returns whether the object is being deleted: its deletionTimestamp is set.
     pub fn is_being_deleted(&self) -> bool
         ensures { result ≡ is_being_deleted self.now.value }
     {

@@ -42,11 +42,11 @@ abbrev pub IsStep : Result Step End → Result reflectors.Step End → Type 0
 IsStep (Ok t) r = Ok (step_of t) ≡ r
 IsStep (Err e) r = Err e ≡ r
 
--- the fault for which a body is not taken in: want of memory, or that it is no list of the kind
+-- the fault for which a body is not taken in: running out of memory, or that it is no list of the kind
 abbrev pub RefusesList : Kind → List ℕ → ListFault → Type 0
 RefusesList k body e = (e ≡ fault.Want) ⊎ ((e ≡ fault.Unreadable) × (list_of k body ≡ None))
 
--- what was taken in of these bytes: their run, its end or that of the lines, and what is held then
+-- what was taken in of these bytes: their run, its end or that of the lines, and what is buffered then
 pub record IsTaken (t : Taken) (k : Kind) (last : ℕ) (bytes : List ℕ) : Type 0 where
   pub deltas : deltas_of t.deltas.items ≡ (run k last (reading bytes).events).deltas
   pub revision : t.revision ≡ (run k last (reading bytes).events).revision

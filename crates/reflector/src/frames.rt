@@ -102,7 +102,7 @@ fn mark_step(kind: Kind, last: u64, value: &Value) -> Option<Step>
     })
 }
 
-/// Returns whether a Status says that the changes asked for are gone.
+/// Returns whether a Status says that the events asked for are gone.
 fn is_expiry(value: &Value) -> bool
     ensures { result ≡ is_expiry (view value.now) }
 {

@@ -12,7 +12,7 @@ use std::alloc::Global;
 use std::marker::Model;
 
 /// What is known of the objects of one kind, in all namespaces: the revision up to which lists and watches were taken in,
-/// and the bytes of a frame that is not whole yet. The objects are with whoever plays the deltas.
+/// and the bytes of a frame that is not whole yet. The objects are with whoever applies the deltas.
 #[derive(Drop)]
 pub struct Reflector {
     kind: Kind,
@@ -66,7 +66,7 @@ impl Reflector {
         }
     }
 
-    /// Returns the revision of the last list, change or bookmark that was taken in; 0 before the first list. It takes no
+    /// Returns the revision of the last list, event or bookmark that was taken in; 0 before the first list. It takes no
     /// memory.
     pub fn revision(&self) -> u64
         ensures { result ≡ self.now.revision }
@@ -145,14 +145,14 @@ impl Reflector {
         self.turn(self.phase, self.revision);
     }
 
-    /// Takes that the server no longer has the changes that were asked for: a list is asked for. It takes no memory.
+    /// Notes that the server no longer has the events that were asked for: a list is asked for. It takes no memory.
     pub fn on_expired(&mut self)
         ensures { self.new ≡ expired self.old }
     {
         self.turn(Phase::Listing, self.revision);
     }
 
-    /// Goes on from a revision, with nothing held of a frame.
+    /// Goes on from a revision, with nothing buffered of a frame.
     fn turn(&mut self, phase: Phase, revision: u64)
         ensures { self.new ≡ turned phase revision self.old }
     {

@@ -43,7 +43,7 @@ pub fn update(
     }
 }
 
-/// Returns an object in the place of the one that is kept, if that is the one that it names.
+/// Returns an object in the place of the stored one, if that is the one that it names.
 fn replace(
     alloc: Global,
     key: Key,

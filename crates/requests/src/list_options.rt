@@ -92,7 +92,7 @@ fn matched(alloc: Global, query: &[u8]) -> Result<Match, MemberFault>
 }
 
 /// Returns at which revision a list is, if how it is to be matched goes with the revision that is named. Where that is not
-/// said, a limited list is exact: its pages are pages of one list.
+/// named, a limited list is exact: its pages are pages of one list.
 fn list_at(limited: bool, matched: Match, version: Option<u64>) -> Option<At>
     ensures { result ≡ list_at limited matched version }
 {

@@ -101,7 +101,7 @@ impl Journal {
         Ok(found)
     }
 
-    /// Returns the changes of a view by the writes with a revision above `from` and up to `to`, in order. The writes are gone
+    /// Returns the events of a view by the writes with a revision above `from` and up to `to`, in order. The writes are gone
     /// through once. The error is running out of memory.
     pub fn changes(
         &self,

@@ -4,7 +4,7 @@ ghost use Rattle.std.specs.List.{list_all};
 ghost use Rattle.definitions.specs.Moments.{is_digit};
 ghost use Rattle.definitions.specs.Revisions.{revision_of};
 
-/// Revisions are below this, so that a float of 64 bits holds each of them exactly.
+/// Revisions are below this, so that a float of 64 bits represents each of them exactly.
 const LIMIT: u64 = 1 << 53;
 
 /// Returns whether each byte of the text is a decimal digit.

@@ -130,7 +130,7 @@ impl Store {
     }
 
     /// Returns a chunk of the list of a view: at most `limit` objects, or all if it is 0, after the place of a key, or the
-    /// first. It costs the way to its start and what it holds, and to count the objects that remain a step for each; where the
+    /// first. It costs the way to its start and what it has, and to count the objects that remain a step for each; where the
     /// view selects, a look at each up to the first that remains. The error is running out of memory.
     pub fn page<'a>(
         &'a self,

@@ -42,7 +42,7 @@ pub fn delete(
     }
 }
 
-/// Returns the stored object removed or marked, if it meets the preconditions.
+/// Returns the stored object removed or with its deletionTimestamp set, if it meets the preconditions.
 fn delete_held(
     alloc: Global,
     key: Key,
@@ -94,8 +94,8 @@ fn by_fate(
     }
 }
 
-/// Returns the object as it is marked, put in the place of the stored one, unless there is no room for a write. It has no
-/// greatest length: what is too long to be marked could not be deleted.
+/// Returns the object with its deletionTimestamp set, in the place of the stored one, unless a write has no room. It has no
+/// greatest length: what is too long for that could not be deleted.
 fn put_mark(
     alloc: Global,
     key: Key,

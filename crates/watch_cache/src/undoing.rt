@@ -74,7 +74,7 @@ fn map_of<'a>(
     Ok(state)
 }
 
-/// Returns what a map holds, in the order of its keys.
+/// Returns the entries of a map, in the order of its keys.
 fn members_in<'a>(
     alloc: Global,
     state: &BTreeMap<&'a Key, &'a StoredObject>,

@@ -14,8 +14,8 @@ use revisions::Watched;
 use selector::View;
 use std::alloc::Global;
 
-/// What can be watched. Others may write between two calls, so that what a call gives is a relation between what was seen before
-/// it and after it. Out of memory is an answer as each refusal is.
+/// What can be watched. Others may write between two calls, so that what a call gives is a relation between what was seen
+/// before it and after it. Out of memory is an answer as each refusal is.
 pub trait WatchSource {
     /// A watch of a view from a revision is given this, of which so many changes at most.
     ghost Watches: { Self → history.View → ℕ → ℕ → Result versions.Watched Refusal → Self → Type 0 };
