@@ -84,7 +84,7 @@ fn read_bytes<R: Read + Drop>(
     }
 }
 
-/// Goes on to where there are bytes of a chunk, or to the end of the body.
+/// Reads on to where there are bytes of a chunk, or to the end of the body.
 #[tactic(auto, using(crate::proofs::Passing::reaches_stay))]
 fn ready<R: Read + Drop>(device: &mut Watched<R>, here: Place) -> Result<Place, ChunkFault>
     requires { device.old.failed ≡ false }

@@ -46,7 +46,7 @@ impl<D: Drop> Watched<D> {
         self.device
     }
 
-    /// Raises the flag for an error that does not ask for the call again.
+    /// Sets the flag, if the error does not ask for the call again.
     fn note(&mut self, error: &io::Error)
         ensures device { self.new.device ≡ self.old.device }
         ensures interrupted { error_kind error.now ≡ ErrorKind.Interrupted → self.new.failed ≡ self.old.failed }

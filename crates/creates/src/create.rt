@@ -32,7 +32,7 @@ use validate::{check_create, defaults};
 /// The 48 bits of a uid that say in which cluster it was given.
 const CLUSTER: u64 = 0;
 
-/// Returns a new object of a kind in a namespace, of what a body says.
+/// Returns a new object of a kind in a namespace, made of a body.
 pub fn create(
     alloc: Global,
     store: &Store,
@@ -77,7 +77,7 @@ fn given_key(alloc: Global, kind: Kind, namespace: &str, name: &str) -> Result<K
     })
 }
 
-/// Returns the key of a new object: with the name that it says, or one that is made, or, where it says nothing of it, none.
+/// Returns the key of a new object: with the name that it gives, or one that is made, or, where it gives neither, none.
 fn new_key(
     alloc: Global,
     store: &Store,

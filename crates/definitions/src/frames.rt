@@ -30,7 +30,7 @@ impl ChangeKind {
     ghost use Rattle.std.specs.Prelude.{◌≡◌};
     ghost use Rattle.definitions.specs.Frames.{frame_kind};
 
-    /// Returns the type of the change's frame.
+    /// Returns the type of the event's frame.
     pub fn frame_kind(self) -> FrameKind
         ensures { result ≡ frame_kind self }
     {
@@ -46,7 +46,7 @@ impl FrameKind {
     ghost use Rattle.std.specs.Prelude.{◌≡◌};
     ghost use Rattle.definitions.specs.Frames.{kind_text, kind_named};
 
-    /// Returns what a frame of the kind says in its member `type`.
+    /// Returns the member `type` of a frame of the kind.
     pub fn text(self) -> &'static str
         ensures { result.now ≡ kind_text self }
     {

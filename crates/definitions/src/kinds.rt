@@ -164,21 +164,21 @@ impl Kind {
         self.group().name()
     }
 
-    /// Returns what an object of the kind says in its member `kind`.
+    /// Returns the member `kind` of an object of the kind.
     pub fn name(self) -> &'static str
         ensures { result.now ≡ kind_text self }
     {
         self.facts().name
     }
 
-    /// Returns what a list of its objects says in its member `kind`.
+    /// Returns the member `kind` of a list of its objects.
     pub fn list_name(self) -> &'static str
         ensures { result.now ≡ list_kind self }
     {
         self.facts().list_name
     }
 
-    /// Returns what they say in their member `apiVersion`.
+    /// Returns the member `apiVersion` of its objects and lists.
     pub fn api_version(self) -> &'static str
         ensures { result.now ≡ api_version self }
     {

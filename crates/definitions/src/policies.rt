@@ -42,7 +42,7 @@ impl StatedPolicy {
     ghost use Rattle.std.specs.Prelude.{◌≡◌, option_map};
     ghost use Rattle.definitions.specs.DeleteOptions.{stated_policy};
 
-    /// Returns what a text, where there is one, says of a policy.
+    /// Returns the policy that a text names, where there is a text.
     pub fn read(text: Option<&str>) -> StatedPolicy
         ensures { result ≡ stated_policy (option_map (λ s. s.now) text.entry) }
     {

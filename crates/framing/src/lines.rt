@@ -18,7 +18,7 @@ pub struct Lines {
     pub fault: Option<FrameFault>,
 }
 
-/// Reads the whole lines of bytes of which the first `known` hold no newline.
+/// Reads the whole lines of bytes of which the first `known` have no newline.
 pub fn read_lines(alloc: Global, bytes: &[u8], known: usize) -> Result<Lines, Want>
     requires within { known ≤ length bytes.now }
     requires partial { IsPartial (take known bytes.now) }

@@ -42,7 +42,7 @@ pub fn replay_with<R: BufRead, W: Write>(
     }
 }
 
-/// Answers the request lines that are read as `replay_with` does, keeping the last 1024 changes of each kind.
+/// Answers the request lines that are read as `replay_with` does, recording the last 1024 changes of each kind.
 pub fn replay<R: BufRead, W: Write>(
     alloc: Global,
     reader: &mut R,

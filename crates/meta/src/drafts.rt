@@ -66,7 +66,7 @@ impl Object {
 }
 
 impl Draft {
-    /// Takes out the member `name` of the metadata, if it is there.
+    /// Removes the member `name` of the metadata, if it is there.
     pub fn remove(&mut self, name: &str)
         ensures metadata { self.new.metadata ≡ without name.now self.old.metadata }
         ensures rest { self.new.rest ≡ self.old.rest }

@@ -1,4 +1,4 @@
-//! Objects as a store keeps them.
+//! Objects as they are stored.
 ghost use Rattle.std.specs.Prelude.{◌≡◌, ◌≤◌, ◌++◌, Some, IfOk, OnOk, option_map, string_bytes, false};
 ghost use Rattle.serde_json.specs.Data.{depth};
 ghost use Rattle.serde_json.specs.Read.{read, max_depth};

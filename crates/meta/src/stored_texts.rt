@@ -111,7 +111,7 @@ impl StoredTexts {
     }
 }
 
-/// Returns the value that a text says. The text of each object says one, so the error is running out of memory.
+/// Returns the value of a text. The text of each object has one, so the error is running out of memory.
 fn read_back(alloc: Global, text: &str) -> Result<Value, AllocError>
     ensures { IfOk result (λ v. read text.now ≡ Some (view v)) }
 {

@@ -57,7 +57,7 @@ fn kept_after(end: Option<End>, kept: usize) -> usize
     }
 }
 
-/// Takes in bytes of which the first `known` hold no newline, where the last revision is `last`.
+/// Takes in bytes of which the first `known` have no newline, where the last revision is `last`.
 pub fn take_in(
     alloc: Global,
     kind: Kind,

@@ -79,7 +79,7 @@ fn query_of<'t>(target: &'t str) -> &'t str
     }
 }
 
-/// Returns what a target's query adds to what a method asks of the route. Members that are not known say nothing, and of those
+/// Returns what a target's query adds to what a method asks of the route. Unknown members are ignored, and of those
 /// with one name the first counts.
 pub fn read_query(
     alloc: Global,

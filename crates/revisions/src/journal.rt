@@ -63,7 +63,7 @@ impl Journal {
         Ok(())
     }
 
-    /// Takes the newest write back. It takes no memory.
+    /// Removes the newest write. It takes no memory.
     pub fn undo(&mut self)
         ensures { self.new ≡ take (length self.old - 1) self.old }
     {

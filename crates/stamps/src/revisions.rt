@@ -14,7 +14,7 @@ fn has_digits(text: &str) -> bool
     text.bytes().all(|byte| b'0' <= byte && byte <= b'9')
 }
 
-/// Returns the revision that a text writes: `0`, or digits without a leading zero, below 2^53.
+/// Returns the revision that a text names: `0`, or digits without a leading zero, below 2^53.
 pub fn read_revision(text: &str) -> Option<u64>
     ensures { result ≡ revision_of text.now }
 {

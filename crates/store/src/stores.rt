@@ -95,8 +95,8 @@ impl Store {
             || self.revision() >= GREATEST_REVISION
     }
 
-    /// Takes one write, which has the next revision, and gives the object that was under its key. An error changes
-    /// nothing: storage is full for just the writes that overflow it, and memory can be wanting.
+    /// Applies one write, which has the next revision, and returns the object that was under its key. An error changes
+    /// nothing: storage is full for just the writes that overflow it, and memory can run out.
     pub fn apply(&mut self, write: Write) -> Result<Option<StoredObject>, Fault>
         ensures ok { OnOk result (self.new ≡ written self.old (write_of write)) }
         ensures before { IfOk result (λ before. option_map (λ o. o.value) before

@@ -62,7 +62,7 @@ fn delete_held(
     }
 }
 
-/// Returns the HTTP status code for an object that is not removed: it is accepted that its dependents go first.
+/// Returns the HTTP status code where the object is not removed: 202 where its dependents are to be deleted first.
 fn kept_code(policy: Option<Policy>) -> u16
     ensures { result ≡ kept_code policy }
 {
@@ -136,7 +136,8 @@ fn remove(
     Ok((Reply { code: 200, text }, Some(removal)))
 }
 
-/// Returns the text that answers a removal: of a Pod the Pod, at the revision of its removal, of the others that it is gone.
+/// Returns the text that answers a removal: of a Pod the Pod, at the revision of its removal, of another kind a Status that
+/// names the object.
 fn removal_text(alloc: Global, key: &Key, existing: Object, before: u64) -> Result<String, AllocError>
     requires { before ≤ greatest_revision }
     ensures { IfOk result (λ t. string_bytes t
@@ -151,7 +152,7 @@ fn removal_text(alloc: Global, key: &Key, existing: Object, before: u64) -> Resu
     }
 }
 
-/// Returns the text that says that an object is gone.
+/// Returns the text of the Status that answers the removal of an object.
 fn gone_text(alloc: Global, key: &Key, existing: &Object) -> Result<String, AllocError>
     ensures { IfOk result (λ t. string_bytes t ≡ compact_text (gone (key_of key.now) existing.now.value)) }
 {

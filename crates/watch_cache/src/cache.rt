@@ -52,7 +52,8 @@ impl Cache {
     ghost use Rattle.watch_cache.specs.Changes.{change_seen};
     ghost use Rattle.watch_cache.specs.Served.{Serves};
 
-    /// Returns a cache of a kind that keeps the last `window` changes and has none so far. The error is running out of memory.
+    /// Returns a cache of a kind that records the last `window` changes and has none so far. The error is running out of
+    /// memory.
     pub fn new(alloc: Global, kind: Kind, window: usize) -> Result<Cache, AllocError>
         ensures { IfOk result (λ c. c ≡ opened kind window) }
     {
@@ -97,7 +98,7 @@ impl Cache {
         self.floor = raised(self.floor, dropped);
     }
 
-    /// Serves nothing below a revision any more. It takes no memory.
+    /// Raises the floor to a revision, if it is lower. It takes no memory.
     pub fn compact(&mut self, revision: u64)
         ensures { self.new ≡ compacted_to self.old revision }
     {

@@ -63,7 +63,7 @@ impl Caches {
         self.caches[place].record(change);
     }
 
-    /// Serves nothing below a revision any more, of no kind. It takes no memory.
+    /// Raises the floor of each kind to a revision, if it is lower. It takes no memory.
     pub fn compact(&mut self, revision: u64)
         ensures { self.new ≡ (λ k. compacted_to (self.old k) revision) }
     {

@@ -48,7 +48,7 @@ pub(crate) fn undone_to<'a>(
     members_in(alloc, &state)
 }
 
-/// Members, copied.
+/// Returns a copy of members.
 fn copied<'a>(alloc: Global, members: &[Member<'a>]) -> Result<Vec<Member<'a>>, AllocError>
     ensures { IfOk result (λ ms. map member_of ms.items ≡ map member_of members.entry.now) }
 {

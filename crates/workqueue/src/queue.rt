@@ -68,7 +68,7 @@ impl Queue {
         Ok(())
     }
 
-    /// Hands out the key that waits longest, if one waits.
+    /// Removes the key that waits longest, if one waits, and hands it to a worker.
     pub fn get(&mut self) -> Result<Option<WorkKey>, AllocError>
         ensures ok { OnOk result (self.new ≡ got self.old) }
         ensures handed { IfOk result (λ k. option_map work_key_of k ≡ handed self.old) }
@@ -97,7 +97,7 @@ impl Queue {
         }
     }
 
-    /// From now on nothing is added; what waits is still handed out.
+    /// Shuts the queue: from now on nothing is added; what waits is still handed out.
     pub fn shut_down(&mut self)
         ensures { self.new ≡ shut self.old }
     {
