@@ -1,6 +1,6 @@
-//! What a watch sends: the kinds of changes and of frames.
+//! What a watch sends: the kinds of events and of frames.
 
-/// What a write did to an object, as a view shows it.
+/// What a write did to an object, as a view sees it: the kind of an event.
 #[derive(Clone, Copy, Debug, PartialEq, Eq)]
 pub enum ChangeKind {
     /// The object came into the view.

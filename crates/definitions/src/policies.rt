@@ -1,6 +1,6 @@
 //! What becomes of the dependents of an object that is deleted.
 
-/// What becomes of an object's dependents, by the finalizer that its deletion is left to (Kubernetes, Garbage
+/// What becomes of an object's dependents, by the finalizer that its deletion waits for (Kubernetes, Garbage
 /// Collection, Cascading deletion).
 #[derive(Clone, Copy, Debug, PartialEq, Eq)]
 pub enum Policy {

@@ -1,4 +1,4 @@
-//! What the members of an object are described by.
+//! How the members of an object are described.
 use crate::kinds::Kind;
 
 /// What a value has to be.

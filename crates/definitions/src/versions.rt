@@ -5,7 +5,7 @@
 pub enum At {
     /// The present one.
     Present,
-    /// The present one, which may not be below this one.
+    /// The present one, which may not be older than this one.
     NotOlder(u64),
     /// This one.
     Exact(u64),

@@ -46,7 +46,7 @@ DeletesSpareFinalizers =
     → OfRemoved h (accept (delete_object k o) h moment)
     (λ gone existing. (gone ≡ k) × (all_of_policy (finalizers existing) ≡ true) × (o.policy ≡ None → finalizers existing ≡ no_items))
 
--- every other request removes only what is being deleted, when it takes the last finalizer (Kubernetes, Finalizers)
+-- every other request removes only what is being deleted, when it removes the last finalizer (Kubernetes, Finalizers)
 abbrev pub LastFinalizersRemove : Type 0
 LastFinalizersRemove =
     (q : Request) (h : History) (moment : List ℕ) → is_delete q ≡ false

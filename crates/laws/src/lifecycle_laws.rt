@@ -7,7 +7,7 @@ pub fn deletes_spare_finalizers()
     ensures { DeletesSpareFinalizers }
 {}
 
-/// Any other request removes an object only while it is being deleted, by taking its last finalizer.
+/// Any other request removes an object only while it is being deleted, by removing its last finalizer.
 pub fn last_finalizers_remove()
     ensures { LastFinalizersRemove }
 {}

@@ -9,7 +9,7 @@ use std::collections::{BTreeSet, VecDeque};
 use std::marker::Model;
 use work_keys::WorkKey;
 
-/// The keys that wait, first come first; those that want a look; those in workers' hands.
+/// The keys that wait, first come first; those that are to be processed; those in workers' hands.
 /// The list has room for each key in a worker's hands, so that `done` can put it back.
 #[derive(Drop)]
 pub struct Queue {

@@ -1,4 +1,4 @@
--- JSON values (RFC 8259), and what is done to them: members set and taken out, merge patches.
+-- JSON values (RFC 8259), and what is done to them: members set and removed, merge patches.
 use Rattle.std.specs.Ordering.{nat_cmp, is_eq}
 use Rattle.std.specs.Cmp.Lexicographic.{slice_cmp}
 use Rattle.std.specs.Str.{is_utf8}
