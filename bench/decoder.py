@@ -28,7 +28,7 @@ MOST_MEBIBYTES = 1024
 
 
 def run(program, piece, mebibytes, frame, limit):
-    """The seconds that one run took."""
+    """Returns the seconds that one run took."""
     command = [program, str(piece), str(mebibytes), str(frame)]
     began = time.perf_counter()
     try:
@@ -45,14 +45,14 @@ def run(program, piece, mebibytes, frame, limit):
 
 
 def best(program, piece, mebibytes, frame, asked):
-    """The shortest time of several runs, without what a run on nothing takes."""
+    """Returns the shortest time of several runs, without what a run on nothing takes."""
     shortest = min(run(program, piece, mebibytes, frame, asked.seconds) for _ in range(asked.runs))
     nothing = min(run(program, piece, 0, frame, asked.seconds) for _ in range(asked.runs))
     return max(shortest - nothing, 1e-9)
 
 
 def measure(program, asked):
-    """For each row: its name, the bytes of a piece, the MiB, and the seconds for these and for twice as many."""
+    """Returns for each row its name, the bytes of a piece, the MiB, and the seconds for these and for twice as many."""
     rows = []
     for piece in PIECES:
         once, twice = (best(program, piece, times * asked.mebibytes, FRAME, asked) for times in (1, 2))

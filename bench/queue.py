@@ -28,7 +28,7 @@ WAYS = [("queue", "the queue"), ("plain", "a plain set and deque")]
 
 
 def run(program, way, thousands, limit):
-    """The seconds that one run took. Ends the benchmark where it wrote something else than it is to."""
+    """Returns the seconds that one run took. Ends the benchmark where it wrote something else than it is to."""
     began = time.perf_counter()
     try:
         done = subprocess.run(
@@ -45,7 +45,7 @@ def run(program, way, thousands, limit):
 
 
 def measure(program, asked):
-    """For each way the seconds of the keys that are added, handed out and taken back, the best of several runs."""
+    """Returns for each way the seconds of the keys that are added, handed out and taken back, the best of several runs."""
     best = {(way, thousands): float("inf") for way, _ in WAYS for thousands in (0, asked.thousands)}
     for _ in range(asked.runs):
         for way, thousands in best:

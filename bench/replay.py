@@ -49,12 +49,12 @@ FRAME = b'{"o'
 
 
 def data(number, word):
-    """About 100 bytes of data."""
+    """Returns about 100 bytes of data."""
     return '{"key-%06d":"%s"}' % (number, (word * 100)[:84])
 
 
 def places(count):
-    """Objects all over a store, in an order that leaps."""
+    """Returns objects all over a store, in an order that leaps."""
     return [n * 7_919 % count for n in range(LINES)]
 
 
@@ -67,7 +67,7 @@ def fills(count):
 
 
 def creates(count):
-    """Each with the delete of what it made."""
+    """Returns creates, each with the delete of what it made."""
     return [line for n in range(LINES) for line in (create(f"more-{n:06}", n), f"DELETE {COLLECTION}/more-{n:06}")]
 
 
@@ -76,7 +76,7 @@ def gets(count):
 
 
 def updates(count):
-    """Updates that each change the data."""
+    """Returns updates that each change the data."""
     return [
         f'PUT {COLLECTION}/map-{n:06} {{"metadata":{{"name":"map-{n:06}"}},"data":{data(line, "after ")}}}'
         for line, n in enumerate(places(count))
@@ -84,12 +84,12 @@ def updates(count):
 
 
 def patches(count):
-    """Merge patches that each add a text to the data, or replace it."""
+    """Returns merge patches that each add a text to the data, or replace it."""
     return [f'PATCH {COLLECTION}/map-{n:06} {{"data":{{"patched":"{line}"}}}}' for line, n in enumerate(places(count))]
 
 
 def repeats(count):
-    """How many times a list or a watch of a store of so many objects is asked for."""
+    """Returns how many times a list or a watch of a store of so many objects is asked for."""
     return SHOWN // min(count, MANY)
 
 
@@ -98,17 +98,17 @@ def lists(count):
 
 
 def selections(count):
-    """Lists by four requirements, which all objects meet."""
+    """Returns lists by four requirements, which all objects meet."""
     return [f"GET {COLLECTION}?limit={MANY}&labelSelector=!tier,app+notin+(web,api),zone!=east,role+notin+(db)"] * repeats(count)
 
 
 def watches(count):
-    """Watches of the last changes: the creates' revisions are 2 and up."""
+    """Returns watches of the last changes: the creates' revisions are 2 and up."""
     return [f"GET {COLLECTION}?watch=true&resourceVersion={max(count - MANY, 0) + 1}"] * repeats(count)
 
 
 def peak_memory(process):
-    """The most that a process had resident so far, in KiB; 0 once it has ended. (What `wait4` tells counts this program too.)"""
+    """Returns the most that a process had resident so far, in KiB; 0 once it has ended. (What `wait4` tells counts this program too.)"""
     try:
         lines = pathlib.Path(f"/proc/{process.pid}/status").read_text().splitlines()
     except OSError:
@@ -117,7 +117,7 @@ def peak_memory(process):
 
 
 def run(command, given, written, limit):
-    """The seconds of the processor that one run took, and its peak resident memory in KiB, as it was last seen."""
+    """Returns the seconds of the processor that one run took, and its peak resident memory in KiB, as it was last seen."""
     memory, ended = 0, 0
     with open(given, "rb") as source, open(written, "wb") as sink:
         began = time.monotonic()
@@ -160,7 +160,7 @@ class Trial:
 
 
 def tried(program, folder, name, done, lines, codes, limit):
-    """The trial of an input, after one run of it whose replies begin as they are to."""
+    """Returns the trial of an input, after one run of it whose replies begin as they are to."""
     given, written = folder / name, folder / "written"
     given.write_text("".join(f"{line}\n" for line in lines))
     run([program, "replay"], given, written, limit)
@@ -170,7 +170,7 @@ def tried(program, folder, name, done, lines, codes, limit):
 
 
 def parts(count):
-    """Of each part its name, its lines, how many of them are counted as one, and how its replies begin."""
+    """Yields for each part its name, its lines, how many of them are counted as one, and how its replies begin."""
     many = min(count, MANY)
     one_by_one = [("gets", gets), ("updates", updates), ("patches", patches)]
     by_many = [(f"lists of {many:,}", lists), (f"lists of {many:,} by four requirements", selections)]
@@ -183,7 +183,7 @@ def parts(count):
 
 
 def trials(program, folder, count, limit):
-    """The trials of a store of so many objects; the first only fills it."""
+    """Yields the trials of a store of so many objects; the first only fills it."""
     folder.mkdir()
     filled, codes = fills(count), [b"201"] * count
     yield tried(program, folder, "creates into the empty store", count, filled, codes, limit)
@@ -192,7 +192,7 @@ def trials(program, folder, count, limit):
 
 
 def rows(idle, fill, others):
-    """Of a fill and the trials after it each name, and how many, how many seconds, bytes and KiB of memory these took."""
+    """Yields for a fill and the trials after it each name, and how many, how many seconds, bytes and KiB of memory these took."""
     for before, trial in [(idle, fill)] + [(fill, other) for other in others]:
         yield trial.name, trial.done, trial.seconds - before.seconds, trial.length - before.length, trial.memory
 

@@ -9,7 +9,7 @@ BUILD_SECONDS = 3600
 
 
 def arguments(doc, amount, most, default, runs):
-    """The arguments: `--program`, `--runs`, `--seconds`, and how much is done, from 1 to `most`, under a name of its own."""
+    """Returns the arguments: `--program`, `--runs`, `--seconds`, and how much is done, from 1 to `most`, under a name of its own."""
     parser = argparse.ArgumentParser(description=doc.splitlines()[0])
     parser.add_argument("--program")
     parser.add_argument(f"--{amount}", type=int, default=default)
@@ -22,7 +22,7 @@ def arguments(doc, amount, most, default, runs):
 
 
 def built(path, crate, words):
-    """The program of a crate, proved and built with a first run on these words where none is given."""
+    """Returns the program of a crate, proved and built with a first run on these words where none is given."""
     if path:
         return path
     print(f"building, in crates/{crate}: rt run -- {' '.join(words)}", file=sys.stderr)

@@ -24,13 +24,13 @@ LONGEST_TRIED = 1_048_576
 
 
 def cases(word):
-    """The names of the cases, in order."""
+    """Returns the names of the cases, in order."""
     names = {path.name.split(".")[0] for path in CASES.iterdir()}
     return sorted(name for name in names if word in name)
 
 
 def whole(short):
-    """The bytes that a file in short means."""
+    """Returns the bytes that a file in short means."""
     lines, number = [], 0
     for line in short.decode().splitlines():
         count, text = line.split(" ", 1)
@@ -40,13 +40,13 @@ def whole(short):
 
 
 def read(name, end):
-    """The bytes of a file of a case."""
+    """Returns the bytes of a file of a case."""
     path = CASES / f"{name}.{end}"
     return path.read_bytes() if path.exists() else whole((CASES / f"{name}.{end}.short").read_bytes())
 
 
 def by_program(program, names):
-    """The names of the cases that a built program fails."""
+    """Returns the names of the cases that a built program fails."""
     failed = []
     for name in names:
         given, wanted = read(name, "replay"), read(name, "expect")
@@ -58,7 +58,7 @@ def by_program(program, names):
 
 
 def show(name, wanted, written, code):
-    """The first line that differs."""
+    """Returns the first line that differs."""
     print(f"FAILED {name} (exit {code})")
     for number, (want, got) in enumerate(zip(wanted.split(b"\n"), written.split(b"\n")), 1):
         if want != got:
@@ -68,7 +68,7 @@ def show(name, wanted, written, code):
 
 
 def by_try(names):
-    """The names of the cases that the program fails as `rt try` builds it."""
+    """Returns the names of the cases that the program fails as `rt try` builds it."""
     with tempfile.TemporaryDirectory() as folder:
         for name in names:
             (pathlib.Path(folder) / name).write_bytes(read(name, "replay"))
@@ -84,7 +84,7 @@ def by_try(names):
 
 
 def has_passed(words):
-    """Whether the words of a line of `rt try --cases` say that a case ended well, with the output that is wanted."""
+    """Returns whether the words of a line of `rt try --cases` say that a case ended well, with the output that is wanted."""
     return words[:1] != [] and words[0].startswith("case=") and {"run=ended", "status=0", "output=expected"} <= set(words)
 
 

@@ -41,12 +41,12 @@ What follows from the [definitions](DEFINITIONS.md), whatever code meets them. E
 
 
 def text_of(path):
-    """What a file says."""
+    """Returns what a file says."""
     return path.read_text(encoding="utf-8")
 
 
 def comment_of(path):
-    """The first comment line of a file, without the standards that it names in parentheses."""
+    """Returns the first comment line of a file, without the standards that it names in parentheses."""
     first = text_of(path).split("\n", 1)[0]
     if not first.startswith("-- "):
         sys.exit(f"{path}: no comment stands at its head")
@@ -54,17 +54,17 @@ def comment_of(path):
 
 
 def sentence_of(path):
-    """What a file of code says of itself at its head."""
+    """Returns what a file of code says of itself at its head."""
     return " ".join(line.removeprefix("//!").strip() for line in text_of(path).splitlines() if line.startswith("//!"))
 
 
 def modules_of(path):
-    """The modules that a file names, in its order."""
+    """Returns the modules that a file names, in its order."""
     return re.findall(r"^pub mod (\w+)$", text_of(path), re.M)
 
 
 def used_words():
-    """The words that definitions and laws import of each module, by crate and module."""
+    """Returns the words that definitions and laws import of each module, by crate and module."""
     used = {}
     paths = [path for crate in ["definitions", "laws", *BESIDE] for path in (CRATES / crate / "specs").rglob("*.antt")]
     for path in paths:
@@ -74,18 +74,18 @@ def used_words():
 
 
 def words_of(crate, path, used):
-    """The words of a file that are used elsewhere and that a comment stands above, as code."""
+    """Returns the words of a file that are used elsewhere and that a comment stands above, as code."""
     words = re.findall(r"^--[^\n]*\n(?:abbrev )?pub (?:data |record )?(?!mod |use )([^\s:]+)", text_of(path), re.M)
     return "".join(f" `{word}`" for word in words if word in used.get((crate, path.stem), ()))
 
 
 def row_of(crate, path, used):
-    """The row of a file: its name, what it says of itself, and its words."""
+    """Returns the row of a file: its name, what it says of itself, and its words."""
     return f"- **{path.stem}**: {comment_of(path)}{words_of(crate, path, used)}"
 
 
 def folder_rows(name, used):
-    """The heading of a folder, and a row for each of its files."""
+    """Returns the heading of a folder, and a row for each of its files."""
     head = SPECS / f"{name}.antt"
     if not modules_of(head):
         return ["", f"## {name}", "", comment_of(head) + words_of("definitions", head, used)]
@@ -94,13 +94,13 @@ def folder_rows(name, used):
 
 
 def crate_rows(crate, modules, used):
-    """The heading of a crate of definitions, its own sentence, and a row for each of its files."""
+    """Returns the heading of a crate of definitions, its own sentence, and a row for each of its files."""
     rows = ["", f"## `{crate}`", "", sentence_of(CRATES / crate / "src/lib.rt"), ""]
     return rows + [row_of(crate, CRATES / crate / f"specs/{module}.antt", used) for module in modules]
 
 
 def law_rows(path):
-    """The heading of a file of laws, its own sentence, and for each law its name and what it says."""
+    """Returns the heading of a file of laws, its own sentence, and for each law its name and what it says."""
     rows = ["", f"## `{path.name}`", "", sentence_of(path), ""]
     for lines, name in re.findall(r"((?:^///.*\n)+)pub fn (\w+)", text_of(path), re.M):
         sentence = " ".join(line.removeprefix("///").strip() for line in lines.splitlines())
@@ -109,7 +109,7 @@ def law_rows(path):
 
 
 def pages():
-    """Both pages by their names."""
+    """Returns both pages by their names."""
     used = used_words()
     words, laws = [HEAD.rstrip("\n")], [LAWS_HEAD.rstrip("\n")]
     for folder in modules_of(SPECS / "Lib.antt"):

@@ -20,7 +20,7 @@ ASIDE = ("Tests", "Benchmarks")
 
 
 def layers():
-    """The layers by their names: what each is for, and its crates with what they use."""
+    """Returns the layers by their names: what each is for, and its crates with what they use."""
     found, name = {}, None
     for line in (ROOT / "crates.txt").read_text(encoding="utf-8").splitlines():
         if heading := re.match(r"# (\w[\w ]*): (.*)$", line):
@@ -32,7 +32,7 @@ def layers():
 
 
 def job_of(crate):
-    """What a crate is for: the first paragraph of its root file."""
+    """Returns what a crate is for: the first paragraph of its root file."""
     for root in ("lib.rt", "main.rt"):
         path = ROOT / "crates" / crate / "src" / root
         if path.exists():
@@ -51,7 +51,7 @@ def edges(found):
     }
 
     def reached(name, seen):
-        """All layers below one."""
+        """Returns all layers below one."""
         for other in below[name] - seen:
             seen.add(other)
             reached(other, seen)
@@ -64,7 +64,7 @@ def edges(found):
 
 
 def picture(found):
-    """The layers as Mermaid draws them."""
+    """Returns the layers as Mermaid draws them."""
     rows = ["```mermaid", "flowchart BT"]
     for name, (_, crates) in found.items():
         if name not in ASIDE:
@@ -74,7 +74,7 @@ def picture(found):
 
 
 def table(found):
-    """A row for each crate: its layer and what it is for."""
+    """Returns a row for each crate: its layer and what it is for."""
     rows = ["| Layer | Crate | What it is for |", "|---|---|---|"]
     for name, (_, crates) in found.items():
         for place, crate in enumerate(crates):
@@ -83,7 +83,7 @@ def table(found):
 
 
 def made():
-    """What stands between the two marks."""
+    """Returns what stands between the two marks."""
     found = layers()
     return "\n".join([*picture(found), "", *table(found)]) + "\n"
 

@@ -49,7 +49,7 @@ BAD_TYPE = refused(415, "UnsupportedMediaType", "unsupported media type")
 
 
 def is_utf8(text):
-    """Whether bytes are a text."""
+    """Returns whether bytes are a text."""
     try:
         text.decode()
         return True
@@ -76,7 +76,7 @@ def parts_of(sent):
 
 
 def target_may_be(sent):
-    """Whether the target of a start line that is not whole is a text, where it has ended."""
+    """Returns whether the target of a start line that is not whole is a text, where it has ended."""
     words = sent.lstrip(b"\r\n").split(b" ")
     return len(words) < 3 or is_utf8(words[1])
 

@@ -7,6 +7,6 @@ use Rattle.definitions.specs.Verbs.{object_in}
 use Rattle.meta.specs.declared.faults.Fault.{Fault}
 use Rattle.meta.specs.declared.faults.Fault.TheVariants as fault
 
--- the fault is want of memory, or the part of the request for which the body says no object of the kind
+-- the fault is running out of memory, or the part of the request for which the body is no object of the kind
 abbrev pub RefusesSaid : Kind → Data → Fault → Type 0
 RefusesSaid k d e = (e ≡ fault.NoMemory) ⊎ ((p : Part) × (e ≡ fault.BadRequest p) × (object_in k d ≡ Err p))

@@ -1,4 +1,4 @@
--- In what an object that is held is another than the one that is named.
+-- In what a stored object is another than the one that is named.
 use Rattle.std.specs.Prelude.{Option, Some, None, if◌then◌else◌}
 use Rattle.serde_json.specs.Data.{Data}
 use Rattle.definitions.specs.declared.refusals.Mismatch.{Mismatch}

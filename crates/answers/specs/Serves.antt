@@ -15,7 +15,7 @@ pub record Answers (a : Answer) (r : Reply) (w : Option Write) : Type 0 where
   pub text : string_bytes r.text ≡ compact_text a.body
   pub write : option_map write_of w ≡ a.write
 
--- the result is the outcome, or want of memory
+-- the result is the outcome, or running out of memory
 abbrev pub Serves : Outcome → Result (Reply × Option Write) Fault → Type 0
 Serves (answered a) (Ok p) = Answers a p.0 p.1
 Serves (refused f) (Ok p) = ⊥

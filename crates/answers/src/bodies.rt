@@ -10,7 +10,7 @@ use serde_json::Value;
 use std::alloc::Global;
 use validate::defaults;
 
-/// Returns what a body says as an object of a kind, with what is filled in where its spec leaves it out. The errors are the
+/// Returns a body read as an object of a kind, with the defaults of its spec. The errors are the
 /// part of the request at fault, and running out of memory.
 pub fn object_in(alloc: Global, kind: Kind, body: Value) -> Result<Object, Fault>
     ensures object_in { IfOk result (λ o. object_in kind (view body) ≡ Ok o.value) }

@@ -1,5 +1,5 @@
 //! What the answers of all verbs are made of: bodies that are read, names and versions that are compared, generations,
-//! objects put in the place of others, what is kept of them, and the texts of lists.
+//! objects put in the place of others, the stored objects, and the texts of lists.
 #![tactic(auto)]
 
 pub mod bodies;

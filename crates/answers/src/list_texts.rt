@@ -65,7 +65,7 @@ fn likely_len(members: &[Member<'_>]) -> usize {
     len
 }
 
-/// Returns what a page says of itself.
+/// Returns the metadata of a page.
 fn metadata(
     alloc: Global,
     revision: u64,
@@ -111,7 +111,7 @@ fn quoted(alloc: Global, text: &str) -> Result<String, AllocError>
     Value::try_from_str(alloc, text)?.to_string(alloc)
 }
 
-/// Returns what a list of a kind says in its member `kind`, as JSON.
+/// Returns the member `kind` of a list of a kind, as JSON.
 fn list_name(alloc: Global, kind: Kind) -> Result<String, AllocError>
     ensures { IfOk result (λ t. string_bytes t ≡ quoted (kind_text kind ++ codes "List")) }
 {

@@ -29,7 +29,7 @@ fn differs(named: Option<&str>, existing: Option<&str>) -> bool
     }
 }
 
-/// Returns whether an object names the name of a path, and no other namespace.
+/// Returns whether an object has the name of the one in the path, and no other namespace.
 pub fn names_path(key: &Key, object: &Object) -> bool
     ensures { result ≡ names_path (key_of key.now) object.now.value }
 {

@@ -64,7 +64,7 @@ pub fn put_in_place(
     Ok((Reply { code: 200, text }, Some(write)))
 }
 
-/// Returns the object under a key in the place of the stored one or, where nothing keeps that any more, its removal; or the
+/// Returns the object under a key in the place of the stored one or, where the last finalizer is removed, its removal; or the
 /// first refusal: of the length of what is put, the room.
 pub fn replaced(
     alloc: Global,

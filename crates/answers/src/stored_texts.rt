@@ -1,11 +1,11 @@
-//! Objects as they are to be kept, with their texts.
+//! Objects as they are to be stored, with their texts.
 ghost use Rattle.std.specs.Prelude.{◌≡◌, IfOk, string_bytes};
 ghost use Rattle.serde_json.specs.Written.{compact_text};
 
 use meta::{Object, StoredObject};
 use std::alloc::{AllocError, Global};
 
-/// Returns the object as it is to be kept, with a copy of its text for the reply. The text is made once. The error is running
+/// Returns the object as it is to be stored, with a copy of its text for the reply. The text is made once. The error is running
 /// out of memory.
 pub fn stored_with_text(
     alloc: Global,

@@ -23,17 +23,17 @@ asked_seen (Request q) = targets.request (request_of q)
 asked_seen (List view options) = targets.list (view_of view) (list_seen options)
 asked_seen (Watch view options) = targets.watch (view_of view) (watch_seen options)
 
--- the result is what is asked, or this refusal, or want of memory
+-- the result is what is asked, or this refusal, or running out of memory
 abbrev pub Asks : Result targets.Asked Refusal → Result Asked Fault → Type 0
 Asks wanted (Ok a) = wanted ≡ Ok (asked_seen a)
 Asks wanted (Err e) = (e ≡ fault.NoMemory) ⊎ (wanted ≡ Err (refusal_of e))
 
--- the result is this data or refusal, or want of memory
+-- the result is this data or refusal, or running out of memory
 abbrev pub ReadsData : Result Data Refusal → Result Value Fault → Type 0
 ReadsData wanted (Ok v) = wanted ≡ Ok (view v)
 ReadsData wanted (Err e) = (e ≡ fault.NoMemory) ⊎ (wanted ≡ Err (refusal_of e))
 
--- the result is these options or this refusal, or want of memory
+-- the result is these options or this refusal, or running out of memory
 abbrev pub ReadsDelete : Result Options Refusal → Result DeleteOptions Fault → Type 0
 ReadsDelete wanted (Ok o) = wanted ≡ Ok (options_seen o)
 ReadsDelete wanted (Err e) = (e ≡ fault.NoMemory) ⊎ (wanted ≡ Err (refusal_of e))

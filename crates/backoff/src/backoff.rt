@@ -29,7 +29,7 @@ impl Model for Backoff {
 }
 
 impl Backoff {
-    /// No key has failed.
+    /// Returns a table in which no key has failed.
     pub fn new(alloc: Global) -> Backoff
         ensures { result ≡ map.empty }
     {
@@ -38,7 +38,8 @@ impl Backoff {
         }
     }
 
-    /// Returns how long a key that failed waits, in milliseconds: twice as long after each failure, and at most 1,000 seconds.
+    /// Counts a failure of a key, and returns how long the key waits, in milliseconds: twice as long after each failure, and at
+    /// most 1,000 seconds.
     pub fn delay(&mut self, key: &WorkKey) -> Result<u64, AllocError>
         ensures ok { OnOk result (self.new ≡ failed (work_key_of key.now) self.old) }
         ensures delay { IfOk result (λ d. d ≡ delay_after (failures (work_key_of key.now) self.old)) }
@@ -50,7 +51,7 @@ impl Backoff {
         Ok(delay_of(before))
     }
 
-    /// A key that succeeded has no failures.
+    /// Removes the failures of a key that succeeded.
     pub fn forget(&mut self, key: &WorkKey)
         ensures { self.new ≡ map.remove self.old (work_key_of key.now) }
     {

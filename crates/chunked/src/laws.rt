@@ -16,8 +16,8 @@ pub fn bodies_are_read()
     ensures { BodiesAreRead }
 {}
 
-/// Whatever the input is, a body or not: what is read of it is a beginning of each body that begins with what was read, and there is one.
-/// So of `1g` nothing is read.
+/// Whatever the input is, a body or not: what is read of it is a beginning of each body that begins with what was read, and
+/// there is one. So of `1g` nothing is read.
 pub fn nothing_is_invented()
     ensures { NothingIsInvented }
 {}

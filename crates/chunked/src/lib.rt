@@ -1,5 +1,5 @@
-//! Bodies in chunks, as HTTP/1.1 has them: written, and read in any pieces. What is read and written through is watched, so that
-//! who uses it knows whether a call of it has failed.
+//! Bodies in chunks, as HTTP/1.1 has them: written, and read in any pieces. What is read and written through is watched, so
+//! that who uses it knows whether a call of it has failed.
 #![tactic(auto)]
 
 pub mod fault;

@@ -11,8 +11,8 @@ use crate::watched::Watched;
 use httparse::{Status, parse_chunk_size};
 use std::io::Read;
 
-/// How long the line before a chunk may be, with its CR and LF. A size has at most 16 digits; the rest is for an extension, which
-/// is passed over.
+/// How long the line before a chunk may be, with its CR and LF. A size has at most 16 digits; the rest is for an extension,
+/// which is passed over.
 const LONGEST_LINE: usize = 256;
 
 /// Returns what the end of the input makes of a chunk's line that is not whole.
@@ -27,8 +27,8 @@ fn cut_line(line: &[u8]) -> ChunkFault
     }
 }
 
-/// Reads the line before a chunk and nothing beyond it, and returns the size that it says. It is looked at once, when its end has
-/// been read.
+/// Reads the line before a chunk and nothing beyond it, and returns the size that it says. It is looked at once, when its end
+/// has been read.
 #[tactic(auto, using(crate::proofs::Lines::nothing_is_no_line, crate::proofs::Lines::line_read, crate::proofs::Lines::line_malformed))]
 pub(crate) fn read_size<R: Read + Drop>(device: &mut Watched<R>) -> Result<u64, ChunkFault>
     requires { device.old.failed ≡ false }

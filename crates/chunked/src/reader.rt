@@ -84,7 +84,7 @@ fn read_bytes<R: Read + Drop>(
     }
 }
 
-/// Goes on to where there are bytes of a chunk, or to the end of the body.
+/// Reads on to where there are bytes of a chunk, or to the end of the body.
 #[tactic(auto, using(crate::proofs::Passing::reaches_stay))]
 fn ready<R: Read + Drop>(device: &mut Watched<R>, here: Place) -> Result<Place, ChunkFault>
     requires { device.old.failed ≡ false }
@@ -163,13 +163,13 @@ impl<R: Read + Drop> Reader<R> {
         }
     }
 
-    /// Reads bytes of the body, in any pieces, and returns how many: none only at the end of the body, or where `buf` has no room.
-    /// Nothing beyond the body is read, and no memory is needed, so `Want` is never answered.
+    /// Reads bytes of the body, in any pieces, and returns how many: none only at the end of the body, or where `buf` has no
+    /// room. Nothing beyond the body is read, and no memory is needed, so `Want` is never answered.
     ///
-    /// A fault is final: each later call answers it again, and reads nothing. `Malformed` says that nothing that begins with what
-    /// was read is what is left of a body, with lines of up to 256 bytes before its chunks; `Truncated` that the input ended, and
-    /// that what was read is not what is left of a body, but may be continued to be; `Device` that a call of the device failed:
-    /// if one had failed before the first call, nothing is read.
+    /// A fault is final: each later call answers it again, and reads nothing. `Malformed` says that nothing that begins with
+    /// what was read is what is left of a body, with lines of up to 256 bytes before its chunks; `Truncated` that the input
+    /// ended, and that what was read is not what is left of a body, but may be continued to be; `Device` that a call of the
+    /// device failed: if one had failed before the first call, nothing is read.
     #[tactic(auto, using(crate::proofs::Passing::reaches_stay))]
     pub fn read(&mut self, buf: &mut [u8]) -> Result<usize, ChunkFault>
         // Where there is a fault already, it is answered and nothing changes.

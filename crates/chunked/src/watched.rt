@@ -11,9 +11,9 @@ use crate::fault::ChunkFault;
 use std::io;
 use std::io::{ErrorKind, Read, Write};
 
-/// A reader or a writer, and the flag whether a call of it has failed. The flag rises just there: an error that says that the call
-/// was interrupted asks for the call again, and is no failure; a write that takes nothing of a text that is not empty is one.
-/// Nothing lowers the flag.
+/// A reader or a writer, and the flag whether a call of it has failed. The flag rises just there: an error that says that the
+/// call was interrupted asks for the call again, and is no failure; a write that takes nothing of a text that is not empty is
+/// one. Nothing lowers the flag.
 #[derive(Drop)]
 pub struct Watched<D: Drop> {
     device: D,
@@ -46,7 +46,7 @@ impl<D: Drop> Watched<D> {
         self.device
     }
 
-    /// Raises the flag for an error that does not ask for the call again.
+    /// Sets the flag, if the error does not ask for the call again.
     fn note(&mut self, error: &io::Error)
         ensures device { self.new.device ≡ self.old.device }
         ensures interrupted { error_kind error.now ≡ ErrorKind.Interrupted → self.new.failed ≡ self.old.failed }
@@ -205,8 +205,8 @@ impl<W: Write + Drop> Watched<W> {
 }
 
 impl<R: Read + Drop> Watched<R> {
-    /// Reads a part of what is left, again where the device is interrupted; none only at the end, or where there is no room. Where the
-    /// device fails, nothing is read.
+    /// Reads a part of what is left, again where the device is interrupted; none only at the end, or where there is no room.
+    /// Where the device fails, nothing is read.
     pub fn receive(&mut self, buf: &mut [u8]) -> Result<usize, ChunkFault>
         requires { has_failed self.old ≡ false }
         ensures bound { IfOk result (λ n. n ≤ length buf.new) }

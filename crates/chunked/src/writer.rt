@@ -50,9 +50,9 @@ impl<W: Write + Drop> Writer<W> {
         Writer { device }
     }
 
-    /// Writes bytes as a chunk, and flushes the device. There must be some: a chunk without bytes would end the body. Once a call
-    /// of the device has failed nothing more is written, and each call answers that fault; a beginning of the chunk may then
-    /// have been written. Out of memory changes nothing, and the chunk may be asked for again.
+    /// Writes bytes as a chunk, and flushes the device. There must be some: a chunk without bytes would end the body. Once a
+    /// call of the device has failed nothing more is written, and each call answers that fault; a beginning of the chunk may
+    /// then have been written. Out of memory changes nothing, and the chunk may be asked for again.
     pub fn chunk(&mut self, alloc: Global, bytes: &[u8]) -> Result<(), ChunkFault>
         requires { 0 < length bytes.now }
         ensures { Writes (chunk_text bytes.now) W.contents self.old.device self.new.device result }

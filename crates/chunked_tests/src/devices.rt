@@ -39,7 +39,8 @@ impl<'a> Read for Source<'a> {
     }
 }
 
-/// Holds what is written, at most 4 bytes a call, and gives an error of this kind at the call `bad` of `write` or `flush`.
+/// A device that stores what is written, at most 4 bytes a call, and gives an error of this kind at the call `bad` of `write`
+/// or `flush`.
 #[derive(Drop)]
 pub struct Sink {
     pub written: Vec<u8>,

@@ -7,8 +7,8 @@ use std::test::Fail;
 /// Two chunks, the second with an extension, the end, and what follows the body.
 const BODY: &[u8] = b"4\r\nWiki\r\nB;a=\"b\"\r\npedia in ch\r\n0\r\n\r\nnext";
 
-/// Reads in pieces of at most this size up to the end or a fault, which it returns with what was read. It gives up after 100 calls
-/// with `Want`, which no reader answers.
+/// Reads in pieces of at most this size up to the end or a fault, which it returns with what was read. It gives up after 100
+/// calls with `Want`, which no reader answers.
 fn read_all(
     alloc: Global,
     reader: &mut Reader<Source<'_>>,

@@ -17,7 +17,7 @@ printed p t text second o n (shown, at, is) =
     let places : p.precision ≡ None = ap (λ x. x.2) o in
     (shown, rw n at at, rw (low, mark, places) at is)
 
--- what is kept of a text is that text
+-- what is stored of a text is that text
 pub kept : (P : List ℕ → Type 0) (text : List ℕ) (moment : Option (List ℕ)) → P text
     → moment ≡ (if is_moment text then Some text else None) → IfSome moment P
 kept P text moment p e = rw e (by (is_moment text))

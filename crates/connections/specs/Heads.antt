@@ -74,7 +74,7 @@ needs_length Put = true
 needs_length Patch = true
 needs_length Delete = false
 
--- JSON, also where nothing is said (Kubernetes API Concepts, Alternate representations of resources); case does not count in
+-- JSON, also where no media type is named (Kubernetes API Concepts, Alternate representations of resources); case does not count in
 -- media types (RFC 9110, Media Type)
 abbrev pub is_json_type : Option (List ℕ) → Bool
 is_json_type None = true

@@ -1,4 +1,4 @@
--- The words, in reading order.
+-- The definitions, in reading order.
 pub mod Heads
 pub mod Checks
 pub mod Connections

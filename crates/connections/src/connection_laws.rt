@@ -1,8 +1,8 @@
 //! What follows for whoever speaks over a connection.
 ghost use Rattle.connections.specs.Laws.{OneThingIsAsked, HeadsAsk, HalfAHeadAsksNothing, HalfABodyAsksNothing, LargeHeadsAreRefused, ManyFieldsAreRefused, IllFormedHeadsAreRefused, RequestsAreRead, ProperRequestsAreRead};
 
-/// The bytes of a connection ask one thing, but where two are allowed: of bytes that nothing makes a head, if a limit is passed too, or
-/// if they end in a target.
+/// The bytes of a connection ask one thing, but where two are allowed: of bytes that nothing makes a head, if a limit is passed
+/// too, or if they end in a target.
 pub fn one_thing_is_asked()
     ensures { OneThingIsAsked }
 {}
@@ -42,8 +42,8 @@ pub fn requests_are_read()
     ensures { RequestsAreRead }
 {}
 
-/// Where a head is as HTTP itself wants it, what the request asks, or why it is refused, is what any request of its method, its target and
-/// its body asks: the same refusals, in the same order.
+/// Where a head is as HTTP itself wants it, what the request asks, or why it is refused, is what any request of its method, its
+/// target and its body asks: the same refusals, in the same order.
 pub fn proper_requests_are_read()
     ensures { ProperRequestsAreRead }
 {}

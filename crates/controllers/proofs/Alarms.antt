@@ -149,7 +149,7 @@ module _ (m : Delays) (k : WorkKey) where
           ∙ ap (λ b. not (same_at a.at before && true) && ((same_at a.at at && true) || b)) (sym (at_key a (Some before) some e))
       by a false e = sym (contains-alarms m a) ∙ elsewhere (same_at a.at at) (same_at a.at before) (set.contains (alarm_set m) a)
 
-  -- a key whose delay is taken out has no alarm
+  -- a key whose delay is removed has no alarm
   pub alarms_removed : (before : ℕ) → map_of.get m k ≡ Some before → alarm_set (map_of.remove m k) ≡ set.remove (alarm_set m) (alarm_of (k, before))
   alarms_removed before some =
       same_set alarm_total alarm_tells _ _

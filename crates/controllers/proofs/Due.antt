@@ -75,7 +75,7 @@ module _ (m : Delays) (a : Alarm) (ks : List Alarm) (h : AreAlarms m (a ∷ ks))
 pub get-still : (now : ℕ) (m : Delays) (q : WorkKey) → map_of.get (still_delayed now m) q ≡ cond (not (has_come now (map_of.get m q))) (map_of.get m q) None
 get-still now m q = get-retain_keys m (λ k. not (has_come now (map_of.get m k))) q (λ x t. ap (λ o. not (has_come now o)) (get_tied task_total m q x t))
 
--- to take out a key that is due changes nothing of what is left afterwards
+-- to remove a key that is due changes nothing of what is left afterwards
 pub still_without : (now at : ℕ) (m : Delays) (k : WorkKey) → map_of.get m k ≡ Some at → nat_le at now ≡ true → still_delayed now (map_of.remove m k) ≡ still_delayed now m
 still_without now at m k is come =
     same_map task_total task_tells _ _

@@ -1,4 +1,4 @@
--- Codes by which models may store reflectors, keys of work and queues of them.
+-- Codes by which models may store reflectors, work keys and work queues.
 use Rattle.std.specs.Prelude.{ℕ, List, refl, Bool}
 use Rattle.std.specs.Coded.{Coded, code_by, coded×, coded_ℕ, coded_list, coded_bool}
 use Rattle.definitions.specs.declared.kinds.Kind.{Kind}

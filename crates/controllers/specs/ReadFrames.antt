@@ -1,4 +1,4 @@
--- What the bytes of a watch say.
+-- The frames that the bytes of a watch are read as.
 use Rattle.std.specs.Prelude.{ℕ, ◌-◌, ◌==◌, List, [], ◌∷◌, ◌++◌, length, take, get_or, nat_lt, Bool, codes, Option, Some, None, option_map, option_and_then, Result, Ok, Err, if◌then◌else◌}
 use Rattle.std.specs.List.{slice_split}
 use Rattle.std.specs.Str.{is_utf8}
@@ -38,7 +38,7 @@ abbrev pub frame_or_fault : Option Frame → Result Frame FrameFault
 frame_or_fault None = Err NotAFrame
 frame_or_fault (Some e) = Ok e
 
--- what a line says, its newline left out
+-- what a line without its newline is read as
 abbrev pub line_read : List ℕ → Result Frame FrameFault
 line_read l = if has_room l then frame_or_fault (frame_of_line l) else Err TooLong
 
@@ -56,7 +56,7 @@ lines bytes = take (length (cut_at_newlines bytes) - 1) (cut_at_newlines bytes)
 abbrev pub rest : List ℕ → List ℕ
 rest bytes = get_or (cut_at_newlines bytes) (length (cut_at_newlines bytes) - 1) []
 
--- what was read: the events in order, and then the bytes of a line that is not whole, or a fault
+-- what was read: the frames in order, and then the bytes buffered of a line that is not whole yet, or a fault
 pub record Read : Type 0 where
   pub events : List Frame
   pub buffered : List ℕ
@@ -68,7 +68,7 @@ holding left = record { events = []; buffered = left; fault = None }
 abbrev pub failed : FrameFault → Read
 failed f = record { events = []; buffered = []; fault = Some f }
 
--- these events, and then what was read after them
+-- these frames, and then what was read after them
 abbrev pub onto : List Frame → Read → Read
 onto es r = record { events = es ++ r.events; buffered = r.buffered; fault = r.fault }
 
@@ -76,7 +76,7 @@ abbrev pub next : Result Frame FrameFault → Read → Read
 next (Ok e) r = onto (e ∷ []) r
 next (Err f) r = failed f
 
--- an event for each whole line, up to the first that is none; what is left must have room
+-- a frame for each whole line, up to the first that is none; what is left must have room
 abbrev pub read_lines : List (List ℕ) → List ℕ → Read
 read_lines [] left = if has_room left then holding left else failed TooLong
 read_lines (l ∷ ls) left = next (line_read l) (read_lines ls left)

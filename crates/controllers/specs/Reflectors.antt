@@ -33,7 +33,7 @@ use Rattle.controllers.specs.ReadFrames.{Read}
 abbrev pub says : List ℕ → List ℕ → Data → Bool
 says k t d = unwrap_or (option_map (bytes_eq t) (option_and_then as_str (get k d))) false
 
--- the revision that a value's metadata says, if it is one (Kubernetes API Concepts, Resource versions)
+-- the revision that a value's metadata names, if it is one (Kubernetes API Concepts, Resource versions)
 abbrev pub revision : Data → Option ℕ
 revision d = option_and_then revision_of (version d)
 
@@ -42,7 +42,7 @@ pub record Shown : Type 0 where
   pub object : Object
   pub revision : ℕ
 
--- it says which object it is
+-- whether a value has a name, a namespace and a uid
 abbrev pub has_identity : Data → Bool
 has_identity d = is_some (name d) && is_some (namespace d) && is_some (uid d)
 
@@ -56,7 +56,7 @@ shown_read k (Ok d) =
 abbrev pub shown : Kind → Data → Option Shown
 shown k d = shown_read k (reading k d)
 
--- the name that an object says
+-- the key of an object
 abbrev pub name_in : Object → Key
 name_in o = record { kind = o.kind; namespace = unwrap_or (namespace o.value) []; name = unwrap_or (name o.value) [] }
 
@@ -72,12 +72,12 @@ abbrev pub all_shown : Kind → Items → Option (List Object)
 all_shown k no_items = Some []
 all_shown k (item d ds) = option_and_then (λ s. option_map (λ os. s.object ∷ os) (all_shown k ds)) (shown k d)
 
--- whether a name stands twice
+-- whether a key occurs twice
 abbrev pub repeats : List Key → Bool
 repeats [] = false
 repeats (n ∷ ns) = list_any (λ m. is_same_key m n) ns || repeats ns
 
--- objects of which no two have one name
+-- these objects, if no two of them have one key
 abbrev pub apart : List Object → Option (List Object)
 apart os = if repeats (map name_in os) then None else Some os
 
@@ -88,15 +88,15 @@ items_shown k d = option_and_then apart (option_and_then (all_shown k) (option_a
 abbrev pub is_list : Kind → Data → Bool
 is_list k d = says (codes "kind") (list_kind k) d && says (codes "apiVersion") (api_version k) d
 
--- a list of the kind, with a revision and with items that each show an object, no two under one name (Kubernetes API Concepts, Collections)
+-- a list of the kind, with a revision and with items that each show an object, no two under one key (Kubernetes API Concepts, Collections)
 abbrev pub list_in : Kind → Data → Option Listed
 list_in k d = if is_list k d then option_and_then (λ r. option_map (λ os. record { revision = r; objects = os }) (items_shown k d)) (revision d) else None
 
--- the list that a body says, if it says one
+-- the list that a body is read as, if it is one
 abbrev pub list_of : Kind → List ℕ → Option Listed
 list_of k body = if is_utf8 body then option_and_then (list_in k) (read body) else None
 
--- ---- deltas, and the map that they play to
+-- ---- deltas, and the map that they are applied to
 
 -- what becomes of the map, and the revision that is named with it
 pub data Delta : Type 0 where
@@ -119,7 +119,7 @@ play_delta ms (put o) = put_in ms o
 play_delta ms (remove r n) = put_or_remove ms n None
 play_delta ms (mark r) = ms
 
--- deltas one after another
+-- deltas applied one after another
 abbrev pub play_deltas : Members → List Delta → Members
 play_deltas ms [] = ms
 play_deltas ms (d ∷ ds) = play_deltas (play_delta ms d) ds
@@ -150,11 +150,11 @@ is_of k d = says (codes "kind") (kind_text k) d && says (codes "apiVersion") (ap
 abbrev pub marked : Kind → ℕ → Data → Option ℕ
 marked k last d = if is_of k d then option_and_then (if_reached last) (revision d) else None
 
--- the code that a Status says (Kubernetes API Conventions, Response Status Kind)
+-- the code of a Status (Kubernetes API Conventions, Response Status Kind)
 abbrev pub code : Data → Option ℕ
 code d = option_and_then as_u64 (option_and_then as_number (get (codes "code") d))
 
--- whether it says that the changes asked for are gone (RFC 9110, 410 Gone)
+-- whether it says that the events asked for are gone (RFC 9110, 410 Gone)
 abbrev pub is_expiry : Data → Bool
 is_expiry d = unwrap_or (option_map (λ n. n == 410) (code d)) false
 
@@ -205,7 +205,7 @@ run k last (e ∷ es) = going_on last (λ r. run k r es) (step k last e)
 
 -- ---- a reflector
 
--- of a kind: the last revision, how far it is, and the bytes of a frame that is not whole yet
+-- of a kind: the last revision, how far it is, and the bytes buffered of a frame that is not whole yet
 pub record Reflector : Type 0 where
   pub kind : Kind
   pub revision : ℕ
@@ -264,7 +264,7 @@ abbrev pub phase_after : Option End → Phase
 phase_after (Some e) = Listing
 phase_after None = Watching
 
--- and the bytes that were buffered are dropped
+-- and the buffered bytes are dropped
 abbrev pub held_after : Option End → List ℕ → List ℕ
 held_after (Some e) buffered = []
 held_after None buffered = buffered
@@ -278,7 +278,7 @@ ran t r s = record { deltas = t.deltas; ended = end_of t.ended r.fault; after = 
 abbrev pub watched : Read → Reflector → Fed
 watched r s = ran (run s.kind s.revision r.events) r s
 
--- bytes after those buffered; while a list is asked for they are nothing
+-- bytes after those buffered; while a list is asked for they are ignored
 abbrev pub fed_in : Phase → List ℕ → Reflector → Fed
 fed_in Listing bytes s = nothing s
 fed_in Watching bytes s = watched (frames.reading bytes) s

@@ -1,4 +1,4 @@
--- The keys of work that wait for controllers: which are queued, and which are in workers' hands.
+-- The work keys that wait for controllers: which are queued, and which are in workers' hands.
 use Rattle.std.specs.Prelude.{ℕ, ◌||◌, ◌+◌, Bool, true, false, List, [], ◌∷◌, ◌++◌, Option, Some, None, if◌then◌else◌}
 use Rattle.std.specs.Ordering.{nat_cmp, then_cmp, on}
 use Rattle.std.specs.FinSet as set
@@ -13,7 +13,7 @@ turn ReplicaSet = 0
 turn Deployment = 1
 turn Collector = 2
 
--- a key of work: the controller that is to look, and what it is to look at
+-- a work key: the controller that is to look, and what it is to look at
 pub record WorkKey : Type 0 where
   pub controller : Controller
   pub key : Key
@@ -24,7 +24,7 @@ work_key_cmp = then_cmp (on (λ (t : WorkKey). turn t.controller) nat_cmp) (on (
 abbrev pub WorkKeys : Type 0
 WorkKeys = set.FinSet work_key_cmp
 
--- a work queue (client-go, util/workqueue): the keys that wait, first come first; those that want a look; those in workers' hands
+-- a work queue (client-go, util/workqueue): the keys that wait, first come first; those that are to be processed; those in workers' hands
 pub record WorkQueue : Type 0 where
   pub queue : List WorkKey
   pub dirty : WorkKeys
@@ -51,7 +51,7 @@ abbrev pub got_from : List WorkKey → WorkQueue → WorkQueue
 got_from [] w = w
 got_from (k ∷ ks) w = record w { queue = ks; dirty = set.remove w.dirty k; processing = set.insert w.processing k }
 
--- it goes into a worker's hands, and wants no look until it is added again
+-- it goes into a worker's hands, and is not to be processed again until it is added again
 abbrev pub got : WorkQueue → WorkQueue
 got w = got_from w.queue w
 

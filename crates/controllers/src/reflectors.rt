@@ -21,7 +21,7 @@ pub enum Phase {
 /// Why nothing more is taken in of a watch.
 #[derive(Clone, Copy, Debug, PartialEq, Eq)]
 pub enum End {
-    /// The server no longer has the changes that were asked for.
+    /// The server no longer has the events that were asked for.
     Expired,
     /// What came is no frame that may stand there.
     Unreadable,

@@ -32,7 +32,7 @@ use validate::{check_create, defaults};
 /// The 48 bits of a uid that say in which cluster it was given.
 const CLUSTER: u64 = 0;
 
-/// Returns a new object of a kind in a namespace, of what a body says.
+/// Returns a new object of a kind in a namespace, made of a body.
 pub fn create(
     alloc: Global,
     store: &Store,
@@ -77,7 +77,7 @@ fn given_key(alloc: Global, kind: Kind, namespace: &str, name: &str) -> Result<K
     })
 }
 
-/// Returns the key of a new object: with the name that it says, or one that is made, or, where it says nothing of it, none.
+/// Returns the key of a new object: with the name that it gives, or one that is made, or, where it gives neither, none.
 fn new_key(
     alloc: Global,
     store: &Store,
@@ -97,7 +97,7 @@ fn new_key(
     }
 }
 
-/// Returns the object with the first status of a kind, whatever status the body said.
+/// Returns the object with the first status of a kind, whatever status the body has.
 fn with_first_status(alloc: Global, object: Object, kind: Kind) -> Result<Object, AllocError>
     ensures value { IfOk result (λ o. o.value ≡ with_first_status kind object.value) }
     ensures kind { IfOk result (λ o. o.kind ≡ object.kind) }

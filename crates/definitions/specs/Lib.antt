@@ -1,4 +1,4 @@
--- The words, in folders in reading order; each file is also found by its own name.
+-- The definitions, in folders in reading order; each file is also found by its own name.
 pub mod Texts
 pub mod Objects
 pub mod State

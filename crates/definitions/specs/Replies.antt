@@ -9,13 +9,13 @@ use Rattle.definitions.specs.Requests.Targets.{Asked, request, list, watch}
 use Rattle.definitions.specs.Watching.WatchReplies.{watch_lines}
 use Rattle.definitions.specs.Answers.Verbs.{Outcome, refused, history_after, accept}
 
--- what has happened, the moment that it is, and how many of the last writes of each kind are kept for watches and older lists
+-- what has happened, the moment that it is, and how many of the last changes of each kind are recorded for watches and lists of earlier revisions
 pub record Session : Type 0 where
   pub history : History
   pub moment : List ℕ
   pub window : ℕ
 
--- how many writes of each kind are kept where nothing else is said
+-- how many changes of each kind are recorded by default
 abbrev pub default_window : ℕ
 default_window = 1024
 
@@ -23,7 +23,7 @@ default_window = 1024
 abbrev pub start : ℕ → Session
 start window = record { history = []; moment = codes "2026-01-01T00:00:00Z"; window = window }
 
--- what is answered: an outcome, the lines of a watch of a kind, or a compaction, with what has happened then
+-- what is answered: an outcome, the lines of a watch of a kind, or a compaction, with the history after it
 pub data Reply : Type 0 where
   outcome : Outcome → Reply
   shown : Kind → List streams.Line → Reply
@@ -43,7 +43,7 @@ abbrev pub compact_reply : Result History Refusal → Reply
 compact_reply (Err f) = outcome (refused f)
 compact_reply (Ok more) = compacted more
 
--- what has happened once that is answered
+-- the history after a reply
 abbrev pub history_from : History → Reply → History
 history_from h (outcome o) = history_after h o
 history_from h (shown k ls) = h

@@ -1,4 +1,4 @@
--- Kinds, names, JSON values and the small texts that objects carry (labels, moments, revisions, uids), and what selects objects by them.
+-- Kinds, keys, JSON values and the small texts that objects carry (labels, moments, revisions, uids), and what selects objects by them.
 pub mod Kinds
 pub mod Keys
 pub mod Values

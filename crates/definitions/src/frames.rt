@@ -1,6 +1,6 @@
-//! What a watch sends: the kinds of changes and of frames.
+//! What a watch sends: the kinds of events and of frames.
 
-/// What a write did to an object, as a view shows it.
+/// What a write did to an object, as a view sees it: the kind of an event.
 #[derive(Clone, Copy, Debug, PartialEq, Eq)]
 pub enum ChangeKind {
     /// The object came into the view.
@@ -30,7 +30,7 @@ impl ChangeKind {
     ghost use Rattle.std.specs.Prelude.{◌≡◌};
     ghost use Rattle.definitions.specs.Frames.{frame_kind};
 
-    /// Returns the type of the change's frame.
+    /// Returns the type of the event's frame.
     pub fn frame_kind(self) -> FrameKind
         ensures { result ≡ frame_kind self }
     {
@@ -46,7 +46,7 @@ impl FrameKind {
     ghost use Rattle.std.specs.Prelude.{◌≡◌};
     ghost use Rattle.definitions.specs.Frames.{kind_text, kind_named};
 
-    /// Returns what a frame of the kind says in its member `type`.
+    /// Returns the member `type` of a frame of the kind.
     pub fn text(self) -> &'static str
         ensures { result.now ≡ kind_text self }
     {

@@ -22,7 +22,7 @@ pub enum Kind {
     Deployment,
 }
 
-/// What is said of a kind.
+/// The facts of a kind.
 #[derive(Clone, Copy)]
 struct Facts {
     /// Its place in the order of kinds.
@@ -76,7 +76,7 @@ impl Kind {
         Kind::Deployment,
     ];
 
-    /// Returns what is said of the kind: the one table of kinds.
+    /// Returns the facts of the kind: the one table of kinds.
     fn facts(self) -> Facts
         ensures rank { result.rank ≡ rank self }
         ensures name { result.name.now ≡ kind_text self }
@@ -164,21 +164,21 @@ impl Kind {
         self.group().name()
     }
 
-    /// Returns what an object of the kind says in its member `kind`.
+    /// Returns the member `kind` of an object of the kind.
     pub fn name(self) -> &'static str
         ensures { result.now ≡ kind_text self }
     {
         self.facts().name
     }
 
-    /// Returns what a list of its objects says in its member `kind`.
+    /// Returns the member `kind` of a list of its objects.
     pub fn list_name(self) -> &'static str
         ensures { result.now ≡ list_kind self }
     {
         self.facts().list_name
     }
 
-    /// Returns what they say in their member `apiVersion`.
+    /// Returns the member `apiVersion` of its objects and lists.
     pub fn api_version(self) -> &'static str
         ensures { result.now ≡ api_version self }
     {

@@ -1,6 +1,6 @@
 //! What becomes of the dependents of an object that is deleted.
 
-/// What becomes of an object's dependents, by the finalizer that its deletion is left to (Kubernetes, Garbage
+/// What becomes of an object's dependents, by the finalizer that its deletion waits for (Kubernetes, Garbage
 /// Collection, Cascading deletion).
 #[derive(Clone, Copy, Debug, PartialEq, Eq)]
 pub enum Policy {
@@ -12,7 +12,7 @@ pub enum Policy {
     Background,
 }
 
-/// What is said of a policy.
+/// The policy that a request names, if it names one.
 #[derive(Clone, Copy, Debug, PartialEq, Eq)]
 pub enum StatedPolicy {
     Nothing,
@@ -42,7 +42,7 @@ impl StatedPolicy {
     ghost use Rattle.std.specs.Prelude.{◌≡◌, option_map};
     ghost use Rattle.definitions.specs.DeleteOptions.{stated_policy};
 
-    /// Returns what a text, where there is one, says of a policy.
+    /// Returns the policy that a text names, where there is a text.
     pub fn read(text: Option<&str>) -> StatedPolicy
         ensures { result ≡ stated_policy (option_map (λ s. s.now) text.entry) }
     {

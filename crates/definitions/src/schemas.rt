@@ -1,4 +1,4 @@
-//! What the members of an object are described by.
+//! How the members of an object are described.
 use crate::kinds::Kind;
 
 /// What a value has to be.
@@ -54,7 +54,7 @@ pub enum Schema {
     Unknown,
 }
 
-/// What is said of a member: its shape, and whether an empty one counts as absent.
+/// What a schema has of a member: its shape, and whether an empty one counts as absent.
 #[derive(Clone, Copy, Debug, PartialEq, Eq)]
 pub struct Member {
     pub shape: Shape,

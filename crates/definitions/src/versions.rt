@@ -5,7 +5,7 @@
 pub enum At {
     /// The present one.
     Present,
-    /// The present one, which may not be below this one.
+    /// The present one, which may not be older than this one.
     NotOlder(u64),
     /// This one.
     Exact(u64),
@@ -14,7 +14,7 @@ pub enum At {
 /// How the revision that a list names is to be matched (Kubernetes API Concepts, the resourceVersionMatch parameter).
 #[derive(Clone, Copy, Debug, PartialEq, Eq)]
 pub enum Match {
-    /// Nothing is said.
+    /// No match is named.
     Unset,
     NotOlderThan,
     Exact,
@@ -24,7 +24,7 @@ impl Match {
     ghost use Rattle.std.specs.Prelude.{◌≡◌, option_map};
     ghost use Rattle.definitions.specs.Collections.{match_of};
 
-    /// Returns the match that a parameter names, or that nothing is said; nothing, if it is no name of a match.
+    /// Returns the match that a parameter names, or `Unset` where there is none; nothing, if it is no name of a match.
     pub fn read(name: Option<&str>) -> Option<Match>
         ensures { result ≡ match_of (option_map (λ t. t.now) name.entry) }
     {

@@ -1,4 +1,4 @@
--- Servers whose windows take in changes, and what always holds of them.
+-- Servers whose windows take in changes, and what is always true of them.
 use Rattle.std.proofs.Common.{◌≡◌, ◌≤◌, ℕ, zero, suc, List, [], ◌∷◌, ◌++◌, length, drop, Less, ◌+◌, ◌-◌, ◌==◌, Bool, true, false, cond, refl, sym, ap, ◌∙◌, subst, arith}
 use Rattle.std.specs.List.{AllByRecursion}
 use Rattle.std.specs.List.Sorted.{IsStrictlySortedBy}
@@ -86,7 +86,7 @@ module _ (n : Snapshot) (f : Kind → Window) (is : IsStanding (record { snapsho
           up_to_recorded j (f k) (recorded (f k) e) e n.revision refl le (subst (λ i. IsUpTo n.revision i (f k)) one (is.up_to k))
       by j false other = is.up_to j
 
-  -- a compaction leaves the changes that are kept
+  -- a compaction leaves the recorded changes
   pub stands_compacted : (g : Kind → Window) (r : ℕ) → g ≡ (λ k. compacted_to (f k) r) → IsStanding (record { snapshot = n; windows = g })
   stands_compacted g r at =
       subst (λ g. IsStanding (record { snapshot = n; windows = g })) (sym at) (record { in_order = is.in_order; up_to = λ k. is.up_to k })

@@ -12,13 +12,13 @@ pub record Says (a : Answer) (r : Reply) : Type 0 where
   pub code : a.code ≡ r.code
   pub text : string_bytes r.text ≡ compact_text a.body
 
--- the result is the outcome, or want of memory
+-- the result is the outcome, or running out of memory
 abbrev pub Replies : Outcome → Result Reply Fault → Type 0
 Replies (answered a) (Ok r) = Says a r
 Replies (refused f) (Ok r) = ⊥
 Replies o (Err e) = (e ≡ fault.NoMemory) ⊎ (o ≡ refused (refusal_of e))
 
--- the result is the outcome, or want of memory for an answer; a refusal takes none
+-- the result is the outcome, or running out of memory for an answer; a refusal takes none
 abbrev pub Lists : Outcome → Result Reply Fault → Type 0
 Lists (answered a) (Ok r) = Says a r
 Lists (answered a) (Err e) = e ≡ fault.NoMemory

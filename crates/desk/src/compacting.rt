@@ -7,7 +7,7 @@ impl Server {
     ghost use Rattle.server_state.specs.Servers.{compact_by};
     ghost use Rattle.meta.specs.Faults.{refusal_of};
 
-    /// Serves nothing below a revision any more, of no kind. The error is a revision above the present one, and changes
+    /// Raises the floor of each kind to a revision, if it is lower. The error is a revision above the present one, and changes
     /// nothing. It takes no memory.
     pub fn compact(&mut self, revision: u64) -> Result<(), Fault>
         ensures ok { OnOk result (compact_by self.old revision ≡ Ok self.new) }

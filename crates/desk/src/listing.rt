@@ -31,7 +31,7 @@ impl Server {
 
     /// Returns a page of the list of a view: at most `limit` objects, or all if it is 0, after the place that a token names, or
     /// the first. The token is that of a page before it, so the list is to be one at its revision. The errors are a revision
-    /// below what is kept, one above the present, and running out of memory. A revision that is refused takes no memory.
+    /// below the floor, one above the present, and running out of memory. A revision that is refused takes no memory.
     pub fn list(
         &self,
         alloc: Global,

@@ -8,7 +8,7 @@ use store::Store;
 use watch_cache::{Cache, Caches, Change};
 
 /// What is there, with one revision over all kinds, and the last changes of each kind, from which watches and lists of
-/// earlier revisions are served. A change that is kept no longer is answered as expired.
+/// earlier revisions are served. A change that is no longer recorded is answered as expired.
 #[derive(Drop)]
 pub struct Server {
     pub(crate) store: Store,
@@ -43,8 +43,8 @@ impl Server {
     ghost use Rattle.selector.specs.Views.{view_of};
     ghost use Rattle.watch_cache.specs.Changes.{change_seen};
 
-    /// Returns a server at revision 1, where nothing is there, that keeps the last `window` changes of each kind. The error is
-    /// running out of memory.
+    /// Returns a server at revision 1, where nothing is there, that records the last `window` changes of each kind. The error
+    /// is running out of memory.
     pub fn new(alloc: Global, window: usize) -> Result<Server, AllocError>
         ensures { IfOk result (λ s. s ≡ opened_server window) }
     {
@@ -79,7 +79,7 @@ impl Server {
         self.caches.get(kind)
     }
 
-    /// Takes the change of the present revision into the cache of its kind. It takes no memory.
+    /// Adds the change of the present revision to the cache of its kind. It takes no memory.
     pub(crate) fn record(&mut self, change: Change)
         requires next { last_revision 0 (window_of change.key.kind self.old).kept < change.revision }
         requires present { change.revision ≤ self.old.snapshot.revision }

@@ -20,7 +20,7 @@ impl Server {
     ghost use Rattle.verbs.specs.Requests.{request_of};
     ghost use Rattle.desk.specs.Replies.{Replies};
 
-    /// Returns the reply to a request at a moment, after which what it writes is written. An error, a refusal or running out of
+    /// Answers a request at a moment, applies what it writes, and returns the reply. An error, a refusal or running out of
     /// memory, changes nothing: all memory is taken before the store changes.
     pub fn serve(&mut self, alloc: Global, request: Request, moment: Moment) -> Result<Reply, Fault>
         ensures reply { Replies (accept_at (request_of request) self.old.snapshot.members self.old.snapshot.revision moment) result }
@@ -38,8 +38,8 @@ impl Server {
         }
     }
 
-    /// Returns the reply to a request at a moment with what it writes, or why it is refused. Nothing is written yet: who has to
-    /// make something of the reply first takes the write with `take`.
+    /// Returns the reply to a request at a moment with what it writes, or why it is refused. Nothing is written yet: whoever
+    /// has to make something of the reply first takes the write with `take`.
     pub fn answer(
         &self,
         alloc: Global,
@@ -51,7 +51,7 @@ impl Server {
         verbs::accept(alloc, &self.store, request, moment)
     }
 
-    /// Takes a write for which there is room, as there is for what a reply to a request writes. An error, running out of
+    /// Applies a write for which there is room, as there is for what a reply to a request writes. An error, running out of
     /// memory, changes nothing.
     pub fn take(&mut self, write: Write) -> Result<(), Fault>
         requires { overflows self.old.snapshot.members self.old.snapshot.revision (write_of write) ≡ false }

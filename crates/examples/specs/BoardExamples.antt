@@ -69,7 +69,7 @@ pub record KeysComeDue : Type 0 where
 
 -- ---- expectations
 
--- two creations are asked for at moment 0: what holds after 300,000 ms and one more, and what after both were seen
+-- two creations are asked for at moment 0: what is true after 300,000 ms and one more, and what after both were seen
 pub record CreationsAreAwaited : Type 0 where
   pub at_first : (o : Owner) (t : Table) → satisfied o 0 (creations_expected o 2 0 t) ≡ false
   pub five_minutes : (o : Owner) (t : Table) → satisfied o 300000 (creations_expected o 2 0 t) ≡ false

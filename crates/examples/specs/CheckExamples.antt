@@ -151,7 +151,7 @@ PercentagesAreDigits =
     (list_all is_percentage (codes "0%" ∷ codes "25%" ∷ codes "999999999%" ∷ []) ≡ true)
     × (list_any is_percentage (codes "" ∷ codes "%" ∷ codes "25" ∷ codes "1000000000%" ∷ codes "25%%" ∷ codes "-1%" ∷ codes "2 %" ∷ []) ≡ false)
 
--- of several faults the first is said
+-- of several faults the first is answered
 abbrev pub FirstFaultsAreSaid : Type 0
 FirstFaultsAreSaid =
     (created ReplicaSet (set (codes ",\"labels\":{\"-\":\"y\"},\"finalizers\":[\"\"],\"ownerReferences\":[{}]") (codes ",\"replicas\":-1") (codes "\"replicas\":-1")) ≡ fails Labels)

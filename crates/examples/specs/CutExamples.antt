@@ -10,15 +10,15 @@ use Rattle.controllers.specs.declared.reflectors.Phase.TheVariants.{Listing, Wat
 use Rattle.definitions.specs.Objects.{Object}
 use Rattle.controllers.specs.Reflectors.{Reflector, Fed, Delta, put, mark, asks, cut, expired, fed}
 
--- a reflector of ConfigMaps that watches from revision 3, with bytes held
+-- a reflector of ConfigMaps that watches from revision 3, with bytes buffered
 abbrev pub at_three : List ℕ → Reflector
 at_three buffered = record { kind = ConfigMap; revision = 3; phase = Watching; buffered = buffered }
 
--- this came of the bytes, and the reflector watches from a revision, with nothing held
+-- this came of the bytes, and the reflector watches from a revision, with nothing buffered
 abbrev gives : List Delta → ℕ → Fed
 gives ds r = record { deltas = ds; ended = None; after = record { kind = ConfigMap; revision = r; phase = Watching; buffered = [] } }
 
--- nothing came of the bytes, and they are held
+-- nothing came of the bytes, and they are buffered
 abbrev pub holds : List ℕ → Fed
 holds buffered = record { deltas = []; ended = None; after = at_three buffered }
 

@@ -2,7 +2,7 @@
 use Rattle.std.specs.Prelude.{◌≡◌, codes, ◌++◌}
 use Rattle.line_protocol.specs.Lines.{replay}
 
--- an object with a finalizer is marked and stays, gets no other finalizer, and is gone with its last one
+-- an object with a finalizer has its deletionTimestamp set and stays, gets no other finalizer, and is removed with its last one
 abbrev pub FinalizersKeepTheirObject : Type 0
 FinalizersKeepTheirObject =
     replay

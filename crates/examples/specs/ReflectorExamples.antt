@@ -47,7 +47,7 @@ frame type version =
     codes "{\"object\":{\"apiVersion\":\"v1\",\"data\":{\"k\":\"w\"},\"kind\":\"ConfigMap\",\"metadata\":{\"creationTimestamp\":\"2026-01-01T00:00:00Z\",\"name\":\"a\",\"namespace\":\"default\",\"resourceVersion\":\""
     ++ (version ++ (codes "\",\"uid\":\"00000000-0000-8000-8000-000000000002\"}},\"type\":\"" ++ (type ++ codes "\"}\n")))
 
--- a reflector of ConfigMaps that watches from a revision, with bytes held
+-- a reflector of ConfigMaps that watches from a revision, with bytes buffered
 abbrev watching : ℕ → List ℕ → Reflector
 watching r buffered = record { kind = ConfigMap; revision = r; phase = Watching; buffered = buffered }
 

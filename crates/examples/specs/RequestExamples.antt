@@ -28,7 +28,7 @@ EmptyList =
     (codes "GET /api/v1/configmaps\n")
     ≡ codes "200 {\"apiVersion\":\"v1\",\"items\":[],\"kind\":\"ConfigMapList\",\"metadata\":{\"resourceVersion\":\"1\"}}\n"
 
--- the first create has revision 2, and its uid holds it
+-- the first create has revision 2, and its uid encodes it
 abbrev pub FirstCreate : Type 0
 FirstCreate =
     replay
@@ -298,7 +298,7 @@ MembersAreTyped =
     ++ codes "400 {\"apiVersion\":\"v1\",\"code\":400,\"kind\":\"Status\",\"message\":\"bad request: object\",\"metadata\":{},\"reason\":\"BadRequest\",\"status\":\"Failure\"}\n"
     ++ codes "400 {\"apiVersion\":\"v1\",\"code\":400,\"kind\":\"Status\",\"message\":\"bad request: object\",\"metadata\":{},\"reason\":\"BadRequest\",\"status\":\"Failure\"}\n"
 
--- what is well formed is kept, known or not, and what is empty in metadata is left out
+-- what is well formed is preserved, known or not, and what is empty in metadata is left out
 abbrev pub MembersAreKept : Type 0
 MembersAreKept =
     replay

@@ -5,7 +5,7 @@ use Rattle.line_protocol.specs.Lines.{replay, replay_with}
 abbrev create : List ℕ → List ℕ
 create name = codes "POST /api/v1/namespaces/default/configmaps {\"metadata\":{\"name\":\"" ++ (name ++ codes "\"}}\n")
 
--- what is said of a ConfigMap of a name at a revision, which is that of its create too
+-- a ConfigMap of a name at a revision, which is that of its create too
 abbrev metadata : List ℕ → ℕ → List ℕ
 metadata name r =
     codes "\"metadata\":{\"creationTimestamp\":\"2026-01-01T00:00:00Z\",\"name\":\""

@@ -35,7 +35,7 @@ NothingNewIsNotWritten =
     ++ codes "200 {\"apiVersion\":\"v1\",\"data\":{\"k\":\"v\"},\"kind\":\"ConfigMap\",\"metadata\":{\"creationTimestamp\":\"2026-01-01T00:00:00Z\",\"name\":\"a\",\"namespace\":\"default\",\"resourceVersion\":\"2\",\"uid\":\"00000000-0000-8000-8000-000000000002\"}}\n"
     ++ codes "201 {\"apiVersion\":\"v1\",\"kind\":\"ConfigMap\",\"metadata\":{\"creationTimestamp\":\"2026-01-01T00:00:00Z\",\"name\":\"b\",\"namespace\":\"default\",\"resourceVersion\":\"3\",\"uid\":\"00000000-0000-8000-8000-000000000003\"}}\n"
 
--- a patch takes out what is null in it, and leaves what it does not name
+-- a patch removes what is null in it, and leaves what it does not name
 abbrev pub PatchesTakeOutNulls : Type 0
 PatchesTakeOutNulls =
     replay

@@ -83,7 +83,7 @@ ErrorsAreSaid =
     frame_text (error_frame (too_new 9 5))
     ≡ codes "{\"object\":{\"apiVersion\":\"v1\",\"code\":504,\"kind\":\"Status\",\"message\":\"Timeout: Too large resource version: 9, current: 5\",\"metadata\":{},\"reason\":\"Timeout\",\"status\":\"Failure\"},\"type\":\"ERROR\"}\n"
 
--- a line that is whole is read, and what follows it is held; spaces and other members are no matter
+-- a line that is whole is read, and what follows it is buffered; spaces and other members are no matter
 abbrev pub FramesAreRead : Type 0
 FramesAreRead =
     reading (codes "{\"type\":\"ADDED\", \"n\":1, \"object\":{\"k\":\"v\"}}\n{\"ty")

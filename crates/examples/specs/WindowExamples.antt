@@ -60,7 +60,7 @@ abbrev revisions : Result (List Event) Refusal → Result (List ℕ) Refusal
 revisions (Ok cs) = Ok (map (λ c. c.revision) cs)
 revisions (Err f) = Err f
 
--- a window of four holds the last four writes, and answers from the one before them; one of six answers from the beginning;
+-- a window of four has the last four writes, and answers from the one before them; one of six answers from the beginning;
 -- the greatest compaction above the floor moves it, and a write of another kind does not
 abbrev pub FloorsAreReached : Type 0
 FloorsAreReached =

@@ -39,7 +39,7 @@ pub fn specs_are_checked()
 pub fn checks_come_in_order()
     // Defaults are filled in where they are absent.
     ensures defaults_are_filled_in { DefaultsAreFilledIn }
-    // Of several faults the first in the order of the checks is said.
+    // Of several faults the first in the order of the checks is answered.
     ensures first_faults_are_said { FirstFaultsAreSaid }
     // An update keeps the selector, and adds no finalizer to an object that is being deleted.
     ensures updates_are_checked { UpdatesAreChecked }

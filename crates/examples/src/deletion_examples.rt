@@ -3,7 +3,8 @@ ghost use Rattle.examples.specs.DeletionExamples.{FinalizersKeepTheirObject, Del
 
 /// What deletes do, line by line.
 pub fn deletes_are_answered()
-    // An object with a finalizer is marked and stays, gets no other finalizer, and is gone with its last one.
+    // An object with a finalizer has its deletionTimestamp set and stays, gets no other finalizer, and is removed with its last
+    // one.
     ensures finalizers_keep_their_object { FinalizersKeepTheirObject }
     // A precondition that is not met, and a dry run, leave the object; a delete without either removes it.
     ensures deletes_are_conditional { DeletesAreConditional }

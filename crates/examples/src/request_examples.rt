@@ -3,7 +3,7 @@ ghost use Rattle.examples.specs.RequestExamples.{EmptyList, FirstCreate, SecondU
 
 /// What creates are answered, byte for byte.
 pub fn creates_are_answered()
-    // The first create has revision 2, and its uid holds it.
+    // The first create has revision 2, and its uid encodes it.
     ensures first_create { FirstCreate }
     // What was created is read back, and listed without its kind.
     ensures create_reads_back { CreateReadsBack }
@@ -35,7 +35,7 @@ pub fn lists_are_answered()
     ensures lists_are_ordered { ListsAreOrdered }
 {}
 
-/// Which bodies are taken, and what is kept of them.
+/// Which bodies are taken, and what is stored of them.
 pub fn bodies_are_checked()
     // A create without a name, or with a bad one, is invalid.
     ensures names_are_checked { NamesAreChecked }
@@ -43,7 +43,7 @@ pub fn bodies_are_checked()
     ensures bodies_are_read { BodiesAreRead }
     // A known member of another type is refused.
     ensures members_are_typed { MembersAreTyped }
-    // What is well formed is kept, known or not, and what is empty in metadata is left out.
+    // What is well formed is preserved, known or not, and what is empty in metadata is left out.
     ensures members_are_kept { MembersAreKept }
 {}
 

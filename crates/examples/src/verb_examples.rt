@@ -15,7 +15,7 @@ pub fn writes_are_stored()
     ensures deployments_are_filled_in { DeploymentsAreFilledIn }
     // An update that says nothing new is no write, and takes no revision.
     ensures nothing_new_is_not_written { NothingNewIsNotWritten }
-    // A patch takes out what is null in it, and leaves what it does not name.
+    // A patch removes what is null in it, and leaves what it does not name.
     ensures patches_take_out_nulls { PatchesTakeOutNulls }
     // A new spec is a new generation, a new status is none.
     ensures generations_count_specs { GenerationsCountSpecs }

@@ -21,7 +21,7 @@ pub fn frames_are_exact()
     ensures bookmarks_are_said { BookmarksAreSaid }
     // The bytes of an error in a watch that has begun.
     ensures errors_are_said { ErrorsAreSaid }
-    // A whole line is read, and what follows it is held.
+    // A whole line is read, and what follows it is buffered.
     ensures frames_are_read { FramesAreRead }
     // A line that is no frame ends what is read.
     ensures others_are_refused { OthersAreRefused }

@@ -15,14 +15,14 @@ pub struct Expectation {
 }
 
 impl Expectation {
-    /// One creation less, if one is left.
+    /// Counts one creation less, if one is left.
     pub fn see_created(&mut self)
         ensures { expectation_of self.new ≡ record (expectation_of self.old) { creations = (expectation_of self.old).creations - 1 } }
     {
         self.creations = self.creations.saturating_sub(1);
     }
 
-    /// One deletion less, if it is among them.
+    /// Removes a pod from the deletions, if it is among them.
     pub fn see_deleted(&mut self, pod: &str)
         ensures { expectation_of self.new ≡ record (expectation_of self.old) { deletions = set.remove (expectation_of self.old).deletions pod.now } }
     {

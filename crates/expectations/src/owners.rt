@@ -22,7 +22,7 @@ pub fn expect(
     Ok(())
 }
 
-/// One creation less for a ReplicaSet, if one is left.
+/// Counts one creation less for a ReplicaSet, if one is left.
 pub fn see_created(owners: &mut BTreeMap<String, Expectation>, uid: &str)
     ensures { owners_of owners.new ≡ changed_at (λ e. record e { creations = e.creations - 1 }) uid.now (owners_of owners.old) }
 {
@@ -31,7 +31,7 @@ pub fn see_created(owners: &mut BTreeMap<String, Expectation>, uid: &str)
     }
 }
 
-/// One deletion less for a ReplicaSet, if it is among them.
+/// Removes a pod from the deletions of a ReplicaSet, if it is among them.
 pub fn see_deleted(owners: &mut BTreeMap<String, Expectation>, uid: &str, pod: &str)
     ensures { owners_of owners.new ≡ changed_at (λ e. record e { deletions = set.remove e.deletions pod.now }) uid.now (owners_of owners.old) }
 {

@@ -34,7 +34,7 @@ impl Model for Table {
 }
 
 impl Table {
-    /// Nothing is expected.
+    /// Returns a table in which nothing is expected.
     pub fn new(alloc: Global) -> Table
         ensures { result ≡ map.empty }
     {
@@ -99,7 +99,7 @@ impl Table {
         Ok(())
     }
 
-    /// A pod of a ReplicaSet was seen created.
+    /// Counts that a pod of a ReplicaSet was seen created.
     pub fn created(&mut self, key: &Key, uid: &str)
         ensures { self.new ≡ created (record { key = key_of key.now; uid = uid.now }) self.old }
     {
@@ -108,14 +108,14 @@ impl Table {
         }
     }
 
-    /// The create of a pod was refused, or not sent: it is waited for no longer.
+    /// Counts that the create of a pod was refused, or not sent: it is waited for no longer.
     pub fn create_failed(&mut self, key: &Key, uid: &str)
         ensures { self.new ≡ created (record { key = key_of key.now; uid = uid.now }) self.old }
     {
         self.created(key, uid);
     }
 
-    /// A pod of a ReplicaSet was seen deleted, or its delete was refused or not sent.
+    /// Notes that a pod of a ReplicaSet was seen deleted, or that its delete was refused or not sent.
     pub fn deleted(&mut self, key: &Key, uid: &str, pod: &str)
         ensures { self.new ≡ deleted (record { key = key_of key.now; uid = uid.now }) pod.now self.old }
     {
@@ -134,7 +134,7 @@ impl Table {
         }
     }
 
-    /// Forgets what every ReplicaSet of this key waits for, whatever its uid.
+    /// Removes what every ReplicaSet of this key waits for, whatever its uid.
     pub fn forget(&mut self, key: &Key)
         ensures { self.new ≡ forgotten (key_of key.now) self.old }
     {

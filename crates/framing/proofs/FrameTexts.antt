@@ -1,4 +1,4 @@
--- What is written for an event is read as that event.
+-- What is written for a frame is read as that frame.
 use Rattle.std.proofs.Common.{◌≡◌, ℕ, suc, ◌≤◌, ◌<◌, max, List, [], ◌∷◌, ◌++◌, length, false, codes, Option, Some, option_and_then, Ok, IsSome, refl, sym, ap, ap₂, ◌∙◌, subst, arith, append-nil, append_assoc, length-append}
 use Rattle.std.specs.Str.{IsUtf8}
 use Rattle.std.proofs.lemmas.Str.{IsUtf8-append}
@@ -79,7 +79,7 @@ frame_read_back kind d text order clean back nests =
     read_tokens j (compact_text (frame_data e)) all (omega (arith, nests, depth-outline (frame_data e)))
     ∙ converts kind (outline d) d (sym (read_tokens (outline d) text same shallow) ∙ back)
 
--- ---- the event in it
+-- ---- the frame in it
 
 event_is : (kind : FrameKind) (d : Data) → IsSome (as_object d) → Some (record { kind = kind; object = d }) ≡ frame_in (frame_data (record { kind = kind; object = d }))
 event_is Added (object ms) h = refl
@@ -131,7 +131,7 @@ frame_bytes kind d =
     ap (λ z. opening ++ (compact_text d ++ z)) (sym (closing_line kind)) ∙ ap (λ z. opening ++ z) (sym (append_assoc (compact_text d) (closing kind) (10 ∷ [])))
     ∙ sym (append_assoc opening (compact_text d ++ closing kind) (10 ∷ [])) ∙ ap (λ z. z ++ 10 ∷ []) (sym (line_bytes kind d))
 
--- what is written is read as the event, whatever follows
+-- what is written is read as the frame, whatever follows
 pub reads_as : (kind : FrameKind) (d : Data) (text : List ℕ) → IsInOrder text d → has_float d ≡ false → read text ≡ Some d → text ≡ compact_text d → IsUtf8 text
     → IsWithin (record { kind = kind; object = d }) → ReadsAs (frame_text (record { kind = kind; object = d })) (record { kind = kind; object = d })
 reads_as kind d text order clean back is utf8 within more =

@@ -75,7 +75,7 @@ begun a b =
     let h = fed (left (reading a)) b in
     (h.events ++ [], sym (ap (λ z. (reading (a ++ z)).events) (append-nil b)) ∙ sym (ap (λ r. r.events) (no_cutting (a ∷ b ∷ []))))
 
--- lines of events in a row
+-- lines of frames in a row
 pub all_read : (es : List Frame) → AllByRecursion (λ e. ReadsAs (frame_text e) e) es → ReadsAll (flat_map frame_text es) es
 all_read [] h more = refl
 all_read (e ∷ es) h more =

@@ -1,4 +1,4 @@
--- A decoder as what it holds, and what a piece gives.
+-- A decoder as the bytes that it has buffered, and what a piece gives.
 use Rattle.std.specs.Prelude.{ℕ, List, [], ◌∷◌, ◌++◌, map, Option, Some, None, refl}
 use Rattle.std.specs.Coded.{Coded, code_by, coded×, coded_option}
 use Rattle.serde_json.specs.View.{view}
@@ -41,11 +41,11 @@ fed h piece = fed_after h.fault (h.buffered ++ piece)
 abbrev pub left : Read → Held
 left r = record { buffered = r.buffered; fault = r.fault }
 
--- pieces one after another: all their events, and what is buffered in the end
+-- pieces one after another: all their frames, and what is buffered in the end
 abbrev pub all_fed : Held → List (List ℕ) → Read
 all_fed h [] = record { events = []; buffered = h.buffered; fault = h.fault }
 all_fed h (p ∷ ps) = onto (fed h p).events (all_fed (left (fed h p)) ps)
 
--- events, and then the bytes buffered, or a fault
+-- frames, and then the bytes buffered, or a fault
 abbrev pub given : List Event → List ℕ → Option FrameFault → Read
 given es bytes fault = record { events = es; buffered = bytes; fault = fault }

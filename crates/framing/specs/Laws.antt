@@ -12,7 +12,7 @@ abbrev pub LinesAreWhole : Type 0
 LinesAreWhole =
     (bytes : List ℕ) → Splits bytes (lines bytes) (rest bytes) × ((ls : List (List ℕ)) (left : List ℕ) → Splits bytes ls left → (ls ≡ lines bytes) × (left ≡ rest bytes))
 
--- however the bytes are cut into pieces, all that is given and all that is buffered is what they say at once
+-- however the bytes are cut into pieces, all that is given and all that is buffered is as when they come at once
 abbrev pub NoCuttingMatters : Type 0
 NoCuttingMatters = (pieces : List (List ℕ)) → all_fed opened pieces ≡ reading (flat_map (λ p. p) pieces)
 
@@ -21,7 +21,7 @@ abbrev pub FaultsAreLines : Type 0
 FaultsAreLines =
     (bytes : List ℕ) → ((reading bytes).fault ≡ None) ↔ (AllByRecursion (λ l. IsOk (line_read l)) (lines bytes) × (length (rest bytes) < longest_frame))
 
--- the lines of events that can be read are read as these events, whatever follows
+-- the lines of frames that can be read are read as these frames, whatever follows
 abbrev pub LinesAreRead : Type 0
 LinesAreRead = (es : List Frame) → AllByRecursion (λ e. ReadsAs (frame_text e) e) es → ReadsAll (flat_map frame_text es) es
 

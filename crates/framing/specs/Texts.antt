@@ -10,16 +10,16 @@ use Rattle.controllers.specs.ReadFrames.{longest_frame, reading, onto}
 abbrev pub framed_text : List ℕ → List ℕ → List ℕ
 framed_text kind text = codes "{\"object\":" ++ (text ++ (codes ",\"type\":\"" ++ (kind ++ codes "\"}\n")))
 
--- an event that a line can hold
+-- a frame that fits in a line
 pub record IsWithin (e : Frame) : Type 0 where
   pub is_object : IsSome (as_object e.object)
   pub nests : depth (frame_data e) ≤ max_depth
   pub fits : length (frame_text e) ≤ longest_frame
 
--- the text is read as these events, whatever follows it
+-- the text is read as these frames, whatever follows it
 abbrev pub ReadsAll : List ℕ → List Frame → Type 0
 ReadsAll text es = (more : List ℕ) → reading (text ++ more) ≡ onto es (reading more)
 
--- the text is read as this event, whatever follows it
+-- the text is read as this frame, whatever follows it
 abbrev pub ReadsAs : List ℕ → Frame → Type 0
 ReadsAs text e = ReadsAll text (e ∷ [])

@@ -47,8 +47,8 @@ impl Decoder {
         }
     }
 
-    /// Takes the next piece, and gives the frames that are whole now. After a fault nothing more is read, and each call gives
-    /// that fault. The error is running out of memory, and changes nothing: the same piece can be fed again.
+    /// Reads the next piece, and returns the frames that are whole now. After a fault nothing more is read, and each call
+    /// returns that fault. The error is running out of memory, and changes nothing: the same piece can be fed again.
     pub fn feed(&mut self, alloc: Global, piece: &[u8]) -> Result<Decoded, Want>
         ensures frames { IfOk result (λ d. events_of d.frames.items ≡ (fed self.old piece.now).events) }
         ensures fault { IfOk result (λ d. d.fault ≡ (fed self.old piece.now).fault) }

@@ -18,7 +18,7 @@ pub struct Lines {
     pub fault: Option<FrameFault>,
 }
 
-/// Reads the whole lines of bytes of which the first `known` hold no newline.
+/// Reads the whole lines of bytes of which the first `known` have no newline.
 pub fn read_lines(alloc: Global, bytes: &[u8], known: usize) -> Result<Lines, Want>
     requires within { known ≤ length bytes.now }
     requires partial { IsPartial (take known bytes.now) }
@@ -59,7 +59,7 @@ pub fn read_lines(alloc: Global, bytes: &[u8], known: usize) -> Result<Lines, Wa
     }
 }
 
-/// Drops all but the last `kept` bytes.
+/// Removes all but the last `kept` bytes.
 pub fn keep_last(bytes: &mut Vec<u8>, kept: usize)
     requires { kept ≤ vec_len bytes.old }
     ensures { bytes.new.items ≡ drop (vec_len bytes.old - kept) bytes.old.items }

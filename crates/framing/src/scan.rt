@@ -18,7 +18,7 @@ use std::alloc::Global;
 /// The most bytes of a frame, its newline counted.
 pub const LONGEST_FRAME: usize = 2_097_152;
 
-/// Returns the place of the first newline, where the first `known` bytes hold none.
+/// Returns the place of the first newline, where the first `known` bytes have none.
 pub fn first_newline(bytes: &[u8], known: usize) -> Option<usize>
     requires within { known ≤ length bytes.now }
     requires partial { IsPartial (take known bytes.now) }
@@ -38,7 +38,7 @@ fn frame_of(value: Value) -> Option<Frame>
     Some(Frame { kind, object })
 }
 
-/// Takes a member out of a value.
+/// Returns a member of a value.
 pub fn take_member(value: Value, name: &str) -> Option<Value>
     ensures { option_map view result ≡ get name.now (view value) }
 {
@@ -51,7 +51,7 @@ pub fn take_member(value: Value, name: &str) -> Option<Value>
     }
 }
 
-/// Takes a member that is an object.
+/// Returns a member of a value, if it is an object.
 fn object_at(value: Value, name: &str) -> Option<Value>
     ensures { option_map view result ≡ object_at name.now (view value) }
 {

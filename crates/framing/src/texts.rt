@@ -41,7 +41,7 @@ fn line_of(alloc: Global, kind: FrameKind, object: &Value) -> Result<String, All
     Ok(line)
 }
 
-/// Returns the line of a frame with an object that is kept.
+/// Returns the line of a frame with a stored object.
 fn object_text(alloc: Global, kind: FrameKind, object: &StoredObject) -> Result<String, AllocError>
     ensures text { IfOk result (λ t. string_bytes t ≡ frame_text (record { kind = kind; object = object.now.value })) }
     ensures reads_back { IfOk result (λ t. IsWithin (record { kind = kind; object = object.now.value })
@@ -51,7 +51,7 @@ fn object_text(alloc: Global, kind: FrameKind, object: &StoredObject) -> Result<
     Ok(line)
 }
 
-/// Returns the line of a change: ADDED, MODIFIED or DELETED, and an object. The error is running out of memory.
+/// Returns the line of an event: ADDED, MODIFIED or DELETED, and an object. The error is running out of memory.
 pub fn frame_text(alloc: Global, event: &Event) -> Result<String, AllocError>
     ensures text { IfOk result (λ t. string_bytes t ≡ frame_text (event_seen event.now)) }
     ensures reads_back { IfOk result (λ t. IsWithin (event_seen event.now)

@@ -29,8 +29,8 @@ use routes::targets::Target;
 use std::alloc::Global;
 
 /// Returns what a head asks, but for its body. The error is the first refusal: of the length that it states, the path, the
-/// namespace, the method, the query, the version that a watch needs, a length that is missing, the body's length, its media type;
-/// or out of memory.
+/// namespace, the method, the query, the version that a watch needs, a length that is missing, the body's length, its media
+/// type; or out of memory.
 pub fn check_head<'h>(
     alloc: Global,
     routes: &Routes,

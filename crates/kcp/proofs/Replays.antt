@@ -1,4 +1,4 @@
--- The replies of a session that holds a server, as those of the definitions, as the run of a service.
+-- The replies of a session that has a server, as those of the definitions, as the run of a service.
 use Rattle.std.proofs.Common.{◌≡◌, ℕ, List, [], ◌∷◌, ◌++◌, Option, Some, None, IfSome, Result, Ok, Err, OnOk, OnErr, IfErr, refl, ap, ap₂, sym, subst, ◌∙◌}
 use Rattle.std.proofs.lemmas.List.{append-nil}
 use Rattle.std.specs.Io.KnownBytes.{Appends}
@@ -25,7 +25,7 @@ replies-fold s (t ∷ ts) = ap (λ r. lines.reply s t ++ r) (replies-fold (lines
 replay-run : (window : ℕ) (input : List ℕ) → service.replies lines.reply lines.next (answers.start window) (service.lines_of input) ≡ lines.replay_with window input
 replay-run window input = sym (replies-fold (answers.start window) (lines.lines_of input) ∙ replies-split lines.reply lines.next (λ s. refl) (answers.start window) input)
 
--- ---- a session that holds a server goes with it
+-- ---- a session that has a server goes with it
 
 -- line by line its replies are the same
 same-replies : (state : SessionState) (s : answers.Session) → Follows state s → (ts : List (List ℕ))
@@ -65,7 +65,7 @@ same-end state last s is why old new ts e =
       (answered, e.1, e.2, refl, subst (AppendsBeginning old new) same e.4, λ n. subst (Appends old new) same (e.5 n), λ w. same-cut state s is old new answered (e.6 w)),
     )
 
--- ---- what holds of the run's text holds of the replay's
+-- ---- what is true of the run's text is true of the replay's
 
 state-run : (window : ℕ) (state : SessionState) → state ≡ begun window → (input : List ℕ) → service.replies reply_by_state next_state state (service.lines_of input) ≡ lines.replay_with window input
 state-run window state is input =

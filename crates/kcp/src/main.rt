@@ -21,12 +21,12 @@ use std::io::{BufRead, BufReader, BufWriter, Write};
 use std::process::ExitCode;
 use std::{env, io};
 
-/// How many changes of each kind are kept where nothing else is said.
+/// How many changes of each kind are recorded by default.
 const DEFAULT_WINDOW: usize = 1024;
 
 /// Answers the request lines that are read, from the empty store at the start of 2026 on, and writes the reply lines
 /// and nothing else. Each reply is flushed before the next line is waited for. The last `window` changes of each kind
-/// are kept for watches and older lists.
+/// are recorded for watches and lists of earlier revisions.
 ///
 /// At an error a beginning of all the replies was written: no line after the one at which the error came is answered.
 /// The replies to those before it were written whole.
@@ -48,7 +48,7 @@ pub fn replay_with<R: BufRead, W: Write>(
     }
 }
 
-/// Answers the request lines that are read as `replay_with` does, keeping the last 1024 changes of each kind.
+/// Answers the request lines that are read as `replay_with` does, recording the last 1024 changes of each kind.
 pub fn replay<R: BufRead, W: Write>(
     alloc: Global,
     reader: &mut R,

@@ -1,4 +1,4 @@
--- What holds of every outcome of a verb, by its cases.
+-- What is true of every outcome of a verb, by its cases.
 use Rattle.std.proofs.Common.{◌≡◌, ℕ, List, cond, None, Some, Result, Ok, Err, Bool, not, ◌||◌, ◌&&◌, ◌==◌, is_some, nat_le, length, refl, true, false, ◌+◌}
 use Rattle.serde_json.specs.Data.{Data}
 use Rattle.serde_json.specs.Events.{items_len}
@@ -47,7 +47,7 @@ module _ (P : Outcome → Type 0) (refusal : (f : Refusal) → P (refused f)) wh
       (λ _. guard_field P refusal k (create_fault kind k.name r (with_first_status kind o)) (create_as k (created kind (r + 1) ns k.name moment o) ms r)
       (λ valid. of_create_as k (created kind (r + 1) ns k.name moment o) ms r (each o refl valid)))
 
-  -- ---- what stands in the place of what is held
+  -- ---- what stands in the place of the stored object
 
   of_put : (k : Key) (d : Data) (r : ℕ) → (is_too_large d ≡ false → is_past_greatest (r + 1) ≡ false → P (stored 200 k d)) → P (put_in_place k d r)
   of_put k d r each = guard P refusal (is_too_large d) too_large _ (λ fits. guard P refusal (is_past_greatest (r + 1)) storage_full _ (λ low. each fits low))
@@ -167,7 +167,7 @@ Creates P ms r moment =
     → (nat_le most_objects (length ms) || is_past_greatest (r + 1)) ≡ false
     → P (stored 201 (new_name kind ns o ms r) (created kind (r + 1) ns (new_name kind ns o ms r).name moment o))
 
--- in the place of what is held, by an update or a patch
+-- in the place of the stored object, by an update or a patch
 abbrev pub Updates : (Outcome → Type 0) → history.Members → ℕ → Type 0
 Updates P ms r =
     (k : Key) (o existing : Data) → found k ms ≡ Some existing → update_fault k.kind k.name r existing (in_place k.kind existing o) ≡ None

@@ -14,7 +14,7 @@ snapshot-writes g h same = λ i. record { members = after_all [] (take (length (
 pub snapshot-compaction : (h : History) (r : ℕ) → snapshot (h ++ compaction r ∷ []) ≡ snapshot h
 snapshot-compaction h r = snapshot-writes (h ++ compaction r ∷ []) h (writes-compaction h r)
 
--- a property of the writes, and of nothing else, is kept by every compaction
+-- a property of the writes, and of nothing else, is preserved by every compaction
 pub same_writes : (P : List Write → Type 0) (h : History) (r : ℕ) → r ≤ present h → P (writes h) → P (writes (h ++ compaction r ∷ []))
 same_writes P h r le p = subst P (sym (writes-compaction h r)) p
 

@@ -1,4 +1,4 @@
--- What holds of each object that was put holds of what is there, and of each of a list.
+-- What is true of each object that was put is true of what is there, and of each of a list.
 use Rattle.std.proofs.Common.{◌≡◌, ◌-◌, ℕ, zero, suc, List, [], ◌∷◌, ◌++◌, take, Bool, true, false, cond, is_eq, IfSome, Option, Some, None, Ordering, Less, Equal, Greater, refl, sym, ap, subst}
 use Rattle.std.specs.BTreeMap.{insert_entry, is_at}
 use Rattle.std.specs.List.{AllByRecursion}

@@ -1,4 +1,4 @@
--- What holds of an outcome behind a guard.
+-- What is true of an outcome behind a guard.
 use Rattle.std.proofs.Common.{◌≡◌, Bool, true, false, cond, Option, Some, None, refl}
 use Rattle.serde_json.specs.Data.{Data}
 use Rattle.definitions.specs.declared.refusals.Field.{Field}

@@ -58,7 +58,7 @@ uid-created k r ns named moment o =
     text-at_revision (codes "uid") r (new_metadata k r ns named moment (metadata_of o)) (object (with_status (first_status k) (members_of o))) refl
     ∙ uid-new_metadata k r ns named moment (metadata_of o)
 
--- ---- of what is held
+-- ---- of the stored object
 
 pub text-as_held_other : (q k : List ℕ) (o : Option Data) (ms : Members) → bytes_eq q k ≡ false → text_in q (as_held k o ms) ≡ text_in q ms
 text-as_held_other q k None ms other = text_in-without_other q k ms other
@@ -68,12 +68,12 @@ pub member-as_held_other : (q k : List ℕ) (o : Option Data) (ms : Members) →
 member-as_held_other q k None ms other = get_member-without_other q k ms other
 member-as_held_other q k (Some d) ms other = get_member-put_other q k d ms (apart q k other)
 
--- what is held at a member is there after
+-- the stored object's member is there after
 pub held_member : (k : List ℕ) (o : Option Data) (ms : Members) → is_some o ≡ true → get_member k (as_held k o ms) ≡ o
 held_member k None ms h = cc
 held_member k (Some d) ms h = get_member-put k d ms
 
--- what is held at a member is there after, if it is a text
+-- the stored object's member is there after, if it is a text
 pub held_text : (k : List ℕ) (o : Option Data) (ms : Members) → IfSome (option_and_then as_str o) (λ t. text_in k (as_held k o ms) ≡ Some t)
 held_text k None ms = tt
 held_text k (Some null) ms = tt

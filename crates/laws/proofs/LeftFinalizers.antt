@@ -21,7 +21,7 @@ use Rattle.laws.proofs.TextLengths.{short_comma}
 abbrev pub others : Items → Items
 others ds = others_then no_items ds
 
--- what holds of these finalizers, and of the others with that of any policy after them, holds of those that are left
+-- what is true of these finalizers, and of the others with that of any policy after them, is true of those that are left
 either_left : (P : Items → Type 0) (b : Bool) (xs ys : Items) → P xs → P ys → P (cond b xs ys)
 either_left P true xs ys p q = p
 either_left P false xs ys p q = q

@@ -20,7 +20,7 @@ use Rattle.definitions.proofs.PutLaws.{IsAscending, IsAbove-below, none_above, n
 use Rattle.laws.proofs.HeldMembers.{at_most}
 use Rattle.laws.proofs.VerbLaws.{present-write}
 
--- what is asked where a test holds, the other outcome being a refusal
+-- what is asked where the test for a refusal fails
 unless : (b : Bool) (f : Refusal) (r : Result Asked Refusal) (q : Asked) → cond b (Err f) r ≡ Ok q → (b ≡ false) × (r ≡ Ok q)
 unless true f r q is = cc
 unless false f r q is = (refl, is)

@@ -1,4 +1,4 @@
--- Objects stay short, however often they are marked as being deleted.
+-- Objects stay short, however often their deletionTimestamp is set.
 use Rattle.std.proofs.Common.{◌≡◌, ◌≤◌, ◌<◌, ◌+◌, ℕ, List, length, nat_lt, nat_cmp, Bool, true, false, cond, codes, decimal, is_some, option_and_then, unwrap_or, Option, Some, None, Less, refl, sym, ap, ◌∙◌, subst, arith}
 use Rattle.std.proofs.lemmas.Fmt.{length-decimal-le}
 use Rattle.std.specs.Cmp.Lexicographic.{slice_cmp}

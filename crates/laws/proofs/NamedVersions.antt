@@ -13,7 +13,7 @@ use Rattle.definitions.proofs.VerbSteps.{with_defaults}
 use Rattle.laws.proofs.Cases.{of_delete, of_patch, of_status, of_update}
 use Rattle.laws.proofs.VerbLaws.{found-state, one_object, same, version-defaulted}
 
--- the version that is held is the one that is named
+-- the stored version is the one that is named
 named_is : (p existing : Data) (named : List ℕ) → version p ≡ Some named → differs (version p) (version existing) ≡ false → version existing ≡ Some named
 named_is p existing named says equal = same named (version existing) (ap (λ v. differs v (version existing)) (sym says) ∙ equal)
 

@@ -1,4 +1,4 @@
--- What is made of objects as a parser gives them, new, in the place of another or marked, is so too.
+-- What is made of objects as a parser gives them, new, in the place of another or with deletionTimestamp set, is so too.
 use Rattle.std.proofs.Common.{◌≡◌, ◌<◌, ◌+◌, ◌/◌, ◌%◌, ◌^◌, ℕ, zero, suc, List, [], ◌∷◌, Bool, true, false, cond, codes, decimal, IfSome, Option, Some, None, option_and_then, unwrap_or, refl, arith}
 use Rattle.std.specs.Prelude.{nat_lt}
 use Rattle.std.proofs.lemmas.Bool.{ltb-true}

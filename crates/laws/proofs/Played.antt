@@ -1,4 +1,4 @@
--- Changes, played on what a view showed before.
+-- Events, applied to what a view showed before.
 use Rattle.std.proofs.Common.{◌≡◌, ◌≤◌, ◌<◌, ℕ, ◌+◌, ◌-◌, List, [], ◌∷◌, ◌++◌, length, drop, filter, Bool, true, false, cond, Option, Some, None, Ordering, Less, Equal, Greater, is_eq, refl, sym, ap, ◌∙◌, subst, arith, append_assoc, append-nil, length-append, length-drop, ◌⊎◌, inl, inr}
 use Rattle.std.specs.Cmp.{IsTotalOrder}
 use Rattle.std.specs.Ordering.{match_ordering}
@@ -26,7 +26,7 @@ module _ {K X : Type 0} {R : K → K → Ordering} (o : IsTotalOrder R) (same : 
   above_kept : (k : K) (es : List (K × X)) → IsAbove R k es → IsAbove R k (kept es)
   above_kept k es h = IsAbove-filter R (λ e. asks e.0 e.1) k es h
 
-  -- what is above k holds nothing under it
+  -- what is above k has nothing under it
   pub insert_above : (k : K) (x : X) (es : List (K × X)) → IsAbove R k es → insert_entry R es k x ≡ (k, x) ∷ es
   insert_above k x [] h = refl
   insert_above k x (e ∷ es) h = rw h.0 refl

@@ -1,4 +1,4 @@
--- What holds of everything reached, one step after another.
+-- What is true of everything reached, one step after another.
 use Rattle.std.proofs.Common.{◌≡◌, ◌≤◌, ℕ, List, [], ◌∷◌, ◌++◌, Option, Some, None, refl, ap, subst, ◌∙◌, append-nil, ◌⊎◌, inl, inr}
 use Rattle.definitions.specs.History.{History, Entry, Write, write, compaction, present}
 use Rattle.definitions.specs.Verbs.{accept, with_write, write_of}

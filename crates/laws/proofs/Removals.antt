@@ -160,7 +160,7 @@ held_cond : (b : Bool) (fs ds : Items) (t : List ℕ) (d : Data) → text_is (by
 held_cond true fs ds t d is a h later = text_held fs t d a is
 held_cond false fs ds t d is a h later = later h
 
--- where each is held, one of them is
+-- where each of these is in a list, one of them is in it
 held_text_of : (ds fs : Items) (t : List ℕ) → all_items (text_is (has_text fs)) ds ≡ true → has_text ds t ≡ true → has_text fs t ≡ true
 held_text_of no_items fs t all h = cc
 held_text_of (item d ds) fs t all h =

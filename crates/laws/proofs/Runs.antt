@@ -1,4 +1,4 @@
--- What holds after any lines.
+-- What is true after any lines.
 use Rattle.std.proofs.Common.{◌≡◌, ◌≤◌, ℕ, ◌==◌, List, [], ◌∷◌, ◌++◌, length, Bool, true, false, cond, nat_lt, Option, Some, None, Result, Ok, Err, append_assoc, subst, refl, sym, ap, ◌∙◌}
 use Rattle.std.proofs.lemmas.Bool.{ltb-false}
 use Rattle.definitions.specs.declared.kinds.Kind.{Kind}
@@ -40,7 +40,7 @@ by_compact P still false h r is p = still h r (ltb-false (present h) r is) p
 pub by_compaction : (P : History → Type 0) (still : (h : History) (r : ℕ) → r ≤ present h → P h → P (h ++ compaction r ∷ [])) (h : History) (r : ℕ) → P h → P (history_from h (compact_reply (compacts h r)))
 by_compaction P still h r p = by_compact P still (nat_lt (present h) r) h r refl p
 
--- a property of histories that a write leaves, and a compaction, is kept by every line
+-- a property of histories that a write leaves, and a compaction, is preserved by every line
 module _ (P : History → Type 0) (each : (q : Request) (h : History) (moment : List ℕ) → P h → P (with_write h (write_of (accept q h moment)))) (still : (h : History) (r : ℕ) → r ≤ present h → P h → P (h ++ compaction r ∷ [])) where
   by_request : (s : Session) (r : Result Asked Refusal) → P s.history → P (history_from s.history (reply_for s r))
   by_request s (Err f) p = p

@@ -1,4 +1,4 @@
--- The body of a list, as it is read, and the map that it plays to.
+-- The body of a list, as it is read, and the map that it makes.
 use Rattle.std.proofs.Common.{◌≡◌, ◌≤◌, ◌||◌, ℕ, List, [], ◌∷◌, ◌++◌, map, Bool, true, false, cond, nat_le, codes, bytes_eq, is_some, Option, Some, None, option_map, option_and_then, Ok, Greater, refl, sym, ap, ◌∙◌, subst, arith, append_assoc, append-nil}
 use Rattle.std.proofs.lemmas.Bool.{le-leb}
 use Rattle.std.proofs.lemmas.Slice.Eq.{bytes_eq-Decides}
@@ -209,7 +209,7 @@ list_is k r ms a ascending low =
 list_of_is : (k : Kind) (body : List ℕ) (d : Data) → is_utf8 body ≡ true → read body ≡ Some d → list_of k body ≡ list_in k d
 list_of_is k body d u r = rw (u, r) refl
 
--- ---- the map that it plays to
+-- ---- the map that it makes
 
 pub put_all_on : (k : Kind) (ms done : Members) → AllByRecursion (Lists k) ms → IsAscending key_cmp (done ++ ms) → put_all done (objects_in k ms) ≡ done ++ ms
 put_all_on k [] done a ascending = sym (append-nil done)

@@ -1,4 +1,4 @@
--- Objects as they are stored: what holds of each.
+-- Objects as they are stored: what is true of each.
 use Rattle.std.proofs.Common.{◌≡◌, ◌≤◌, ◌<◌, ◌+◌, ◌||◌, ℕ, List, [], ◌∷◌, length, Bool, true, false, cond, codes, decimal, is_some, option_map, unwrap_or, Option, Some, None, refl, sym, ap, ap₂, ◌∙◌, arith}
 use Rattle.std.proofs.lemmas.Bool.{ne_eqb}
 use Rattle.std.proofs.lemmas.Fmt.{decimal_nonempty}
@@ -154,7 +154,7 @@ neat_new k r ns named moment meta space full now m =
     (Neat-put 98 Metadata (codes "name") (string named) _ (one_name named full)
     (neat_generation (has_generation k) 1 (without (codes "deletionTimestamp") meta) (Neat-without 98 Metadata (codes "deletionTimestamp") meta m)))))
 
--- ---- what holds of every outcome
+-- ---- what is true of every outcome
 
 abbrev pub Stores : ℕ → Outcome → Type 0
 Stores r o = OfStored o (λ k d. IsStored k r d)

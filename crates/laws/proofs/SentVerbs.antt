@@ -89,7 +89,7 @@ kept_some : (o new : Option (List ℕ)) → is_some o ≡ true → IfSome o (λ 
 kept_some None new h k = cc
 kept_some (Some t) new h k = ap is_some k
 
--- what stands in the place of an object says what it said
+-- what stands in the place of an object has the members that it had
 says_in_place : (k : Key) (s : ℕ) (existing o : Data) (is_new : Bool) → IsStored k s existing → not (names_path k o) ≡ false → Says k (with_next_generation is_new existing (metadata_of (in_place k.kind existing o)))
 says_in_place k s existing o is_new was path =
     let d = in_place k.kind existing o in
@@ -189,7 +189,7 @@ neat_deletion false is_new moment existing now m =
     Neat-put 98 Metadata (codes "deletionTimestamp") (string moment) (with_next_generation is_new existing (metadata_of existing)) (one_deletion moment now)
     (neat_generation is_new (next_generation (generation existing)) (metadata_of existing) m)
 
--- what is marked says what it said
+-- an object whose deletionTimestamp is set has the members that it had
 text_marked : (q : List ℕ) (k : Kind) (moment : List ℕ) (left : Items) (existing : Data) → bytes_eq q (codes "finalizers") ≡ false → bytes_eq q (codes "deletionTimestamp") ≡ false
     → bytes_eq q (codes "generation") ≡ false → text_in q (with_finalizers left (with_deletion k moment existing)) ≡ text_in q (metadata_of existing)
 text_marked q k moment left existing a b c =

@@ -1,4 +1,4 @@
--- Each object that is there was created at the revision that its uid holds, and has stood since.
+-- Each object that is there was created at the revision that its uid encodes, and has stood since.
 use Rattle.std.proofs.Common.{◌≡◌, ◌≤◌, ◌<◌, ◌+◌, ◌-◌, ◌⊎◌, inl, inr, ℕ, zero, suc, List, [], ◌∷◌, ◌++◌, length, take, Bool, true, false, cond, codes, IfSome, Option, Some, None, slice_get, nat_le, refl, sym, ap, subst, ◌∙◌, arith, length-append}
 use Rattle.std.proofs.lemmas.Bool.{leb-true, leb-false}
 use Rattle.std.proofs.lemmas.List.{take-append-le}

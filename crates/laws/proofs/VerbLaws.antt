@@ -62,7 +62,7 @@ same_at : (b : Bool) (s t : List ℕ) → bytes_eq s t ≡ b → not b ≡ false
 same_at true s t is h = sym ((bytes_eq-Decides s t).0 is)
 same_at false s t is h = absurd (true≢false h)
 
--- a version that is named and does not differ is the one that is held
+-- a version that is named and does not differ is the stored one
 pub same : (s : List ℕ) (existing : Option (List ℕ)) → differs (Some s) existing ≡ false → existing ≡ Some s
 same s None h = absurd (true≢false h)
 same s (Some t) h = ap (λ u. Some u) (same_at (bytes_eq s t) s t refl h)
@@ -175,7 +175,7 @@ text-marked q k r moment left existing a b c e =
 abbrev KeepsBoth : Data → Data → Type 0
 KeepsBoth new existing = KeepsText (codes "uid") existing new × KeepsText (codes "creationTimestamp") existing new
 
--- what holds of the object that is there, and of none
+-- what is true of the object that is there, and of none
 pub of_held : (P : Data → Type 0) (now : Option Data) (existing : Data) → now ≡ Some existing → P existing → IfSome now P
 of_held P now existing is p = subst (λ o. IfSome o P) (sym is) p
 

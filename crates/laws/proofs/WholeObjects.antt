@@ -78,7 +78,7 @@ whole_with_said k existing o h w =
     whole_status k (status_in k (get (codes "status") o)) (members_of existing)
     (may_said k (get (codes "status") o) (members_of o) (sym (get-members_of (codes "status") o)) w) h
 
--- ---- what is kept
+-- ---- what is preserved
 
 stays : (q : List ℕ) (ms : Members) → bytes_eq q (codes "status") ≡ false → Has q ms → Has q (without (codes "status") ms)
 stays q ms other h = ap is_some (get_member-without_other q (codes "status") ms other) ∙ h
@@ -120,7 +120,7 @@ whole_read k d o read =
     let as_read : AreWhole k (filled_members k opening.left) = record { neat = opening.neat; filled = Filled-filled k opening.left } in
     subst (λ x. AreWhole k (members_of x)) (sym opening.is) as_read
 
--- ---- what is said
+-- ---- what is read
 
 said_as : (k : Kind) (d o : Data) (read : Result Data Part) → reading k d ≡ read → with_defaults k read ≡ Ok o → AreWhole k (members_of o)
 said_as k d o (Err p) is h = cc

@@ -51,7 +51,7 @@ pub record WaitsForBoth : Type 0 where
   pub is_patient : (o : Owner) (t : Table) → satisfied o 300001 (created o (creations_expected o 2 0 t)) ≡ true
   pub is_over : (o : Owner) (now : ℕ) (t : Table) → satisfied o now (created o (created o (creations_expected o 2 0 t))) ≡ true
 
--- what was forgotten holds nothing up, whatever the uid
+-- a ReplicaSet that was forgotten waits for nothing, whatever the uid
 abbrev pub ForgetsAll : Type 0
 ForgetsAll = (o : Owner) (now : ℕ) (t : Table) → satisfied o now (forgotten o.key t) ≡ true
 

@@ -47,7 +47,7 @@ WritesSetState =
 
 -- ---- the verbs
 
--- what holds of the object that an outcome writes, if it writes one
+-- what is true of the object that an outcome writes, if it writes one
 abbrev pub OfStored : Outcome → (Key → Data → Type 0) → Type 0
 OfStored o P = IfSome (write_of o) (λ w. IfSome w.put (P w.key))
 
@@ -60,7 +60,7 @@ abbrev pub Carry : ℕ → List Write → Type 0
 Carry r [] = Unit {0}
 Carry r (w ∷ ws) = IfSome w.put (λ d. version d ≡ Some (decimal r)) × Carry (r + 1) ws
 
--- the uid of a new object holds the revision of its create, and no object was there
+-- the uid of a new object encodes the revision of its create, and no object was there
 abbrev pub CreatesAreNew : Type 0
 CreatesAreNew =
     (kind : Kind) (ns : List ℕ) (d : Data) (h : History) (moment : List ℕ)
@@ -133,7 +133,7 @@ BodiesFit = (method : Method) (target text : List ℕ) (q : Asked) → read_requ
 abbrev pub RunsOnlyAdd : Type 0
 RunsOnlyAdd = (s : Session) (lines : List (List ℕ)) → (more : History) × ((after_lines s lines).history ≡ s.history ++ more)
 
--- what has happened is the same whatever windows are kept
+-- what has happened is the same whatever the size of windows
 abbrev pub WindowsOnlyForget : Type 0
 WindowsOnlyForget = (m n : ℕ) (lines : List (List ℕ)) → (after_lines (start m) lines).history ≡ (after_lines (start n) lines).history
 

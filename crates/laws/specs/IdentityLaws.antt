@@ -11,7 +11,7 @@ use Rattle.laws.specs.HistoryLaws.{KeepsText}
 
 -- ---- versions
 
--- the write of a revision put this under a name
+-- the write of a revision put this under a key
 abbrev pub Put : History → ℕ → Key → Data → Type 0
 Put h r k d = (2 ≤ r) × (r ≤ present h) × (slice_get (writes h) (r - 2) ≡ Some (record { key = k; put = Some d }))
 
@@ -21,7 +21,7 @@ VersionsTellWrites =
     (h : History) (r : ℕ) (k : Key) (d : Data) → IsReached h → state h r k ≡ Some d
     → (v : ℕ) × (version d ≡ Some (decimal v)) × (v ≤ r) × Put h v k d
 
--- two objects, whenever they were there, that say one version are one
+-- two objects, whenever they were there, that name one version are one
 abbrev pub VersionsNameOneWrite : Type 0
 VersionsNameOneWrite =
     (h : History) (r s : ℕ) (k l : Key) (d e : Data) → IsReached h → state h r k ≡ Some d → state h s l ≡ Some e → version d ≡ version e
@@ -29,21 +29,21 @@ VersionsNameOneWrite =
 
 -- ---- uids
 
--- the write of a revision created an object with a uid under a name where none was
+-- the write of a revision created an object with a uid under a key where none was
 abbrev pub Created : History → ℕ → Key → List ℕ → Type 0
 Created h c k t = (d : Data) × Put h c k d × (uid d ≡ Some t) × (state h (c - 1) k ≡ None)
 
--- what was under a name at a revision was this object, with its uid, and being deleted since the same moment if it was
+-- what was under a key at a revision was this object, with its uid, and being deleted since the same moment if it was
 abbrev pub Stood : History → ℕ → Key → Data → Type 0
 Stood h s k d = (was : Data) × (state h s k ≡ Some was) × (uid was ≡ uid d) × KeepsText (codes "deletionTimestamp") was d
 
--- an object that is there has the uid of the revision that created it under its name, and has stood there ever since
+-- an object that is there has the uid of the revision that created it under its key, and has stood there ever since
 abbrev pub UidsTellCreates : Type 0
 UidsTellCreates =
     (h : History) (r : ℕ) (k : Key) (d : Data) → IsReached h → r ≤ present h → state h r k ≡ Some d
     → (c : ℕ) × (c ≤ r) × (uid d ≡ Some (uid_text cluster_word c)) × Created h c k (uid_text cluster_word c) × ((s : ℕ) → c ≤ s → s ≤ r → Stood h s k d)
 
--- a uid is given once: two objects, whenever they were there, that have one uid have one name
+-- a uid is given once: two objects, whenever they were there, that have one uid have one key
 abbrev pub UidsAreGivenOnce : Type 0
 UidsAreGivenOnce =
     (h : History) (r s : ℕ) (k l : Key) (d e : Data) → IsReached h → r ≤ present h → s ≤ present h → state h r k ≡ Some d → state h s l ≡ Some e → uid d ≡ uid e

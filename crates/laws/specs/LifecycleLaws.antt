@@ -20,11 +20,11 @@ use Rattle.definitions.specs.Values.{merged}
 use Rattle.definitions.specs.Verbs.{Outcome, accept, write_of, outcome_body, history_after, object_in}
 use Rattle.definitions.specs.ObjectRequests.{Request, create_object, update_object, update_status, patch_object, delete_object}
 
--- what holds of the object that is there before a request, and of the one that it writes in its place
+-- what is true of the object that is there before a request, and of the one that it writes in its place
 abbrev pub OfReplaced : History → Outcome → (Key → Data → Data → Type 0) → Type 0
 OfReplaced h o P = OfStored o (λ k new. IfSome (state h (present h) k) (λ existing. P k existing new))
 
--- what holds of the object that a request removes
+-- what is true of the object that a request removes
 abbrev pub IfRemoved : Option Data → Type 0 → Type 0
 IfRemoved None P = P
 IfRemoved (Some d) P = Unit {0}
@@ -46,7 +46,7 @@ DeletesSpareFinalizers =
     → OfRemoved h (accept (delete_object k o) h moment)
     (λ gone existing. (gone ≡ k) × (all_of_policy (finalizers existing) ≡ true) × (o.policy ≡ None → finalizers existing ≡ no_items))
 
--- every other request removes only what is being deleted, when it takes the last finalizer (Kubernetes, Finalizers)
+-- every other request removes only what is being deleted, when it removes the last finalizer (Kubernetes, Finalizers)
 abbrev pub LastFinalizersRemove : Type 0
 LastFinalizersRemove =
     (q : Request) (h : History) (moment : List ℕ) → is_delete q ≡ false
@@ -114,11 +114,11 @@ StatusesChangeNothingElse =
 
 -- ---- named versions
 
--- what is written under a name, or removed, stood there at just this version
+-- what is written under a key, or removed, stood there at just this version
 abbrev pub ReplacesVersion : Key → List ℕ → History → Outcome → Type 0
 ReplacesVersion k named h o = IfSome (write_of o) (λ w. (existing : Data) × (w.key ≡ k) × (state h (present h) k ≡ Some existing) × (version existing ≡ Some named))
 
--- what is written under a name, or removed, had just this uid
+-- what is written under a key, or removed, had just this uid
 abbrev pub ReplacesUid : Key → List ℕ → History → Outcome → Type 0
 ReplacesUid k named h o = IfSome (write_of o) (λ w. (existing : Data) × (w.key ≡ k) × (state h (present h) k ≡ Some existing) × (uid existing ≡ Some named))
 

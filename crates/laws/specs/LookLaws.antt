@@ -8,7 +8,7 @@ use Rattle.definitions.specs.Versions.{Watched, watched_from}
 use Rattle.definitions.specs.WatchReplies.{lines_from, watch_lines}
 use Rattle.definitions.specs.Windows.{floor}
 
--- a look of a watch: all that has happened by then, how many changes it asks for, and what it is given
+-- a look of a watch: all that has happened by then, how many events it asks for, and what it is given
 pub record Look : Type 0 where
   pub history : History
   pub most : ℕ
@@ -44,7 +44,7 @@ LooksAreOneStream =
     × IsStream (last_history h ls) v a (last_stand a ls) (look_lines a ls)
     × (applied_lines (list (last_history h ls) v a) (look_lines a ls) ≡ list (last_history h ls) v (last_stand a ls))
 
--- whether a look is answered does not hang on how many changes it asks for, and 0 may be asked: it is given no more than these,
+-- whether a look is answered does not depend on how many events it asks for, and 0 may be asked: it is given no more than these,
 -- its lines are a stream to where it stands, and where it is given fewer it stands at the present revision
 abbrev pub LooksAskForAnyNumber : Type 0
 LooksAskForAnyNumber =

@@ -30,7 +30,7 @@ NamesAreValid = (h : History) (r : ℕ) (k : Key) (d : Data) → IsReached h →
 
 -- ---- what is changed
 
--- what is parsed stays so with a member set in its metadata, or taken out of it
+-- what is parsed stays so with a member set in its metadata, or removed from it
 abbrev pub MetadataEditsStayParsed : Type 0
 MetadataEditsStayParsed =
     (d e : Data) (q : List ℕ) → IsUtf8 q → IsParsed d → IsParsed e

@@ -48,12 +48,12 @@ whole k = history.whole k None
 abbrev pub object_of : Kind → Event → Object
 object_of k c = record { kind = k; value = c.object }
 
--- what a change shows is read as it stands, and says the change's key and revision
+-- the object of an event is read as it stands, and names the event's key and revision
 pub record IsTold (k : Kind) (c : Event) : Type 0 where
   pub shows : shown k c.object ≡ Some (record { object = object_of k c; revision = c.revision })
   pub names : name_in (object_of k c) ≡ c.key
 
--- what a change shows is an object that a line has room for
+-- the object of an event is one that a line has room for
 pub record IsShort (c : Event) : Type 0 where
   pub is_object : IsSome (as_object c.object)
   pub nests : depth c.object ≤ 100
@@ -87,7 +87,7 @@ pub record IsListText (h : History) (k : Kind) (r : ℕ) (body : List ℕ) : Typ
 abbrev pub listed_at : History → Kind → ℕ → Listed
 listed_at h k r = record { revision = r; objects = objects_in k (list h (whole k) r) }
 
--- who puts the objects of a list of a kind in place of what it held holds that list
+-- who replaces what it has by the objects of a list of a kind has that list
 abbrev pub ListsArePut : Type 0
 ListsArePut = (h : History) (k : Kind) (r : ℕ) → IsReached h → put_all [] (objects_in k (list h (whole k) r)) ≡ list h (whole k) r
 

@@ -16,26 +16,26 @@ use Rattle.definitions.specs.Collections.{ListOptions, WatchOptions}
 use Rattle.definitions.specs.Lists.{list_outcome}
 use Rattle.server_state.specs.Servers.{list_served, watch_served, Server, opened_server, after_write, after_writing, after_entries, list_by, watch_by, compact_by, IsServerAfter}
 
--- a new server holds the empty history
+-- a new server stands for the empty history
 abbrev pub ServersOpen : Type 0
 ServersOpen = (size : ℕ) → IsServerAfter size (opened_server size) []
 
--- after a write it holds the history with that write
+-- after a write it stands for the history with that write
 abbrev pub ServersWrite : Type 0
 ServersWrite = (size : ℕ) (s : Server) (h : History) (w : Write) → IsServerAfter size s h → IsServerAfter size (after_write s w) (h ++ write w ∷ [])
 
--- one that takes in what has happened, entry by entry, holds it all
+-- one that takes in what has happened, entry by entry, stands for all of it
 abbrev pub ServersFollow : Type 0
 ServersFollow = (size : ℕ) (s : Server) (h more : History) → IsServerAfter size s h → IsServerAfter size (after_entries s more) (h ++ more)
 
--- both are refused, and alike, or the server holds the history
+-- both are refused, and alike, or the server stands for the history
 abbrev pub HoldOrRefuse : ℕ → Result Server Refusal → Result History Refusal → Type 0
 HoldOrRefuse size (Err f) (Err g) = f ≡ g
 HoldOrRefuse size (Ok s) (Ok h) = IsServerAfter size s h
 HoldOrRefuse size (Err f) (Ok h) = ⊥
 HoldOrRefuse size (Ok s) (Err g) = ⊥
 
--- a compaction is refused as the history refuses it, or the server after it holds the history after it
+-- a compaction is refused as the history refuses it, or the server after it stands for the history after it
 abbrev pub ServersCompact : Type 0
 ServersCompact = (size : ℕ) (s : Server) (h : History) (r : ℕ) → IsServerAfter size s h → HoldOrRefuse size (compact_by s r) (compacts h r)
 
@@ -43,7 +43,7 @@ ServersCompact = (size : ℕ) (s : Server) (h : History) (r : ℕ) → IsServerA
 abbrev pub CompactionsHappen : Type 0
 CompactionsHappen = (h more : History) (r : ℕ) → compacts h r ≡ Ok more → CanHappen h → CanHappen more
 
--- a request is answered as after all that has happened, and the server after its write holds the history after it
+-- a request is answered as after all that has happened, and the server after its write stands for the history after it
 abbrev pub ServersAccept : Type 0
 ServersAccept =
     (size : ℕ) (s : Server) (h : History) (q : Request) (moment : List ℕ) → IsServerAfter size s h
@@ -58,8 +58,8 @@ ServersList = (size : ℕ) (s : Server) (h : History) (v : View) (at : At) → I
 abbrev pub ServersWatch : Type 0
 ServersWatch = (size : ℕ) (s : Server) (h : History) (v : View) (a n : ℕ) → IsServerAfter size s h → watch_by s v a n ≡ watched_from size h v a n
 
--- what a watch from a is given are the first changes after a, and all up to where it then stands: its lines are a stream up to there,
--- to play it on the list at a gives the list there, and the changes from there on are all that it has not been given
+-- what a watch from a is given are the first events after a, and all up to where it then stands: its lines are a stream up to there,
+-- to apply it to the list at a gives the list there, and the events from there on are all that it has not been given
 abbrev pub WatchesStand : Type 0
 WatchesStand =
     (size : ℕ) (h : History) (v : View) (a n : ℕ) (w : Watched) → watched_from size h v a n ≡ Ok w
@@ -71,7 +71,7 @@ WatchesStand =
     × (applied_lines (list h v a) (lines_from a w) ≡ list h v w.stands)
     × (events h v a (present h) ≡ w.events ++ events h v w.stands (present h))
 
--- whatever happens after it, the changes from a are what it was given and then those from where it stands
+-- whatever happens after it, the events from a are what it was given and then those from where it stands
 abbrev pub WatchesGoOn : Type 0
 WatchesGoOn =
     (size : ℕ) (h more : History) (v : View) (a n b : ℕ) (w : Watched) → watched_from size h v a n ≡ Ok w → w.stands ≤ b

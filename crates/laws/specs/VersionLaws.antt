@@ -1,20 +1,20 @@
--- What a watch is given a part at a time, by all the changes that it asks for.
+-- What a watch is given a part at a time, by all its events.
 use Rattle.std.specs.Prelude.{◌≡◌, ℕ, zero, suc, List, length, take, nat_le, option_map, unwrap_or, slice_get, if◌then◌else◌}
 use Rattle.definitions.specs.Events.{Event, events}
 use Rattle.definitions.specs.History.{History, View, present}
 use Rattle.definitions.specs.Versions.{Watched, watched_from}
 use Rattle.definitions.specs.Windows.{floor, within}
 
--- the revision of the n-th of these changes, and where n is 0 that from which the watch began
+-- the revision of the n-th of these events, and where n is 0 that from which the watch began
 abbrev pub nth_revision : ℕ → ℕ → List Event → ℕ
 nth_revision a zero cs = a
 nth_revision a (suc n) cs = unwrap_or (option_map (λ (c : Event). c.revision) (slice_get cs n)) a
 
--- the first n of all changes, and where the watch then stands: at the present revision where that is all of them, else at the n-th
+-- the first n of all events, and where the watch then stands: at the present revision where that is all of them, else at the n-th
 abbrev pub first_changes : ℕ → ℕ → ℕ → List Event → Watched
 first_changes now a n all = record { events = take n all; stands = if nat_le (length all) n then now else nth_revision a n all }
 
--- where the window answers, a watch is given the first n of all changes up to the present revision (Kubernetes API Concepts, Efficient detection of changes)
+-- where the window answers, a watch is given the first n of all events up to the present revision (Kubernetes API Concepts, Efficient detection of changes)
 abbrev pub WatchesGiveFirstChanges : Type 0
 WatchesGiveFirstChanges =
     (size : ℕ) (h : History) (v : View) (a n : ℕ)

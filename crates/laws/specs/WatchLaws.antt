@@ -1,14 +1,14 @@
--- What follows from the definitions of changes and streams.
+-- What follows from the definitions of events and streams.
 use Rattle.std.specs.Prelude.{◌≡◌, ◌≤◌, ◌<◌, ℕ, List, [], ◌∷◌, ◌++◌}
 use Rattle.definitions.specs.History.{History, View, list}
 use Rattle.definitions.specs.Events.{Event, events, applied}
 use Rattle.definitions.specs.Streams.{Line, IsStream, IsInitialStream, applied_lines}
 
--- playing the changes after a on the list at a gives the list at b
+-- applying the events after a to the list at a gives the list at b
 abbrev pub ChangesArePlayed : Type 0
 ChangesArePlayed = (h : History) (v : View) (a b : ℕ) → a ≤ b → applied (list h v a) (events h v a b) ≡ list h v b
 
--- the changes after a up to c are those up to b and then those after b
+-- the events after a up to c are those up to b and then those after b
 abbrev pub ChangesGoOn : Type 0
 ChangesGoOn = (h : History) (v : View) (a b c : ℕ) → a ≤ b → b ≤ c → events h v a c ≡ events h v a b ++ events h v b c
 
@@ -20,10 +20,10 @@ AreBetween a b (c ∷ cs) = (a < c.revision) × (c.revision ≤ b) × AreBetween
 abbrev pub ChangesLieBetween : Type 0
 ChangesLieBetween = (h : History) (v : View) (a b : ℕ) → AreBetween a b (events h v a b)
 
--- who holds the list at a and plays a stream from a to b holds the list at b
+-- who has the list at a and applies a stream from a to b has the list at b
 abbrev pub StreamsArePlayed : Type 0
 StreamsArePlayed = (h : History) (v : View) (a b : ℕ) (ls : List Line) → a ≤ b → IsStream h v a b ls → applied_lines (list h v a) ls ≡ list h v b
 
--- who holds nothing and plays an initial stream at a, then to b, holds the list at b
+-- who has nothing and applies an initial stream at a, then to b, has the list at b
 abbrev pub InitialStreamsArePlayed : Type 0
 InitialStreamsArePlayed = (h : History) (v : View) (a b : ℕ) (ls : List Line) → a ≤ b → IsInitialStream h v a b ls → applied_lines [] ls ≡ list h v b

@@ -31,7 +31,7 @@ KeptWritesArePast = (s : Window) (h : History) → IsWindowAfter s h → last_re
 abbrev pub WatchesAreServed : Type 0
 WatchesAreServed = (s : Window) (h : History) (v : View) (a n : ℕ) → IsWindowAfter s h → v.kind ≡ s.kind → recorded_since s (present h) v a n ≡ since s.size h v a n
 
--- the present list, with the kept writes above r undone, is the list at r
+-- the present list, with the recorded changes above r undone, is the list at r
 abbrev pub ListsAreUndone : Type 0
 ListsAreUndone =
     (s : Window) (h : History) (v : View) (r : ℕ) → IsWindowAfter s h → v.kind ≡ s.kind → recorded_list s (present h) (list h v (present h)) v r ≡ list_within s.size h v r

@@ -6,8 +6,8 @@ pub fn queues_once()
     ensures { QueuesOnce }
 {}
 
-/// The key that is handed out is not being processed: none is handed out twice before a `done` of it, so as long as only the worker
-/// that has a key calls `done` with it, no key is in two workers' hands.
+/// The key that is handed out is not being processed: none is handed out twice before a `done` of it, so as long as only the
+/// worker that has a key calls `done` with it, no key is in two workers' hands.
 pub fn hands_apart()
     ensures { HandsApart }
 {}

@@ -6,7 +6,8 @@ pub fn no_policy_leaves_all()
     ensures { NoPolicyLeavesAll }
 {}
 
-/// One with a policy leaves all other finalizers, and of `orphan` and `foregroundDeletion` its own at the end; where these are the finalizers already, the list stays as it is.
+/// One with a policy leaves all other finalizers, and of `orphan` and `foregroundDeletion` its own at the end; where these are
+/// the finalizers already, the list stays as it is.
 pub fn policies_replace_finalizers()
     ensures { PoliciesReplaceFinalizers }
 {}

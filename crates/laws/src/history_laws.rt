@@ -36,7 +36,7 @@ pub fn writes_carry_their_revision()
     ensures { WritesCarryTheirRevision }
 {}
 
-/// A create finds nothing under its key, and gives a uid that holds its own revision.
+/// A create finds nothing under its key, and gives a uid that encodes its own revision.
 pub fn creates_are_new()
     ensures { CreatesAreNew }
 {}
@@ -56,7 +56,7 @@ pub fn writes_fit()
     ensures { WritesFit }
 {}
 
-/// Whatever is accepted fits: who applies an accepted write is not refused for want of room.
+/// Whatever is accepted fits: who applies an accepted write is not refused for lack of room.
 pub fn writes_have_room()
     ensures { WritesHaveRoom }
 {}
@@ -91,12 +91,12 @@ pub fn runs_only_add()
     ensures { RunsOnlyAdd }
 {}
 
-/// How many writes are kept for watches and older lists is no matter to what happens.
+/// How many changes are recorded for watches and lists of earlier revisions makes no difference to what happens.
 pub fn windows_only_forget()
     ensures { WindowsOnlyForget }
 {}
 
-/// What was read reads as itself: who takes in what the server sent holds what the server holds.
+/// What was read reads as itself: who takes in what the server sent has what the server has.
 pub fn reads_again()
     ensures { ReadsAgain }
 {}

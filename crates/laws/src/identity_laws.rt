@@ -6,17 +6,17 @@ pub fn versions_tell_writes()
     ensures { VersionsTellWrites }
 {}
 
-/// Two objects, whenever they were there, that say one version are one object under one name.
+/// Two objects, whenever they were there, that name one version are one object under one key.
 pub fn versions_name_one_write()
     ensures { VersionsNameOneWrite }
 {}
 
-/// An object that is there has the uid of the revision that created it, and has stood under its name ever since.
+/// An object that is there has the uid of the revision that created it, and has stood under its key ever since.
 pub fn uids_tell_creates()
     ensures { UidsTellCreates }
 {}
 
-/// Two objects, whenever they were there, that have one uid have one name.
+/// Two objects, whenever they were there, that have one uid have one key.
 pub fn uids_are_given_once()
     ensures { UidsAreGivenOnce }
 {}

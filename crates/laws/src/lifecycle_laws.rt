@@ -7,7 +7,7 @@ pub fn deletes_spare_finalizers()
     ensures { DeletesSpareFinalizers }
 {}
 
-/// Any other request removes an object only while it is being deleted, by taking its last finalizer.
+/// Any other request removes an object only while it is being deleted, by removing its last finalizer.
 pub fn last_finalizers_remove()
     ensures { LastFinalizersRemove }
 {}
@@ -57,12 +57,12 @@ pub fn patches_replace_their_version()
     ensures { PatchesReplaceTheirVersion }
 {}
 
-/// A delete that names a version marks or removes exactly that version.
+/// A delete that names a version removes exactly that version, or sets its deletionTimestamp.
 pub fn deletes_remove_their_version()
     ensures { DeletesRemoveTheirVersion }
 {}
 
-/// A delete that names a uid marks or removes the object with that uid, and none that was made after it under its name.
+/// A delete that names a uid removes the object with that uid, or sets its deletionTimestamp, and no later one under its key.
 pub fn deletes_find_their_uid()
     ensures { DeletesFindTheirUid }
 {}

@@ -16,8 +16,8 @@ pub fn names_are_valid()
     ensures { NamesAreValid }
 {}
 
-/// What is as a parser gives it stays so where a member of its metadata, named in UTF-8, is set to what is so, or taken
-/// out.
+/// What is as a parser gives it stays so where a member of its metadata, named in UTF-8, is set to what is so, or
+/// removed.
 pub fn metadata_edits_stay_parsed()
     ensures { MetadataEditsStayParsed }
 {}

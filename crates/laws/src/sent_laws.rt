@@ -1,19 +1,19 @@
 //! Laws of what is stored and sent, for who takes it in.
 ghost use Rattle.laws.specs.SentLaws.{ObjectsAreKept, ChangesAreTold, ListsArePut, ListsAreRead, ListsNest, WatchesAreStreams};
 
-/// Whoever asks, each object that is ever stored reads as itself, and says its name, its namespace, a uid and the
+/// Whoever asks, each object that is ever stored reads as itself, and has its name, its namespace, a uid and the
 /// revision of its write: no client is sent an object that it can't take in.
 pub fn objects_are_kept()
     ensures { ObjectsAreKept }
 {}
 
-/// Whoever asked before, each change that a watch of a kind shows is read as it stands, says whose it is and its
+/// Whoever asked before, each event that a watch of a kind shows is read as it stands, names its key and its
 /// revision, and is short enough for a line.
 pub fn changes_are_told()
     ensures { ChangesAreTold }
 {}
 
-/// Whoever asked before, who puts the objects of a list of a kind in place of what it held holds that list.
+/// Whoever asked before, who replaces what it has by the objects of a list of a kind has that list.
 pub fn lists_are_put()
     ensures { ListsArePut }
 {}
@@ -28,7 +28,7 @@ pub fn lists_nest()
     ensures { ListsNest }
 {}
 
-/// What a watch is shown of the changes after a revision is a stream from there to the present revision.
+/// What a watch is shown of the events after a revision is a stream from there to the present revision.
 pub fn watches_are_streams()
     ensures { WatchesAreStreams }
 {}

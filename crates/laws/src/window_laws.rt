@@ -6,7 +6,7 @@ pub fn windows_open()
     ensures { WindowsOpen }
 {}
 
-/// A window that records each write of its kind goes on following what happens.
+/// A window that records each change of its kind goes on following what happens.
 pub fn windows_record()
     ensures { WindowsRecord }
 {}
@@ -21,18 +21,18 @@ pub fn windows_compact()
     ensures { WindowsCompact }
 {}
 
-/// What a window keeps is no later than the present revision, so each next write has a revision above all of it.
+/// What a window records is no later than the present revision, so each next write has a revision above all of it.
 pub fn kept_writes_are_past()
     ensures { KeptWritesArePast }
 {}
 
-/// A watch that is served from a window gets just the changes that have happened since its revision: none is lost and
+/// A watch that is served from a window gets just the events since its revision: none is lost and
 /// none is made up.
 pub fn watches_are_served()
     ensures { WatchesAreServed }
 {}
 
-/// A list of an earlier revision, made of the present one by undoing what is kept, shows just what was there.
+/// A list of an earlier revision, made of the present one by undoing recorded changes, shows just what was there.
 pub fn lists_are_undone()
     ensures { ListsAreUndone }
 {}

@@ -16,7 +16,7 @@ fate_seen Remove = deletion.remove
 fate_seen (Mark o) = deletion.mark o.value
 fate_seen Keep = deletion.keep
 
--- the result is this, or the precondition that is not met, or want of memory
+-- the result is this, or the precondition that is not met, or running out of memory
 abbrev pub Decides : Result deletion.Fate Mismatch → Result Fate DeleteFault → Type 0
 Decides wanted (Ok f) = wanted ≡ Ok (fate_seen f)
 Decides wanted (Err (fault.Mismatch why)) = wanted ≡ Err why

@@ -127,7 +127,7 @@ fn is_left_alone(policy: Option<Policy>, existing: &Object) -> bool
     existing.is_being_deleted() && leaves(policy, existing.finalizers())
 }
 
-/// Returns the object as being deleted, left to these finalizers, and so far at its version.
+/// Returns the object with its deletionTimestamp set and these finalizers, still at its old resourceVersion.
 fn marked(
     alloc: Global,
     kind: Kind,

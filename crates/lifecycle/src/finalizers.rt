@@ -45,7 +45,7 @@ pub fn leaves(policy: Option<Policy>, items: &[Value]) -> bool
     }
 }
 
-/// Returns the finalizers that a delete leaves: with a policy, that of the policy in the place of those of any. The error is
+/// Returns the finalizers after a delete: if it names a policy, those of this policy replace those of any. The error is
 /// running out of memory.
 pub fn left_by(
     alloc: Global,

@@ -48,7 +48,7 @@ impl DeleteOptions {
         with_policy(Part::Options, uid, version, policy_said(value))
     }
 
-    /// Returns the options of a delete without a body, by what its query says of the policy. The error is `Part::Query` for an
+    /// Returns the options of a delete without a body, with the policy that its query names. The error is `Part::Query` for an
     /// unknown one.
     pub fn from_query(said: StatedPolicy) -> Result<DeleteOptions, Fault>
         ensures { ReadsOptions (options_with part.Query None None said) result }
@@ -82,7 +82,7 @@ fn policy_said(value: &Value) -> StatedPolicy
     StatedPolicy::read(text_at(value, "propagationPolicy"))
 }
 
-/// Returns the options with what is said of the policy, or the part of the request that says it wrong.
+/// Returns the options with the policy that is named or, where that is unknown, the part of the request that names it.
 fn with_policy(
     part: Part,
     uid: Option<String>,

@@ -8,8 +8,8 @@ ghost use Rattle.meta.specs.Writes.{write_of};
 use meta::{Key, Object, StoredObject, Write};
 use std::alloc::{AllocError, Global};
 
-/// Returns whether an update lets go of the stored object: it is being deleted, and the object as it is to be kept has no
-/// finalizer left, so nothing keeps it any more and it is removed (Kubernetes, Finalizers).
+/// Returns whether an update removes the stored object's last finalizer: it is being deleted, and the new object has no
+/// finalizer left, so it is removed (Kubernetes, Finalizers).
 ///
 /// Whether it is being deleted is asked of the stored object, since no update begins or ends a deletion; what
 /// finalizers are left is asked of the one in its place.
@@ -19,7 +19,7 @@ pub fn is_finalized(existing: &Object, object: &Object) -> bool
     existing.is_being_deleted() && object.metadata_member("finalizers").is_none()
 }
 
-/// Returns what an update writes: the object in the place of the stored one or, where nothing keeps that any more, its removal.
+/// Returns what an update writes: the object in the place of the stored one or, where no finalizer is left, its removal.
 /// The error is running out of memory.
 pub fn after_update(
     alloc: Global,

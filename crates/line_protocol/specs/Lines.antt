@@ -19,7 +19,7 @@ use Rattle.definitions.specs.Replies.{default_window, Session, start, Reply, out
 
 -- ---- what a line says
 
--- a method, a target and a body; a moment, from which on it is then; a revision up to which what happened is compacted; anything else
+-- a request: a method, a target and a body; a moment, which is the time from then on; a revision up to which what happened is compacted; or anything else
 pub data Line : Type 0 where
   ask : Method → List ℕ → List ℕ → Line
   at : List ℕ → Line
@@ -114,7 +114,7 @@ abbrev pub after_lines : Session → List (List ℕ) → Session
 after_lines s [] = s
 after_lines s (t ∷ ts) = after_lines (next s t) ts
 
--- what has happened once these lines were read; no window changes it
+-- what has happened once these lines were read; the size of windows makes no difference
 abbrev pub history_of : List (List ℕ) → History
 history_of ts = (after_lines (start default_window) ts).history
 

@@ -9,7 +9,7 @@ use Rattle.line_service.specs.declared.fault.RunFault.{RunFault}
 use Rattle.line_service.specs.declared.fault.RunFault.TheVariants as fault
 use Rattle.line_service.proofs.Cutting.{first_read}
 
--- want of memory and a failing reader are no failing writer
+-- running out of memory and a failing reader are no failing writer
 pub want-other : fault.Want ≢ fault.Write
 want-other e = cc
 
@@ -31,7 +31,7 @@ pub first_line_read : (left left' : Option (List ℕ)) (buffer line : List ℕ)
 first_line_read None left' buffer line b d some l = tt
 first_line_read (Some rest) left' buffer line b d some l = (first_read rest buffer line b some l, d)
 
--- what is kept is what was appended before
+-- what is left is what was appended before
 pub Appends-kept : (old mid new : Option (List ℕ)) (xs : List ℕ) → Appends old mid xs → Keeps mid new → Appends old new xs
 Appends-kept None mid new xs h k = tt
 Appends-kept (Some o) None new xs h k = absurd h

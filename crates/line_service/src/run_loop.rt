@@ -91,7 +91,7 @@ fn send<W: Write>(writer: &mut W, reply: &[u8]) -> Result<(), RunFault>
 }
 
 /// Answers each line that is read, to the end, and writes the replies and nothing else. Each reply that is not empty is flushed
-/// before the next line is waited for. One line is stored at a time, and its memory is used again for the next.
+/// before the next line is waited for. One line is in memory at a time, and its memory is used again for the next.
 ///
 /// At an error a beginning of all the replies was written. The service has answered some of the lines, from the first
 /// on, and no others; their replies were written whole, unless it was the writer that failed: then those of all but the

@@ -1,4 +1,4 @@
--- A text that nests no deeper than is read back, or else a tree beside it, says what was kept.
+-- A text that nests no deeper than is read back, or else a tree beside it, gives what was stored.
 use Rattle.std.proofs.Common.{◌≡◌, ◌≤◌, ℕ, List, Option, Some, None, unwrap_or, ap}
 use Rattle.serde_json.specs.Data.{Data, null, depth}
 use Rattle.serde_json.specs.Read.{read, max_depth}

@@ -26,6 +26,6 @@ refusal_of fault.NoMemory = no_memory
 refusal_of (fault.TooNew asked present) = too_new asked present
 refusal_of fault.StorageFull = storage_full
 
--- the fault is want of memory, or the part of the request for which the value is not read as an object of the kind
+-- the fault is running out of memory, or the part of the request for which the value is not read as an object of the kind
 abbrev pub RefusesReading : Kind → Data → Fault → Type 0
 RefusesReading k d e = (e ≡ fault.NoMemory) ⊎ ((p : Part) × (e ≡ fault.BadRequest p) × (reading k d ≡ Err p))

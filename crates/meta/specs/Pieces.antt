@@ -17,7 +17,7 @@ pub record IsCut (p : Pieces) (text : List ℕ) : Type 0 where
 abbrev pub cut : Pieces → List ℕ → List ℕ
 cut p text = take p.first_end text ++ (slice_range text p.second_start p.second_end ++ drop p.third_start text)
 
--- what is kept says this item's text
+-- what is stored gives this item's text
 abbrev pub Says : Item → List ℕ → List ℕ → Type 0
 Says (item.Within p) text shown = IsCut p text × (cut p text ≡ shown)
 Says (item.Apart s) text shown = string_bytes s ≡ shown

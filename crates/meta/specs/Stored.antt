@@ -1,4 +1,4 @@
--- What is kept of an object.
+-- What is stored of an object.
 use Rattle.std.specs.Prelude.{◌≡◌, ◌≤◌, ℕ, List, true, false, Option, Some, None, is_some, unwrap_or, option_and_then, map, codes}
 use Rattle.std.specs.Box.{box_value}
 use Rattle.std.specs.Global.{Box}
@@ -19,7 +19,7 @@ use Rattle.meta.specs.declared.pieces.Item.{Item}
 abbrev pub tree_view : Box Value → Data
 tree_view tree = view (box_value tree)
 
--- what is said by a tree, where one is kept, and else by the text
+-- the data of the tree, where one is stored, and else of the text
 abbrev pub data_kept : Option Data → List ℕ → Data
 data_kept None text = unwrap_or (read text) null
 data_kept (Some d) text = d
@@ -34,7 +34,7 @@ pub record Keeps (d : Data) (text : List ℕ) (item : Item) (labels : List Label
   pub says_item : Says item text (compact_text (as_item d))
   pub are_labels : map label_of labels ≡ labels_of (option_and_then as_object (metadata (codes "labels") d))
 
--- the tree of d is kept only where d nests too deep
+-- the tree of d is stored only where d nests too deep
 abbrev pub IsTree : Option Data → Data → Type 0
 IsTree None d = depth d ≤ max_depth
 IsTree (Some e) d = e ≡ d

@@ -66,7 +66,7 @@ impl Object {
 }
 
 impl Draft {
-    /// Takes out the member `name` of the metadata, if it is there.
+    /// Removes the member `name` of the metadata, if it is there.
     pub fn remove(&mut self, name: &str)
         ensures metadata { self.new.metadata ≡ without name.now self.old.metadata }
         ensures rest { self.new.rest ≡ self.old.rest }
@@ -113,7 +113,7 @@ impl Draft {
         serde_json::put(&mut self.metadata, alloc, name, Value::Array(items))
     }
 
-    /// Sets the member `name` of the metadata to what `held` has there, or takes it out where `held` has none. The error,
+    /// Sets the member `name` of the metadata to what `existing` has there, or removes it where `existing` has none. The error,
     /// running out of memory, leaves the draft as it was.
     pub fn keep(&mut self, alloc: Global, name: &str, existing: &Object) -> Result<(), AllocError>
         ensures metadata { OnOk result (self.new.metadata

@@ -21,7 +21,7 @@ pub enum Fault {
     AlreadyExists(Key),
     /// The object under the key is not the one that the request named.
     Conflict(Key, Mismatch),
-    /// The revision asked for is below the floor, the least that is still kept.
+    /// The revision asked for is below the floor, the least that is still served.
     Expired { asked: u64, floor: u64 },
     /// The request does not say how long its body is.
     LengthRequired,

@@ -9,7 +9,8 @@ use crate::objects::Object;
 use serde_json::Value;
 
 impl Object {
-    /// Returns the finalizers: each a text that keeps the object until who put it there takes it out (Kubernetes, Finalizers).
+    /// Returns the finalizers: each a text that keeps the object until whoever put it there removes it (Kubernetes,
+    /// Finalizers).
     pub fn finalizers(&self) -> &[Value]
         ensures items { items_view result.now ≡ finalizers self.now.value }
         ensures no_float { items_have_float (items_view result.now) ≡ false }

@@ -27,7 +27,7 @@ pub(crate) fn push_item_text(
     text.push_str("}")
 }
 
-/// Adds a member, after others or as the first, unless a list says it once. Answers whether there are members now.
+/// Adds a member, after others or as the first, unless a list says it once. Returns whether there are members now.
 fn push_member_text(
     alloc: Global,
     later: bool,

@@ -1,4 +1,4 @@
-//! An object's labels as they are kept: a list, which takes less memory than a map.
+//! An object's labels as they are stored: a list, which takes less memory than a map.
 ghost use Rattle.std.specs.Prelude.{◌≡◌, IfOk, map, option_map};
 ghost use Rattle.serde_json.specs.Find.{as_str};
 ghost use Rattle.serde_json.specs.View.{view, members_view};

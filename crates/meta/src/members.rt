@@ -17,14 +17,14 @@ pub fn into_members(alloc: Global, value: Value) -> Map<String, Value>
     }
 }
 
-/// Takes out the member `name`, if it is there.
+/// Removes the member `name`, if it is there.
 pub fn remove(members: &mut Map<String, Value>, name: &str)
     ensures { members_view members.new.entries ≡ without name.now (members_view members.old.entries) }
 {
     drop(members.remove(name));
 }
 
-/// Takes the value at `name`, which is null where there is none, and leaves null there.
+/// Returns the value at `name`, which is null where there is none, and leaves null there.
 pub fn take(
     alloc: Global,
     members: &mut Map<String, Value>,

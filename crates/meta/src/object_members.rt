@@ -1,4 +1,4 @@
-//! Objects with a member set, kept or taken out.
+//! Objects with a member set, preserved or removed.
 ghost use Rattle.std.specs.Prelude.{◌≡◌, IfOk, false};
 ghost use Rattle.serde_json.specs.Data.{object, put};
 ghost use Rattle.serde_json.specs.Find.{get_member};
@@ -36,8 +36,8 @@ impl Object {
         Object::from_whole(kind, Value::Object(members))
     }
 
-    /// Returns the object with the member `name` as `held` has it, or without it where `held` has none. The error is running
-    /// out of memory.
+    /// Returns the object with the member `name` as `existing` has it, or without it where `existing` has none. The error is
+    /// running out of memory.
     pub fn keep_member(
         self,
         alloc: Global,

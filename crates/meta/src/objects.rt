@@ -95,7 +95,7 @@ impl Object {
         }
     }
 
-    /// Returns all that the object says, lent.
+    /// Returns a reference to the object's value.
     pub(crate) fn value(&self) -> &Value
         ensures value { view result.now ≡ self.now.value }
         ensures no_float { has_float (view result.now) ≡ false }
@@ -104,7 +104,7 @@ impl Object {
         &self.value
     }
 
-    /// Returns all that the object says.
+    /// Returns the object's value.
     pub fn into_value(self) -> Value
         ensures value { view result ≡ self.value }
         ensures no_float { has_float (view result) ≡ false }
@@ -114,7 +114,7 @@ impl Object {
         value
     }
 
-    /// Returns an object of a kind, that says what a value says.
+    /// Returns the object of a kind with this value.
     pub fn from_whole(kind: Kind, value: Value) -> Object
         requires no_float { has_float (view value) ≡ false }
         requires object { is_some (as_object (view value)) ≡ true }
@@ -182,7 +182,7 @@ impl Object {
         metadata_text(&self.value, "resourceVersion")
     }
 
-    /// Returns how many specs the object has had, as its metadata says; 0 where it says none.
+    /// Returns how many specs the object has had, as its metadata has it; 0 where it has none.
     pub fn generation(&self) -> u64
         ensures { result ≡ generation self.now.value }
     {
@@ -192,8 +192,8 @@ impl Object {
         }
     }
 
-    /// Returns the generation after the object's; the greatest whole number that every reader of JSON holds exactly has none
-    /// after it.
+    /// Returns the generation after the object's; the greatest whole number that every reader of JSON represents exactly has
+    /// none after it.
     pub fn next_generation(&self) -> u64
         ensures { result ≡ next_generation (generation self.now.value) }
     {
@@ -205,7 +205,7 @@ impl Object {
         }
     }
 
-    /// Returns whether the object is marked for deletion.
+    /// Returns whether the object is being deleted: its deletionTimestamp is set.
     pub fn is_being_deleted(&self) -> bool
         ensures { result ≡ is_being_deleted self.now.value }
     {

@@ -27,7 +27,7 @@ pub(crate) enum Item {
 }
 
 impl Item {
-    /// Returns what is to be kept of an item's text beside the object's text.
+    /// Returns what is to be stored of an item's text beside the object's text.
     pub(crate) fn new(kind: Kind, text: &str, shown: String) -> Item
         ensures { Says result text.now (string_bytes shown) }
     {

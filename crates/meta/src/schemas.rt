@@ -1,4 +1,4 @@
-//! What is said of the members of an object, by tables.
+//! The schemas of objects: tables of their members.
 ghost use Rattle.std.specs.Prelude.{◌≡◌};
 ghost use Rattle.definitions.specs.Schemas.{kept, unless_empty, member_at};
 ghost use Rattle.definitions.specs.declared.schemas.Schema.TheVariants.{Root, Metadata, OwnerReference, PodSpec, PodStatus, Condition, ReplicaSetSpec, ReplicaSetStatus, DeploymentSpec, DeploymentStatus, Selector, Expression, Template, TemplateMetadata, Strategy, DeleteOptions, Preconditions};
@@ -231,7 +231,7 @@ fn root_member(kind: Kind, name: &str) -> Member
     }
 }
 
-/// Returns what is said of the member `name` of an object with this schema.
+/// Returns the shape of the member `name` of an object with this schema, and whether an empty one counts as absent.
 pub fn member_at(schema: Schema, name: &str) -> Member
     ensures { result ≡ member_at schema name.now }
 {

@@ -1,4 +1,4 @@
-//! Objects as a store keeps them.
+//! Objects as they are stored.
 ghost use Rattle.std.specs.Prelude.{◌≡◌, ◌≤◌, ◌++◌, Some, IfOk, OnOk, option_map, string_bytes, false};
 ghost use Rattle.serde_json.specs.Data.{depth};
 ghost use Rattle.serde_json.specs.Read.{read, max_depth};
@@ -13,7 +13,7 @@ use std::alloc::{AllocError, Global};
 use std::marker::Model;
 use std::sync::Arc;
 
-/// An object as it is kept: its text, which is made once and which copies share. It is read back only to be changed or
+/// An object as it is stored: its text, which is made once and which copies share. It is read back only to be changed or
 /// compared.
 #[derive(Drop)]
 pub struct StoredObject {
@@ -33,7 +33,7 @@ impl Model for StoredObject {
 }
 
 impl StoredObject {
-    /// Returns the object as it is to be kept. The error is running out of memory.
+    /// Returns the object as it is to be stored. The error is running out of memory.
     pub fn new(alloc: Global, object: &Object) -> Result<StoredObject, AllocError>
         ensures { IfOk result (λ s. s ≡ object.now) }
     {

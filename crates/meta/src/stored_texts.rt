@@ -1,4 +1,4 @@
-//! What is kept of an object: its texts, and what is asked of it without reading them.
+//! What is stored of an object: its texts, and what is asked of it without reading them.
 ghost use Rattle.std.specs.Prelude.{◌≡◌, ◌≤◌, ◌++◌, Some, IfOk, OnOk, codes, map, option_map, option_and_then, string_bytes, false, true, is_some};
 ghost use Rattle.serde_json.specs.Data.{depth};
 ghost use Rattle.serde_json.specs.Find.{as_object};
@@ -22,7 +22,7 @@ use std::marker::Model;
 /// How deep a text may nest that is read back.
 const GREATEST_DEPTH: u32 = 127;
 
-/// An object by its texts. A tree is kept only where the object nests too deep for its text to be read back. No object
+/// An object by its texts. A tree is stored only where the object nests too deep for its text to be read back. No object
 /// that a request brings does, since bodies nest at most 100 deep.
 #[derive(Drop)]
 pub(crate) struct StoredTexts {
@@ -50,7 +50,7 @@ impl Model for StoredTexts {
 }
 
 impl StoredTexts {
-    /// Returns what is kept of an object. The error is running out of memory.
+    /// Returns what is to be stored of an object. The error is running out of memory.
     pub(crate) fn new(alloc: Global, object: &Object) -> Result<StoredTexts, AllocError>
         ensures { IfOk result (λ k. k ≡ object.now) }
     {
@@ -111,7 +111,7 @@ impl StoredTexts {
     }
 }
 
-/// Returns the value that a text says. The text of each object says one, so the error is running out of memory.
+/// Returns the value of a text. The text of each object has one, so the error is running out of memory.
 fn read_back(alloc: Global, text: &str) -> Result<Value, AllocError>
     ensures { IfOk result (λ v. read text.now ≡ Some (view v)) }
 {

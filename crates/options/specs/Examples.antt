@@ -25,7 +25,7 @@ OptionsAreSaid =
     × (command (codes "serve" ∷ codes "--requests" ∷ codes "007" ∷ codes "--window" ∷ codes "4" ∷ [])
     ≡ Some (Serve (record { port = 8080; window = 4; threads = 16; requests = Some 7 })))
 
--- an option that is said twice, one without its value, a value without its option, and one that there is not, are bad arguments
+-- an option that is given twice, one without its value, a value without its option, and one that there is not, are bad arguments
 abbrev pub OptionsStandOnce : Type 0
 OptionsStandOnce =
     (command (codes "serve" ∷ codes "--port" ∷ codes "1" ∷ codes "--port" ∷ codes "1" ∷ []) ≡ None)

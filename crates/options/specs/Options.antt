@@ -24,7 +24,7 @@ row Window = record { name = codes "--window"; least = 1; greatest = 65536 }
 row Threads = record { name = codes "--threads"; least = 1; greatest = 64 }
 row Requests = record { name = codes "--requests"; least = 1; greatest = 999999999 }
 
--- the options that `serve` takes, and what stands where one is not said
+-- the options that `serve` takes, and the default of each
 abbrev pub serve_settings : List Setting
 serve_settings = Port ∷ Window ∷ Threads ∷ Requests ∷ []
 

@@ -9,7 +9,7 @@ use crate::words::{are_options, said};
 pub struct ServeOptions {
     /// The port to listen on; with 0 the system takes a free one.
     pub port: u16,
-    /// How many changes of each kind are kept.
+    /// How many changes of each kind are recorded.
     pub window: usize,
     /// How many threads serve.
     pub threads: usize,
@@ -38,7 +38,7 @@ impl Default for ServeOptions {
     ghost use Rattle.std.specs.Prelude.{◌≡◌};
     ghost use Rattle.options.specs.Options.{serve_defaults};
 
-    /// Returns the options of `kcp serve` where none is said.
+    /// Returns the options of `kcp serve` where none is given.
     fn default() -> ServeOptions
         ensures { result ≡ serve_defaults }
     {

@@ -5,7 +5,7 @@ ghost use Rattle.options.specs.Examples.{CommandsAreNamed, OptionsAreSaid, Optio
 pub fn words_ask()
     // A command is named by the first word.
     ensures commands_are_named { CommandsAreNamed }
-    // What is not said has its default.
+    // An option that is not given has its default.
     ensures options_are_said { OptionsAreSaid }
     // Each option stands once, with its value.
     ensures options_stand_once { OptionsStandOnce }

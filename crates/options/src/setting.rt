@@ -13,7 +13,7 @@ const MOST_DIGITS: usize = 9;
 pub enum Setting {
     /// The port to listen on; with 0 the system takes a free one.
     Port,
-    /// How many changes of each kind are kept.
+    /// How many changes of each kind are recorded.
     Window,
     /// How many threads serve.
     Threads,

@@ -46,7 +46,7 @@ pub fn are_options(settings: &[Setting], words: &[String]) -> bool
     rest.is_empty()
 }
 
-/// Returns the number that the words say for an option.
+/// Returns the number that the words give for an option.
 pub fn said(setting: Setting, words: &[String]) -> Option<u64>
     ensures value { result ≡ said setting (map string_bytes words.now) }
     ensures greatest { IfSome result (λ number. number ≤ (row setting).greatest) }

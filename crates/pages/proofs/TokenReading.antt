@@ -1,4 +1,4 @@
--- What a text that is a token's holds, and what a text that is none does not.
+-- What a text that is a token's is read as, and that one that is none is not read.
 use Rattle.std.proofs.Common.{◌≡◌, ◌≤◌, ◌<◌, ◌^◌, ℕ, List, Option, Some, None, option_map, Ok, Err, sym, ap, ◌∙◌, subst, arith}
 use Rattle.std.specs.Str.{IsUtf8}
 use Rattle.base64.specs.declared.decode.DecodeError.{DecodeError}

@@ -11,7 +11,7 @@ use Rattle.meta.specs.declared.faults.Fault.TheVariants as fault
 abbrev pub IsNoToken : List ℕ → Type 0
 IsNoToken text = (t : tokens.Token) → IsToken text t → ⊥
 
--- the fault is want of memory, or the page token, and then the text is none
+-- the fault is running out of memory, or the page token, and then the text is none
 abbrev pub RefusesToken : List ℕ → Fault → Type 0
 RefusesToken text e = (e ≡ fault.NoMemory) ⊎ ((e ≡ fault.BadRequest part.Token) × IsNoToken text)
 

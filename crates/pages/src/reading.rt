@@ -1,4 +1,4 @@
-//! What the text of a page token holds.
+//! The page token that a text is read as.
 ghost use Rattle.std.specs.Prelude.{◌≡◌, ◌≤◌, IfOk, IfErr, Some, option_map, option_and_then};
 ghost use Rattle.serde_json.specs.Find.{get, as_str};
 ghost use Rattle.serde_json.specs.View.{view};
@@ -16,7 +16,7 @@ use serde_json::{Category, Value};
 use stamps::revisions::read_revision;
 use std::alloc::{AllocError, Global};
 
-/// Returns the value that a text holds in base64, of whichever form.
+/// Returns the value that a text has in base64, of whichever form.
 pub fn value_of(alloc: Global, text: &str) -> Result<Value, Fault>
     ensures read { IfOk result (λ v. HoldsToken text.now (view v)) }
     ensures refused { IfErr result (RefusesToken text.now) }

@@ -18,7 +18,7 @@ use Rattle.controllers.specs.Reflectors.{Shown, Step, Run, run, step, shown, if_
 use Rattle.laws.specs.SentLaws.{whole, IsTold}
 use Rattle.reflector.proofs.Marks.{bookmark_step}
 
--- ---- the first change
+-- ---- the first event
 
 only_one : (at r b : ℕ) (xs ys : List Event) (c : Event) (cs : List Event) → c.revision ≡ r → xs ++ ys ≡ c ∷ cs → AreBetween at r xs → AreBetween r b ys → AreBetween r b cs → (xs ≡ c ∷ []) × (ys ≡ cs)
 only_one at r b [] [] c cs is e p q m = cc
@@ -35,7 +35,7 @@ only_one at r b (x ∷ y ∷ xs) ys c cs is e p q m =
     let low : r < y.revision = above.0 in
     let high : y.revision ≤ r = p.2.1 in absurd (omega arith)
 
--- at a change: the list there, and the changes after it
+-- at an event: the list there, and the events after it
 first_change : (h : History) (v : View) (at b : ℕ) (c : Event) (cs : List Event) → at ≤ b → c ∷ cs ≡ events h v at b
     → (at < c.revision) × (c.revision ≤ b) × (apply (list h v at) c ≡ list h v c.revision) × (cs ≡ events h v c.revision b)
 first_change h v at b c cs le e =
@@ -51,7 +51,7 @@ first_change h v at b c cs le e =
 
 -- ---- a bookmark
 
--- each change, if there is one, is after it
+-- each event, if there is one, is after it
 abbrev IsBefore : ℕ → List Event → Type 0
 IsBefore r [] = Unit {0}
 IsBefore r (c ∷ cs) = r < c.revision
@@ -64,7 +64,7 @@ none_before at r (x ∷ xs) ys (c ∷ cs) e p low =
     let same : x.revision ≡ c.revision = ap (λ (z : Event). z.revision) head in
     let high : x.revision ≤ r = p.1 in absurd (omega arith)
 
--- at a bookmark before the first change: the list there, and the changes after it
+-- at a bookmark before the first event: the list there, and the events after it
 at_bookmark : (h : History) (v : View) (at r b : ℕ) (cs : List Event) → at ≤ r → r ≤ b → IsBefore r cs → cs ≡ events h v at b → (list h v at ≡ list h v r) × (cs ≡ events h v r b)
 at_bookmark h v at r b cs low high before e =
     let none = none_before at r (events h v at r) (events h v r b) cs (sym (goes_on h v at r b low high) ∙ sym e) (lie_between h v at r) before in (
@@ -72,12 +72,12 @@ at_bookmark h v at r b cs low high before e =
       e ∙ goes_on h v at r b low high ∙ ap (λ z. z ++ events h v r b) none,
     )
 
--- ---- the step of a change
+-- ---- the step of an event
 
 above_is : (last : ℕ) (s : Shown) (o : Option Shown) → o ≡ Some s → last < s.revision → option_and_then (if_above last) o ≡ Some s
 above_is last s o e low = let b : nat_lt last s.revision ≡ true = grind arith in rw (e, b) refl
 
--- what a change does to the map
+-- what an event does to the map
 abbrev done_to : Members → ChangeKind → Key → Data → Members
 done_to ms kind n d = apply ms (record { kind = kind; revision = 0; key = n; object = d })
 

@@ -1,4 +1,4 @@
--- Names that stand twice, found with a set of those before.
+-- Keys that occur twice, found with a set of those before.
 use Rattle.std.proofs.Common.{◌≡◌, ◌<◌, ◌+◌, ℕ, List, [], ◌∷◌, length, drop, get_or, map, Bool, true, false, not, ◌||◌, Ordering, refl, sym, ap, ap₂, ◌∙◌}
 use Rattle.std.proofs.lemmas.List.{drop_more}
 use Rattle.std.specs.List.{list_any}
@@ -20,7 +20,7 @@ use Rattle.work_keys.proofs.SeenSets.{contains-seen, insert-seen}
 abbrev pub Names : Type 0
 Names = FinSet name_cmp
 
--- whether a name is among those before it
+-- whether a key is among those before it
 abbrev pub clashes : Names → List Name → Bool
 clashes before [] = false
 clashes before (n ∷ ns) = set.contains before n || clashes (set.insert before n) ns
@@ -55,7 +55,7 @@ meets_none : (ns : List Name) → meets set.empty ns ≡ false
 meets_none [] = refl
 meets_none (n ∷ ns) = ap (λ b. b || meets set.empty ns) (contains-empty name_cmp n) ∙ meets_none ns
 
--- with none before, they clash just where a name stands twice
+-- with none before, they clash just where a key occurs twice
 pub clashes_first : (ns : List Name) → clashes set.empty ns ≡ repeats ns
 clashes_first ns = clashes_are set.empty ns ∙ ap (λ b. b || repeats ns) (meets_none ns)
 

@@ -28,7 +28,7 @@ length-framed Deleted t = omega (arith, length-append t (codes ",\"type\":\"DELE
 length-framed Bookmark t = omega (arith, length-append t (codes ",\"type\":\"BOOKMARK\"}\n"))
 length-framed Error t = omega (arith, length-append t (codes ",\"type\":\"ERROR\"}\n"))
 
--- a line has room for a short change
+-- a line has room for a short event
 pub within : (c : Event) → IsShort c → IsWithin (frame_of c.key.kind (event c))
 within c short =
     let kind = frame_kind c.kind in

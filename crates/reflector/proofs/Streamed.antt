@@ -16,7 +16,7 @@ use Rattle.reflector.specs.Laws.{IsReadBack, IsSent, IsAt, GoesOn}
 use Rattle.reflector.proofs.Cutting.{reading_twice, flat, no_cutting_at, at_revision}
 use Rattle.reflector.proofs.Followed.{Reaches, follows}
 
--- the lines are read back as their events
+-- the lines are read back as their frames
 pub read_back : (k : Kind) (ls : List Line) (more : List ℕ) → AllByRecursion (IsReadBack k) ls → reading (text_of k ls ++ more) ≡ onto (map (frame_of k) ls) (reading more)
 read_back k [] more h = refl
 read_back k (l ∷ ls) more h =
@@ -31,7 +31,7 @@ no_fault : (f : Option FrameFault) (bytes : List ℕ) → (fed_after f bytes).fa
 no_fault None bytes h = refl
 no_fault (Some e) bytes h = h
 
--- a beginning of the bytes: some of the events, and no fault
+-- a beginning of the bytes: some of the frames, and no fault
 record Begins (es : List Frame) (bytes more : List ℕ) : Type 0 where
   pub later : List Frame
   pub events : (reading bytes).events ++ later ≡ es

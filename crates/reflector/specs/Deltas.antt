@@ -42,7 +42,7 @@ abbrev pub IsStep : Result Step End → Result reflectors.Step End → Type 0
 IsStep (Ok t) r = Ok (step_of t) ≡ r
 IsStep (Err e) r = Err e ≡ r
 
--- the fault for which a body is not taken in: want of memory, or that it is no list of the kind
+-- the fault for which a body is not taken in: running out of memory, or that it is no list of the kind
 abbrev pub RefusesList : Kind → List ℕ → ListFault → Type 0
 RefusesList k body e = (e ≡ fault.Want) ⊎ ((e ≡ fault.Unreadable) × (list_of k body ≡ None))
 

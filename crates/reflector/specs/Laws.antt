@@ -29,7 +29,7 @@ pub record IsSent (h : History) (k : Kind) (a b : ℕ) (ls : List Line) : Type 0
   pub told : AllByRecursion (IsTold k) (events h (whole k) a b)
   pub read : AllByRecursion (IsReadBack k) ls
 
--- a reflector that watches from a, and holds nothing of a frame
+-- a reflector that watches from a, and has nothing buffered of a frame
 pub record IsAt (s : Reflector) (a : ℕ) : Type 0 where
   pub watches : s.phase ≡ Watching
   pub revision : s.revision ≡ a
@@ -83,7 +83,7 @@ ServedStreamsAreFollowed =
     → GoesOn h s.kind a b (all_fed s pieces) × (play_deltas (list h (whole s.kind) a) (all_fed s pieces).deltas ≡ list h (whole s.kind) b)
 
 -- whoever asked a server: who takes in its list at a, and then whatever part of a watch from a has come, in whatever pieces,
--- holds the list at the revision named, whatever it buffered before
+-- has the list at the revision named, whatever it had before
 abbrev pub ListsAndWatchesAreFollowed : Type 0
 ListsAndWatchesAreFollowed =
     (h : History) (a b : ℕ) (ls : List Line) (s : Reflector) (ms : Members) (body : List ℕ) (pieces : List (List ℕ)) (more : List ℕ)

@@ -6,7 +6,7 @@ use meta::{Key, Object};
 /// What becomes of a map of objects, with the revision at which the map is then the server's.
 #[derive(Drop)]
 pub enum Delta {
-    /// At this revision there are these objects, in the order of the list that said so, and no others.
+    /// At this revision there are these objects, in the order of the list that has them, and no others.
     Replace(u64, Vec<Object>),
     /// The object is there. Its own `resourceVersion` is the revision.
     Put(Object),

@@ -40,7 +40,7 @@ fn show_above(alloc: Global, kind: Kind, last: u64, value: Value) -> Result<Opti
     }
 }
 
-/// Returns an object that is there.
+/// Returns the step of an object that was put.
 fn put_step(alloc: Global, kind: Kind, last: u64, value: Value) -> Result<Option<Step>, Want>
     ensures { IfOk result (λ t. option_map step_of t ≡ option_map put_step (shown_above kind last (view value))) }
 {
@@ -53,7 +53,7 @@ fn put_step(alloc: Global, kind: Kind, last: u64, value: Value) -> Result<Option
     }
 }
 
-/// Returns an object that is gone.
+/// Returns the step of an object that was removed.
 fn remove_step(alloc: Global, kind: Kind, last: u64, value: Value) -> Result<Option<Step>, Want>
     ensures { IfOk result (λ t. option_map step_of t ≡ option_map remove_step (shown_above kind last (view value))) }
 {
@@ -102,7 +102,7 @@ fn mark_step(kind: Kind, last: u64, value: &Value) -> Option<Step>
     })
 }
 
-/// Returns whether a Status says that the changes asked for are gone.
+/// Returns whether a Status says that the events asked for are gone.
 fn is_expiry(value: &Value) -> bool
     ensures { result ≡ is_expiry (view value.now) }
 {

@@ -54,7 +54,7 @@ fn repeats(alloc: Global, objects: &[Object]) -> Result<bool, Want>
     Ok(false)
 }
 
-/// Takes the items out of a list.
+/// Returns the items of a list.
 fn into_items(value: Value) -> Option<Vec<Value>>
     ensures { option_map (λ v. items_view v.items) result ≡ option_and_then as_array (get (codes "items") (view value)) }
 {
@@ -104,7 +104,7 @@ fn list_in(alloc: Global, kind: Kind, value: Value) -> Result<Option<Listed>, Wa
     }
 }
 
-/// Returns the list of the kind that a body says, if it says one.
+/// Returns the list of the kind that a body has, if it has one.
 pub fn read_list(alloc: Global, kind: Kind, body: &[u8]) -> Result<Option<Listed>, Want>
     ensures { IfOk result (λ found. option_map listed_of found ≡ list_of kind body.now) }
 {

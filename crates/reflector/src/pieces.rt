@@ -16,7 +16,7 @@ use meta::Kind;
 use std::alloc::Global;
 
 /// What was taken in of bytes: the deltas of their whole frames and the revision from then on, the end if they came to
-/// one, and how many bytes are kept of a frame that is not whole.
+/// one, and how many bytes are buffered of a frame that is not whole.
 #[derive(Drop)]
 pub struct Taken {
     pub deltas: Vec<Delta>,
@@ -47,7 +47,7 @@ fn phase_after(end: Option<End>) -> Phase
     }
 }
 
-/// Returns how many bytes are kept after that.
+/// Returns how many bytes are buffered after that.
 fn kept_after(end: Option<End>, kept: usize) -> usize
     ensures { result ≡ kept_after end kept }
 {
@@ -57,7 +57,7 @@ fn kept_after(end: Option<End>, kept: usize) -> usize
     }
 }
 
-/// Takes in bytes of which the first `known` hold no newline, where the last revision is `last`.
+/// Takes in bytes of which the first `known` have no newline, where the last revision is `last`.
 pub fn take_in(
     alloc: Global,
     kind: Kind,

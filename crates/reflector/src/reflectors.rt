@@ -12,7 +12,7 @@ use std::alloc::Global;
 use std::marker::Model;
 
 /// What is known of the objects of one kind, in all namespaces: the revision up to which lists and watches were taken in,
-/// and the bytes of a frame that is not whole yet. The objects are with whoever plays the deltas.
+/// and the bytes of a frame that is not whole yet. The objects are with whoever applies the deltas.
 #[derive(Drop)]
 pub struct Reflector {
     kind: Kind,
@@ -66,7 +66,7 @@ impl Reflector {
         }
     }
 
-    /// Returns the revision of the last list, change or bookmark that was taken in; 0 before the first list. It takes no
+    /// Returns the revision of the last list, event or bookmark that was taken in; 0 before the first list. It takes no
     /// memory.
     pub fn revision(&self) -> u64
         ensures { result ≡ self.now.revision }
@@ -74,7 +74,7 @@ impl Reflector {
         self.revision
     }
 
-    /// Takes in the body of a list, and gives the delta that replaces the whole map. An error changes nothing.
+    /// Takes in the body of a list, and returns the delta that replaces the whole map. An error changes nothing.
     pub fn on_list(&mut self, alloc: Global, body: &[u8]) -> Result<Delta, ListFault>
         ensures delta { IfOk result (λ d. Some (delta_of d) ≡ option_map list_delta (list_of self.old.kind body.now)) }
         ensures after { OnOk result (self.new ≡ with_list (list_of self.old.kind body.now) self.old) }
@@ -90,8 +90,8 @@ impl Reflector {
         }
     }
 
-    /// Takes in the next piece of a watch, cut anywhere, and gives a delta for each frame that is whole now. While a list is
-    /// asked for, what comes is passed over. An end asks for a list, and drops what is stored of a frame; the frames before it
+    /// Takes in the next piece of a watch, cut anywhere, and returns a delta for each frame that is whole now. While a list is
+    /// asked for, what comes is ignored. An end asks for a list, and drops what is buffered of a frame; the frames before it
     /// are taken in. The error is running out of memory, and changes nothing: the same piece can be fed again.
     pub fn feed(&mut self, alloc: Global, piece: &[u8]) -> Result<Fed, Want>
         ensures deltas { IfOk result (λ f. deltas_of f.deltas.items ≡ (fed self.old piece.now).deltas) }
@@ -143,7 +143,7 @@ impl Reflector {
         }
     }
 
-    /// Takes the end of a connection: what is stored of a frame is dropped, for the next watch begins with a whole one. It
+    /// Takes in the end of a connection: what is buffered of a frame is dropped, for the next watch begins with a whole one. It
     /// takes no memory.
     pub fn on_cut(&mut self)
         ensures { self.new ≡ cut self.old }
@@ -151,7 +151,7 @@ impl Reflector {
         self.turn(self.phase, self.revision);
     }
 
-    /// Takes that the server no longer has the changes that were asked for: a list is asked for. It takes no memory.
+    /// Takes in that the server no longer has the events that were asked for: a list is asked for. It takes no memory.
     pub fn on_expired(&mut self)
         ensures { self.new ≡ expired self.old }
     {

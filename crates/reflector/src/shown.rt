@@ -36,14 +36,14 @@ fn text_at<'a>(value: &'a Value, name: &str) -> Option<&'a str>
     value.get(name)?.as_str()
 }
 
-/// Returns the revision that a value's metadata says.
+/// Returns the revision that a value's metadata names.
 pub fn revision(value: &Value) -> Option<u64>
     ensures { result ≡ revision (view value.now) }
 {
     read_revision(text_at(value.get("metadata")?, "resourceVersion")?)
 }
 
-/// Returns whether the object says which object it is.
+/// Returns whether a value has a name, a namespace and a uid.
 fn has_identity(object: &Object) -> bool
     ensures { result ≡ has_identity object.now.value }
 {
@@ -72,7 +72,7 @@ pub fn show(alloc: Global, kind: Kind, value: Value) -> Result<Option<Shown>, Wa
     }
 }
 
-/// Returns the key that an object says.
+/// Returns the key of an object.
 pub fn key_of(alloc: Global, object: &Object) -> Result<Key, AllocError>
     ensures { IfOk result (λ k. name_of k ≡ name_in object.now) }
 {

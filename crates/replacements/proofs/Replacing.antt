@@ -29,7 +29,7 @@ found_so : (k : Key) (o existing : Data) (next : Outcome) (found other : Option 
 found_so k o existing next found other is so =
     by_tests (differs (uid o) (uid existing)) (differs (version o) (version existing)) k next ∙ ap (λ m. or_conflict k m next) (sym is ∙ so)
 
--- the object that is held is another
+-- the stored object is another
 pub if_same-other : (k : Key) (o existing : Data) (next : Outcome) (found : Option Mismatch) (w : Mismatch) → found ≡ mismatch o existing → found ≡ Some w
     → if_same k o existing next ≡ refused (conflict k w)
 if_same-other k o existing next found w is so = found_so k o existing next found (Some w) is so
@@ -38,7 +38,7 @@ if_same-other k o existing next found w is so = found_so k o existing next found
 pub if_same-same : (k : Key) (o existing : Data) (next : Outcome) (found : Option Mismatch) → found ≡ mismatch o existing → found ≡ None → if_same k o existing next ≡ next
 if_same-same k o existing next found is so = found_so k o existing next found None is so
 
--- the metadata stays where the status is kept
+-- the metadata stays where the status is preserved
 pub metadata_of-as_held : (found : Option Data) (d : Data) → metadata_of (object (as_held (codes "status") found (members_of d))) ≡ metadata_of d
 metadata_of-as_held None d =
     ap inner_of (get_member-without_other (codes "metadata") (codes "status") (members_of d) refl ∙ sym (get-members_of (codes "metadata") d))

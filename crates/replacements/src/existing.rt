@@ -5,7 +5,7 @@ ghost use Rattle.serde_json.specs.Written.{compact_text};
 use meta::{Object, StoredObject};
 use std::alloc::{AllocError, Global};
 
-/// The object that is stored: as it is kept, to be told as it stands, and opened, to be compared and changed.
+/// The stored object: as it is stored, to be answered as it stands, and opened, to be compared and changed.
 #[derive(Drop)]
 pub(crate) struct Existing<'a> {
     pub(crate) kept: &'a StoredObject,
@@ -14,7 +14,7 @@ pub(crate) struct Existing<'a> {
 }
 
 impl Existing<'_> {
-    /// Returns what is kept, opened. The error is running out of memory.
+    /// Returns the stored object, opened. The error is running out of memory.
     pub(crate) fn open(alloc: Global, kept: &StoredObject) -> Result<Existing<'_>, AllocError>
         ensures { IfOk result (λ h. h.object.value ≡ kept.now.value) }
     {

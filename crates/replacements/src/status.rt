@@ -25,7 +25,7 @@ use std::alloc::{AllocError, Global};
 use store::Store;
 use validate::is_status_valid;
 
-/// Returns the status that a body says, in the place of that of the object under a key. Nothing else of the body is taken. Of a
+/// Returns the object under a key with the status of a body. Nothing else of the body is taken. Of a
 /// kind that has no status none is found.
 pub fn update_status(
     alloc: Global,
@@ -51,7 +51,7 @@ pub fn update_status(
     }
 }
 
-/// Returns the status of an object in the place of that of the stored one, if that is the one that it names.
+/// Returns the stored object with the status of another, if it is the one that the other names.
 fn restate_with(
     alloc: Global,
     key: Key,
@@ -71,7 +71,7 @@ fn restate_with(
     }
 }
 
-/// Returns the status that an object says, or the first one of its kind where it says none.
+/// Returns the status of an object, or the first one of its kind where it has none.
 fn said_status(alloc: Global, kind: Kind, object: &Object) -> Result<Option<Value>, AllocError>
     ensures status { IfOk result (λ s. option_map (λ v. view v) s ≡ status_in kind (get (codes "status") object.now.value)) }
     ensures no_float { IfOk result (λ s. IfSome s (λ v. has_float (view v) ≡ false)) }
@@ -82,7 +82,7 @@ fn said_status(alloc: Global, kind: Kind, object: &Object) -> Result<Option<Valu
     }
 }
 
-/// Returns the stored object, with the status that another says.
+/// Returns the stored object, with the status of another.
 fn with_said_status(
     alloc: Global,
     kind: Kind,

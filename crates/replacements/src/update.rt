@@ -24,7 +24,7 @@ use std::alloc::{AllocError, Global};
 use store::Store;
 use validate::check_update;
 
-/// Returns an object as a body says it, in the place of the one under a key.
+/// Returns the object of a body, in the place of the one under a key.
 pub fn update(
     alloc: Global,
     store: &Store,
@@ -43,7 +43,7 @@ pub fn update(
     }
 }
 
-/// Returns an object in the place of the one that is kept, if that is the one that it names.
+/// Returns an object in the place of the stored one, if that is the one that it names.
 fn replace(
     alloc: Global,
     key: Key,
@@ -93,7 +93,7 @@ fn keep_status(alloc: Global, object: Object, existing: &Object) -> Result<Objec
     Ok(kept)
 }
 
-/// Returns the object with what an update leaves of the metadata that is stored.
+/// Returns the object with those members of the metadata that an update leaves as they are stored.
 fn keep_metadata(alloc: Global, object: Object, existing: &Object) -> Result<Object, AllocError>
     ensures value { IfOk result (λ o. o.value ≡ with_metadata (keeping kept (metadata_of existing.now.value) (metadata_of object.value)) object.value) }
     ensures kind { IfOk result (λ o. o.kind ≡ object.kind) }
@@ -109,7 +109,7 @@ fn keep_metadata(alloc: Global, object: Object, existing: &Object) -> Result<Obj
     Ok(made)
 }
 
-/// Returns the object in the place of the stored one, so far at its version.
+/// Returns the object in the place of the stored one, still at its old resourceVersion.
 fn in_place(alloc: Global, object: Object, existing: &Object) -> Result<Object, AllocError>
     ensures value { IfOk result (λ o. o.value ≡ in_place object.kind existing.now.value object.value) }
     ensures kind { IfOk result (λ o. o.kind ≡ object.kind) }
@@ -118,7 +118,7 @@ fn in_place(alloc: Global, object: Object, existing: &Object) -> Result<Object, 
     keep_metadata(alloc, with_status, existing)
 }
 
-/// Returns the object in the place of the stored one, if each of its fields is as it has to be.
+/// Returns the object in the place of the stored one, if each of its fields is valid.
 fn replace_with(
     alloc: Global,
     key: Key,
@@ -134,8 +134,8 @@ fn replace_with(
     replace_changed(alloc, key, existing, object, before)
 }
 
-/// Returns the object in the place of the stored one: where it says the same nothing is written, and where nothing keeps it any
-/// more it is removed.
+/// Returns the object in the place of the stored one: where it says the same nothing is written, and where its last
+/// finalizer is removed, it is removed.
 fn replace_changed(
     alloc: Global,
     key: Key,

@@ -1,5 +1,5 @@
-//! Heads of requests over HTTP/1.1, read from a connection in any pieces, and what counts of them: a method, a target, and fields
-//! by their names.
+//! Heads of requests over HTTP/1.1, read from a connection in any pieces, and what counts of them: a method, a target, and
+//! fields by their names.
 #![tactic(auto)]
 
 pub mod body_length;

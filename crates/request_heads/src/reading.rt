@@ -25,8 +25,8 @@ pub const MOST_FIELDS: usize = 64;
 /// The greatest length of a piece.
 const PIECE: usize = 4096;
 
-/// Reads a piece onto these bytes, where they are fewer than a head may have, and returns whether there was one: there is none only at
-/// the end.
+/// Reads a piece onto these bytes, where they are fewer than a head may have, and returns whether there was one: there is none
+/// only at the end.
 fn read_piece<R: Read + Drop>(
     reader: &mut Watched<R>,
     bytes: &mut Vec<u8>,
@@ -85,12 +85,13 @@ fn look_at_end(bytes: &[u8]) -> Found
     }
 }
 
-/// Reads up to the end of a head, onto what has been read of it before, and returns what the bytes begin with. What is read beyond the
-/// head is what follows it. It is read in pieces, of up to 4,096 bytes, and nothing is read once it can be said what the bytes begin
-/// with: a line that can be part of no head is found at once.
+/// Reads up to the end of a head, onto what has been read of it before, and returns what the bytes begin with. What is read
+/// beyond the head is what follows it. It is read in pieces, of up to 4,096 bytes, and nothing is read once it is clear what
+/// the bytes begin with: a line that can be part of no head is found at once.
 ///
-/// A fault loses nothing: what was read stands in `bytes`. After running out of memory, which happens only where `bytes` has no room
-/// for a whole head, reading can go on by another call. The reader's fault comes where a call of it fails, or had failed before.
+/// A fault loses nothing: what was read stands in `bytes`. After running out of memory, which happens only where `bytes` has no
+/// room for a whole head, reading can go on by another call. The reader's fault comes where a call of it fails, or had failed
+/// before.
 pub fn read_head<R: Read + Drop>(
     reader: &mut Watched<R>,
     bytes: &mut Vec<u8>,

@@ -53,7 +53,7 @@ pub enum Read {
     Watch(WatchOptions),
 }
 
-/// Returns whether a query lists or watches.
+/// Returns the options of the list or the watch that a query asks for.
 fn read_options(alloc: Global, query: &[u8]) -> Result<Read, QueryFault>
     ensures { Gives read_seen (read_by (raw_pairs query.now)) result }
 {

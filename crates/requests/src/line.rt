@@ -46,7 +46,7 @@ fn is(word: &[u8], text: &str) -> bool
     word == text.as_bytes()
 }
 
-/// Returns a request, whose target may not be empty.
+/// Returns the line of a request, whose target may not be empty.
 fn ask<'l>(method: Method, target: &'l [u8], body: &'l [u8]) -> Line<'l>
     ensures { line_seen result ≡ ask_if method target.now body.now }
 {
@@ -60,7 +60,7 @@ fn ask<'l>(method: Method, target: &'l [u8], body: &'l [u8]) -> Line<'l>
     }
 }
 
-/// `{target}` or `{target} {body}`
+/// Returns the line of a request, of `{target}` or `{target} {body}`.
 fn target_alone<'l>(method: Method, rest: &'l [u8]) -> Line<'l>
     ensures { line_seen result ≡ target_alone method rest.now (cut rest.now) }
 {
@@ -70,7 +70,7 @@ fn target_alone<'l>(method: Method, rest: &'l [u8]) -> Line<'l>
     }
 }
 
-/// `{target} {body}`
+/// Returns the line of a request, of `{target} {body}`.
 fn target_and_body<'l>(method: Method, rest: &'l [u8]) -> Line<'l>
     ensures { line_seen result ≡ target_and_body method (cut rest.now) }
 {
@@ -80,7 +80,7 @@ fn target_and_body<'l>(method: Method, rest: &'l [u8]) -> Line<'l>
     }
 }
 
-/// `{moment}`
+/// Returns the line that sets the moment, of `{moment}`.
 fn moment<'l>(rest: &'l [u8]) -> Line<'l>
     ensures { line_seen result ≡ (if is_moment rest.now then at rest.now else unreadable) }
 {
@@ -90,7 +90,7 @@ fn moment<'l>(rest: &'l [u8]) -> Line<'l>
     }
 }
 
-/// `{revision}`
+/// Returns the line of a compaction, of `{revision}`.
 fn compact<'l>(rest: &'l [u8]) -> Line<'l>
     ensures { line_seen result ≡ compact_at (revision_of rest.now) }
 {

@@ -81,7 +81,7 @@ fn match_of(name: Option<CowStr<'_>>) -> Option<Match>
     }
 }
 
-/// Returns how a query says that the revision is to be matched.
+/// Returns how a query wants the revision to be matched.
 fn matched(alloc: Global, query: &[u8]) -> Result<Match, MemberFault>
     ensures { Reads (match_of (member (codes "resourceVersionMatch") (raw_pairs query.now))) result }
 {
@@ -92,7 +92,7 @@ fn matched(alloc: Global, query: &[u8]) -> Result<Match, MemberFault>
 }
 
 /// Returns at which revision a list is, if how it is to be matched goes with the revision that is named. Where that is not
-/// said, a limited list is exact: its pages are pages of one list.
+/// named, a limited list is exact: its pages are pages of one list.
 fn list_at(limited: bool, matched: Match, version: Option<u64>) -> Option<At>
     ensures { result ≡ list_at limited matched version }
 {
@@ -113,7 +113,7 @@ fn list_at(limited: bool, matched: Match, version: Option<u64>) -> Option<At>
     }
 }
 
-/// Returns a list that goes on after a token names no revision of its own: the token has it.
+/// Returns whether a query names no revision but 0: a list that goes on after a token has the token's.
 fn names_no_other(version: Option<u64>) -> bool
     ensures { result ≡ (unwrap_or version 0 == 0) }
 {

@@ -130,7 +130,7 @@ pub(crate) fn version(alloc: Global, query: &[u8]) -> Result<Option<u64>, Member
     }
 }
 
-/// Returns a text that is absent counts as empty.
+/// Returns the text, or the empty one where there is none.
 fn or_empty<'t>(text: &'t Option<CowStr<'_>>) -> &'t str
     ensures { result.now ≡ or_empty (option_map cow_str_bytes text.now) }
 {

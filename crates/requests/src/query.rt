@@ -23,7 +23,7 @@ use std::alloc::{AllocError, Global};
 pub struct Query {
     /// Which objects of a collection are asked for, and what of them.
     pub collection: Collection,
-    /// What is said of what becomes of the dependents of a deleted object.
+    /// What becomes of the dependents of a deleted object, if the query names it.
     pub policy: StatedPolicy,
 }
 
@@ -38,7 +38,7 @@ fn collection_query(alloc: Global, query: &[u8]) -> Result<Query, QueryFault>
     })
 }
 
-/// Returns what is said of a delete's policy.
+/// Returns the policy that the query of a delete names.
 fn policy(alloc: Global, query: &[u8]) -> Result<StatedPolicy, AllocError>
     ensures { IfOk result (λ said. said ≡ stated_policy (member (codes "propagationPolicy") (raw_pairs query.now))) }
 {
@@ -48,7 +48,7 @@ fn policy(alloc: Global, query: &[u8]) -> Result<StatedPolicy, AllocError>
     }
 }
 
-/// Returns a query of which nothing counts but what is said of a delete's policy.
+/// Returns a query of which nothing counts but the policy that a delete names.
 fn only_policy(alloc: Global, query: &[u8], policy: StatedPolicy) -> Result<Query, QueryFault>
     ensures { Gives query_seen (only_policy (raw_pairs query.now) policy) result }
 {
@@ -79,7 +79,7 @@ fn query_of<'t>(target: &'t str) -> &'t str
     }
 }
 
-/// Returns what a target's query adds to what a method asks of the route. Members that are not known say nothing, and of those
+/// Returns what a target's query adds to what a method asks of the route. Unknown members are ignored, and of those
 /// with one name the first counts.
 pub fn read_query(
     alloc: Global,

@@ -17,7 +17,7 @@ pub struct WatchOptions {
     pub bookmarks: bool,
 }
 
-/// Returns a watch from 0 begins as one that names no revision.
+/// Returns the revision that a watch begins after; a watch from 0 begins as one that names none.
 fn watch_from(version: Option<u64>) -> Option<u64>
     ensures { result ≡ watch_from version }
 {
@@ -28,7 +28,7 @@ fn watch_from(version: Option<u64>) -> Option<u64>
     }
 }
 
-/// Returns the options of a watch. Its limit and its page token are not looked at.
+/// Returns the options of a watch. Its limit and its page token are ignored.
 pub(crate) fn watch_options(alloc: Global, query: &[u8]) -> Result<WatchOptions, QueryFault>
     ensures { Gives watch_seen (watch_options (raw_pairs query.now)) result }
 {

@@ -13,7 +13,7 @@ use meta::{Fault, StoredObject};
 use revisions::Event;
 use std::alloc::{AllocError, Global};
 
-/// Adds the frames of changes.
+/// Adds the frames of events.
 pub fn push_changes(alloc: Global, text: &mut Vec<u8>, events: &[Event]) -> Result<(), AllocError>
     ensures { OnOk result (text.new.items ≡ text.old.items ++ change_frames (map event_seen events.now)) }
 {

@@ -48,8 +48,8 @@ fn push_status_line(alloc: Global, text: &mut Vec<u8>, code: u16) -> Result<(), 
     push_line(text, phrase(code))
 }
 
-/// Adds the head of a reply, with a field that says where its body ends. The error is out of memory; a beginning of the head may
-/// then have been added.
+/// Adds the head of a reply, with a field that says where its body ends. The error is out of memory; a beginning of the head
+/// may then have been added.
 pub(crate) fn push_head(
     alloc: Global,
     text: &mut Vec<u8>,

@@ -19,7 +19,7 @@ drop_at xs n m is (inr h) = ap (λ k. drop k xs) (is ∙ length-take-le m xs h)
 pub short_drop : {X : Type 0} (xs : List X) (n m : ℕ) → n ≡ length (take m xs) → drop n xs ≡ drop m xs
 short_drop xs n m is = drop_at xs n m is (cases_lt (length xs) m)
 
--- whatever stands before no writes, they have no changes
+-- whatever stands before no writes, they have no events
 changes_from : (v : View) (ws before before' : List Write) → (ws ≡ []) ⊎ (before ≡ before') → changes_after v before ws ≡ changes_after v before' ws
 changes_from v ws before before' (inl h) = ap (changes_after v before) h ∙ sym (ap (changes_after v before') h)
 changes_from v ws before before' (inr h) = ap (λ b. changes_after v b ws) h
@@ -28,11 +28,11 @@ none_or_same : (ws : List Write) (m n : ℕ) → (n < m) ⊎ (m ≤ n) → (drop
 none_or_same ws m n (inl h) = let short = length-take n ws in inl (drop_all m (take n ws) (omega (arith, short, h)))
 none_or_same ws m n (inr h) = inr (take-take m n ws h)
 
--- the changes of the m-th to the n-th write, from what stands before them among the first n
+-- the events of the m-th to the n-th write, from what stands before them among the first n
 pub changes_of_part : (v : View) (ws : List Write) (m n : ℕ) → changes_after v (take m (take n ws)) (drop m (take n ws)) ≡ changes_after v (take m ws) (drop m (take n ws))
 changes_of_part v ws m n = changes_from v (drop m (take n ws)) (take m (take n ws)) (take m ws) (none_or_same ws m n (cases_lt n m))
 
--- what the write at place i gives after the changes of those before it
+-- what the write at place i gives after the events of those before it
 module _ (v : View) (before ws : List Write) (i : ℕ) (w : Write) (within : i < length ws) (is : w ≡ get_or ws i w) where
   left : drop i ws ≡ w ∷ drop (i + 1) ws
   left = drop_more ws i w within ∙ ap (λ u. u ∷ drop (i + 1) ws) (sym is)

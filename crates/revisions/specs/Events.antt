@@ -1,4 +1,4 @@
--- An event as the change that it shows.
+-- An event, by its key and its object's data.
 use Rattle.definitions.specs.Events.{Event as Change}
 use Rattle.meta.specs.Keys.{key_of}
 use Rattle.revisions.specs.declared.events.Event.{Event}

@@ -1,4 +1,4 @@
-//! The changes of a view.
+//! The events of a view.
 ghost use Rattle.std.specs.Prelude.{◌≡◌, IfOk, map, option_map};
 ghost use Rattle.definitions.specs.History.{found};
 ghost use Rattle.definitions.specs.Events.{events};
@@ -18,7 +18,7 @@ use selector::View;
 use std::alloc::{AllocError, Global};
 use std::collections::BTreeMap;
 
-/// Returns the changes of a view by the writes with a revision above `from` and up to `to`. The writes are gone through once.
+/// Returns the events of a view by the writes with a revision above `from` and up to `to`. The writes are gone through once.
 pub fn changes_between(
     alloc: Global,
     writes: &[Write],

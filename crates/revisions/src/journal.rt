@@ -64,7 +64,7 @@ impl Journal {
         Ok(())
     }
 
-    /// Takes the newest write back. It takes no memory.
+    /// Removes the newest write. It takes no memory.
     pub fn undo(&mut self)
         ensures { self.new ≡ take (length self.old - 1) self.old }
     {
@@ -102,7 +102,7 @@ impl Journal {
         Ok(found)
     }
 
-    /// Returns the changes of a view by the writes with a revision above `from` and up to `to`, in order. The writes are gone
+    /// Returns the events of a view by the writes with a revision above `from` and up to `to`, in order. The writes are gone
     /// through once. The error is running out of memory.
     pub fn changes(
         &self,

@@ -1,4 +1,4 @@
-//! How changes are made: what a view shows, and the event from what it showed to what it shows.
+//! How events are made: what a view shows, and the event from what it showed to what it shows.
 ghost use Rattle.std.specs.Prelude.{◌≡◌, ◌++◌, IfOk, OnOk, map, option_map};
 ghost use Rattle.definitions.specs.History.{seen as shown};
 ghost use Rattle.definitions.specs.Events.{event_of, gone_at};
@@ -35,7 +35,7 @@ pub fn shown<'a>(
     }
 }
 
-/// Adds the change, if there is one, from what was shown under a key to what is shown there. The error is running out of
+/// Adds the event, if there is one, from what was shown under a key to what is shown there. The error is running out of
 /// memory.
 pub fn push_change(
     alloc: Global,

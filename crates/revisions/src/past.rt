@@ -27,7 +27,7 @@ pub(crate) fn state_at<'a>(
     Ok(state)
 }
 
-/// Takes one write into the state.
+/// Applies one write to the state.
 pub(crate) fn apply<'a>(
     state: &mut BTreeMap<&'a Key, &'a StoredObject>,
     write: &'a Write,

@@ -11,7 +11,7 @@ use crate::events::Event;
 /// A part of what a watch asks for.
 #[derive(Drop)]
 pub struct Watched {
-    /// The changes, in order.
+    /// The events, in order.
     pub events: Vec<Event>,
     /// The revision up to which these are all: from here the watch goes on.
     pub stands: u64,
@@ -29,7 +29,7 @@ pub fn last_revision(events: &[Event], after: u64) -> u64
 }
 
 /// Returns the revision of the bookmark after what a watch from a revision is given: where the watch then stands, if bookmarks
-/// are shown and it stands above the last change.
+/// are shown and it stands above the last event.
 pub fn last_bookmark(bookmarks: bool, from: u64, watched: &Watched) -> Option<u64>
     ensures { told_lines bookmarks from (watched_of watched.now)
         ≡ map change (watched_of watched.now).events ++ last_bookmark result }

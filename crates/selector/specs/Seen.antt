@@ -52,13 +52,13 @@ Reads f (Ok a) meant = meant ≡ Some (f a)
 Reads f (Err Refused) meant = meant ≡ None
 Reads f (Err NoMemory) meant = Unit {0}
 
--- a text is refused as malformed where it says nothing, and else only for want of memory
+-- a text is refused as malformed where it says nothing, and else only for running out of memory
 abbrev pub RefusesText : {B : Type 0} → Option B → Fault → Type 0
 RefusesText said fault.Malformed = said ≡ None
 RefusesText said fault.Invalid = ⊥
 RefusesText said fault.NoMemory = Unit {0}
 
--- a value is refused by its flaw, and else only for want of memory
+-- a value is refused by its flaw, and else only for running out of memory
 abbrev pub RefusesValue : {B : Type 0} → Result B values.Flaw → Fault → Type 0
 RefusesValue said fault.Malformed = said ≡ Err values.mistyped
 RefusesValue said fault.Invalid = said ≡ Err values.unfit

@@ -13,7 +13,7 @@ use definitions::selectors::{Operator, SelectableField};
 use std::alloc::Global;
 use std::marker::Model;
 
-/// What is said of a field. A value can be any bytes, so it is kept as they are.
+/// A requirement of a field. A value can be any bytes, so it is stored as they are.
 #[derive(Drop)]
 struct FieldRequirement {
     field: SelectableField,

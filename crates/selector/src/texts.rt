@@ -81,7 +81,7 @@ fn set_operator(word: &[u8]) -> Option<Operator>
     }
 }
 
-/// `k in (v,..)` or `k notin (v,..)`, cut at the parenthesis.
+/// Returns the requirement of `k in (v,..)` or `k notin (v,..)`, cut at the parenthesis.
 fn set(alloc: Global, head: &[u8], list: &[u8]) -> Result<Requirement, Stop>
     ensures { Reads requirement_of result (in_requirement head.now list.now) }
 {
@@ -105,7 +105,7 @@ fn set(alloc: Global, head: &[u8], list: &[u8]) -> Result<Requirement, Stop>
     }
 }
 
-/// `k=v`, `k==v` or `k!=v`, cut at the first `=`.
+/// Returns the parts of `k=v`, `k==v` or `k!=v`, cut at the first `=`.
 pub(crate) fn compare<'t>(left: &'t [u8], right: &'t [u8]) -> (&'t [u8], Operator, &'t [u8])
     ensures { compared_by result ≡ compared (before_last 33 left.now) left.now right.now }
 {

@@ -16,7 +16,7 @@ use Rattle.definitions.specs.Windows.{Change}
 use Rattle.server_state.specs.Snapshots.{Snapshot, empty, snapshot, written}
 use Rattle.server_state.specs.Recorded.{Window, opened, recorded, compacted_to, recorded_since, recorded_list, IsWindowAfter}
 
--- what is there, and the last writes of each kind
+-- what is there, and the window of the last changes of each kind
 pub record Server : Type 0 where
   pub snapshot : Snapshot
   pub windows : Kind → Window
@@ -35,7 +35,7 @@ with_window k w s = record s { windows = λ j. if rank j == rank k then w else s
 
 -- ---- what happens
 
--- the next write, as a window keeps it
+-- the change of the next write
 abbrev pub change_at : Snapshot → Write → Change
 change_at s w = record { revision = s.revision + 1; key = w.key; old = found w.key s.members; new = w.put }
 
@@ -66,7 +66,7 @@ list_by s v at =
     let listed = viewed v s.snapshot.members in
     listed_at s.snapshot.revision listed (recorded_list (window_of v.kind s) s.snapshot.revision listed v) at
 
--- the first n changes of the view after a, and where the watch then stands
+-- the first n events of the view after a, and where the watch then stands
 abbrev pub watch_by : Server → View → ℕ → ℕ → Result Watched Refusal
 watch_by s v a n = result_map_both (watched s.snapshot.revision a n) (λ f. f) (recorded_since (window_of v.kind s) s.snapshot.revision v a (n + 1))
 

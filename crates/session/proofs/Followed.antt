@@ -1,4 +1,4 @@
--- A session whose server holds what has happened answers as what has happened does, and goes on so.
+-- A session whose server stands for what has happened answers as what has happened does, and goes on so.
 use Rattle.std.proofs.Common.{◌≡◌, ℕ, List, [], Bool, true, false, Result, Ok, Err, length, ◌==◌, if◌then◌else◌, refl, sym, ap, ◌∙◌, subst}
 use Rattle.definitions.specs.Collections.{ListOptions}
 use Rattle.definitions.specs.declared.kinds.Kind.{Kind}
@@ -51,7 +51,7 @@ watch_still k size s h (Err f) (Ok ls) is = is
 watch_still k size s h (Ok ls) (Err g) is = is
 watch_still k size s h (Ok ls) (Ok ms) is = is
 
--- what is held after what is asked
+-- what is stored after what is asked
 holds_after : (state : SessionState) (s : answers.Session) → Follows state s → (a : Result Asked Refusal)
     → IsServerAfter s.window (server_from state.server (reply_for state a)) (history_from s.history (answers.reply_for s a))
 holds_after state s is (Err f) = is.0

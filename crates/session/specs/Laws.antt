@@ -1,11 +1,11 @@
--- What follows for sessions: one whose server holds what has happened answers as what has happened does.
+-- What follows for sessions: one whose server stands for what has happened answers as what has happened does.
 use Rattle.std.specs.Prelude.{◌≡◌, ℕ, List}
 use Rattle.line_protocol.specs.Lines as lines
 use Rattle.definitions.specs.Replies as answers
 use Rattle.server_state.specs.Servers.{IsServerAfter}
 use Rattle.session.specs.SessionStates.{SessionState, begun, reply_by_state, next_state}
 
--- the server holds what has happened, with windows of the session's size, and it is the same moment
+-- the server stands for what has happened, with windows of the session's size, and it is the same moment
 abbrev pub Follows : SessionState → answers.Session → Type 0
 Follows state s = IsServerAfter s.window state.server s.history × (state.moment ≡ s.moment)
 

@@ -1,4 +1,4 @@
--- A session as it is held, and how it goes on: a server stands in the place of all that has happened.
+-- A session as it is stored, and how it goes on: a server stands in the place of all that has happened.
 use Rattle.std.specs.Prelude.{ℕ, List, [], ◌==◌, length, Result, Ok, Err, None, refl, if◌then◌else◌}
 use Rattle.std.specs.Coded.{Coded, code_by, coded×}
 use Rattle.codes.specs.Codes.{coded_text}
@@ -53,7 +53,7 @@ reply_to s unreadable = reply_text (outcome (refused (bad_request part.Head)))
 abbrev pub reply_by_state : SessionState → List ℕ → List ℕ
 reply_by_state s t = if length t == 0 then [] else reply_to s (line_of t)
 
--- ---- what is held then
+-- ---- what is stored then
 
 -- the server takes in what a reply writes
 abbrev pub server_from : Server → Reply → Server

@@ -124,7 +124,7 @@ impl Moment {
         }
     }
 
-    /// Returns the moment that a text writes, if it writes one.
+    /// Returns the moment that a text names, if it is one.
     pub fn parse(text: &[u8]) -> Option<Moment>
         ensures { result ≡ (if is_moment text.now then Some text.now else None) }
     {

@@ -4,7 +4,7 @@ ghost use Rattle.std.specs.List.{list_all};
 ghost use Rattle.definitions.specs.Moments.{is_digit};
 ghost use Rattle.definitions.specs.Revisions.{revision_of};
 
-/// Revisions are below this, so that a float of 64 bits holds each of them exactly.
+/// Revisions are below this, so that a float of 64 bits represents each of them exactly.
 const LIMIT: u64 = 1 << 53;
 
 /// Returns whether each byte of the text is a decimal digit.
@@ -14,7 +14,7 @@ fn has_digits(text: &str) -> bool
     text.bytes().all(|byte| b'0' <= byte && byte <= b'9')
 }
 
-/// Returns the revision that a text writes: `0`, or digits without a leading zero, below 2^53.
+/// Returns the revision that a text names: `0`, or digits without a leading zero, below 2^53.
 pub fn read_revision(text: &str) -> Option<u64>
     ensures { result ≡ revision_of text.now }
 {

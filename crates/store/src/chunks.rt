@@ -25,7 +25,7 @@ pub struct Chunk<'a> {
     pub remaining: usize,
 }
 
-/// Takes the next object that a view asks for, and those before it, from a range.
+/// Removes the next object that a view asks for, and those before it, from a range, and returns it.
 fn next_member<'a>(range: &mut Range<'a, Key, StoredObject>, view: &View) -> Option<Member<'a>>
     ensures some { IfSome result (λ member. viewed (view_of view.now) (members_seen range.old)
         ≡ member_of member ∷ viewed (view_of view.now) (members_seen range.new)) }

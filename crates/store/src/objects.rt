@@ -12,7 +12,7 @@ use meta::writes::Write;
 use std::alloc::AllocError;
 use std::collections::{BTreeMap, HashMap};
 
-/// Takes one write, and gives the object that was under its key. The error is running out of memory, and changes nothing.
+/// Applies one write, and returns the object that was under its key. The error is running out of memory, and changes nothing.
 pub fn take(
     objects: &mut BTreeMap<Key, StoredObject>,
     index: &mut HashMap<Key, StoredObject>,

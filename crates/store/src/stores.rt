@@ -95,8 +95,8 @@ impl Store {
             || self.revision() >= GREATEST_REVISION
     }
 
-    /// Takes one write, which has the next revision, and gives the object that was under its key. An error changes
-    /// nothing: storage is full for just the writes that overflow it, and memory can be wanting.
+    /// Applies one write, which has the next revision, and returns the object that was under its key. An error changes
+    /// nothing: storage is full for just the writes that overflow it, and memory can run out.
     pub fn apply(&mut self, write: Write) -> Result<Option<StoredObject>, Fault>
         ensures ok { OnOk result (self.new ≡ written self.old (write_of write)) }
         ensures before { IfOk result (λ before. option_map (λ o. o.value) before
@@ -130,7 +130,7 @@ impl Store {
     }
 
     /// Returns a chunk of the list of a view: at most `limit` objects, or all if it is 0, after the place of a key, or the
-    /// first. It costs the way to its start and what it holds, and to count the objects that remain a step for each; where the
+    /// first. It costs the way to its start and what it has, and to count the objects that remain a step for each; where the
     /// view selects, a look at each up to the first that remains. The error is running out of memory.
     pub fn page<'a>(
         &'a self,

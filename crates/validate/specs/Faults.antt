@@ -6,7 +6,7 @@ use Rattle.meta.specs.declared.faults.Fault.{Fault}
 use Rattle.meta.specs.declared.faults.Fault.TheVariants as fault
 use Rattle.meta.specs.Keys.{key_of}
 
--- the fault names the object and the field that was found, and is else want of memory
+-- the fault names the object and the field that was found, and is else running out of memory
 abbrev pub RefusesField : Key → Option Field → Fault → Type 0
 RefusesField k found (fault.Invalid key f) = (key_of key ≡ k) × (found ≡ Some f)
 RefusesField k found fault.NoMemory = Unit {0}

@@ -31,7 +31,7 @@ fn all_are_labels(members: &Map<String, Value>) -> bool
     true
 }
 
-/// Returns whether the value of a `metadata.labels` holds valid labels.
+/// Returns whether the value of a `metadata.labels` has valid labels only.
 pub(crate) fn are_labels(labels: Option<&Value>) -> bool
     ensures { result ≡ are_labels (labels_in labels.entry) }
 {

@@ -10,7 +10,7 @@ use meta::{Fault, Object};
 use selector::Selector;
 use std::alloc::{AllocError, Global};
 
-/// Returns what the selector of an object says, if it is there and says something that is understood. The error is running out
+/// Returns the requirements of an object's selector, if it is there and is understood. The error is running out
 /// of memory.
 pub(crate) fn selector_of(alloc: Global, object: &Object) -> Result<Option<Selector>, Fault>
     ensures said { IfOk result (λ s. s ≡ requirements object.now.value) }
@@ -27,7 +27,7 @@ pub(crate) fn selector_of(alloc: Global, object: &Object) -> Result<Option<Selec
     }
 }
 
-/// Returns whether a selector is there and says something.
+/// Returns whether a selector is there and has a requirement.
 pub(crate) fn says_something(selector: &Option<Selector>) -> bool
     ensures { result ≡ passes (λ (rs : List Requirement). nat_lt 0 (length rs)) selector.now }
 {

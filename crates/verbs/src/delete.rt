@@ -42,7 +42,7 @@ pub fn delete(
     }
 }
 
-/// Returns the stored object removed or marked, if it meets the preconditions.
+/// Returns the stored object removed or with its deletionTimestamp set, if it meets the preconditions.
 fn delete_held(
     alloc: Global,
     key: Key,
@@ -69,7 +69,7 @@ fn delete_held(
     }
 }
 
-/// Returns the HTTP status code for an object that is not removed: it is accepted that its dependents go first.
+/// Returns the HTTP status code where the object is not removed: 202 where its dependents are to be deleted first.
 fn kept_code(policy: Option<Policy>) -> u16
     ensures { result ≡ kept_code policy }
 {
@@ -101,8 +101,8 @@ fn by_fate(
     }
 }
 
-/// Returns the object as it is marked, put in the place of the stored one, unless there is no room for a write. It has no
-/// greatest length: what is too long to be marked could not be deleted.
+/// Returns the object with its deletionTimestamp set, in the place of the stored one, unless a write has no room. It has no
+/// greatest length: what is too long for that could not be deleted.
 fn put_mark(
     alloc: Global,
     key: Key,
@@ -143,7 +143,8 @@ fn remove(
     Ok((Reply { code: 200, text }, Some(removal)))
 }
 
-/// Returns the text that answers a removal: of a Pod the Pod, at the revision of its removal, of the others that it is gone.
+/// Returns the text that answers a removal: of a Pod the Pod, at the revision of its removal, of another kind a Status that
+/// names the object.
 fn removal_text(
     alloc: Global,
     key: &Key,
@@ -163,7 +164,7 @@ fn removal_text(
     }
 }
 
-/// Returns the text that says that an object is gone.
+/// Returns the text of the Status that answers the removal of an object.
 fn gone_text(alloc: Global, key: &Key, existing: &Object) -> Result<String, AllocError>
     ensures { IfOk result (λ t. string_bytes t ≡ compact_text (gone (key_of key.now) existing.now.value)) }
 {

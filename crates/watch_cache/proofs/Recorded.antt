@@ -1,4 +1,4 @@
--- What a ring keeps after one more change.
+-- What a ring has after one more change.
 use Rattle.std.proofs.Common.{zero, suc, ◌≡◌, ◌≤◌, ◌<◌, ℕ, ◌-◌, List, [], ◌∷◌, ◌++◌, map, take, drop, length, None, Bool, true, false, cond, refl, sym, ap, ◌∙◌, subst, arith, length-append}
 use Rattle.std.specs.Prelude.{nat_lt, slice_get, option_map}
 use Rattle.std.specs.Option.{option_to_list}
@@ -64,7 +64,7 @@ pub dropped : (n : ℕ) (cs : List Change) (c : Change) → length cs ≤ n
     → option_to_list (option_map change_seen (cond (nat_lt (length cs) n) None (slice_get (cs ++ c ∷ []) 0))) ≡ all_but n (map change_seen cs ++ change_seen c ∷ [])
 dropped n cs c l = dropped_at (nat_lt (length cs) n) n cs c refl l
 
--- ---- the last that is kept
+-- ---- the last that is recorded
 
 last_pushed : (r : ℕ) (ks : List Kept) (k : Kept) → last_revision r (ks ++ k ∷ []) ≡ k.revision
 last_pushed r [] k = refl

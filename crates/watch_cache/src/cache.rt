@@ -52,7 +52,8 @@ impl Cache {
     ghost use Rattle.watch_cache.specs.Changes.{change_seen};
     ghost use Rattle.watch_cache.specs.Served.{Serves};
 
-    /// Returns a cache of a kind that keeps the last `window` changes and has none so far. The error is running out of memory.
+    /// Returns a cache of a kind that records the last `window` changes and has none so far. The error is running out of
+    /// memory.
     pub fn new(alloc: Global, kind: Kind, window: usize) -> Result<Cache, AllocError>
         ensures { IfOk result (λ c. c ≡ opened kind window) }
     {
@@ -63,14 +64,14 @@ impl Cache {
         })
     }
 
-    /// Returns the kind whose changes are kept.
+    /// Returns the kind whose changes are recorded.
     pub fn kind(&self) -> Kind
         ensures { result ≡ self.now.kind }
     {
         self.kind
     }
 
-    /// Returns how many changes there is room for. No more are kept.
+    /// Returns how many changes there is room for. No more are recorded.
     pub fn window(&self) -> usize
         ensures size { result ≡ self.now.size }
         ensures room { length self.now.kept ≤ result }
@@ -85,19 +86,19 @@ impl Cache {
         self.floor
     }
 
-    /// Takes the next change of the kind. Where there is no room, the oldest one goes. It takes no memory.
+    /// Adds the next change of the kind. Where there is no room, the oldest one is dropped. It takes no memory.
     pub fn record(&mut self, change: Change)
         requires { last_revision 0 self.old.kept < change.revision }
         ensures window { self.new ≡ recorded self.old (change_seen change) }
         ensures last { last_revision 0 self.new.kept ≤ change.revision }
     {
-        // says that no more changes are kept so far than there is room for
+        // says that no more changes are recorded so far than there is room for
         let _ = self.window();
         let dropped = self.changes.push_back(change);
         self.floor = raised(self.floor, dropped);
     }
 
-    /// Serves nothing below a revision any more. It takes no memory.
+    /// Raises the floor to a revision, if it is lower. It takes no memory.
     pub fn compact(&mut self, revision: u64)
         ensures { self.new ≡ compacted_to self.old revision }
     {
@@ -121,7 +122,7 @@ impl Cache {
         Ok(())
     }
 
-    /// Returns whether no change that is kept has a revision above this one. Where that revision is served, what is there of
+    /// Returns whether no recorded change has a revision above this one. Where that revision is served, what is there of
     /// the kind is then what was there at it. It takes no memory.
     pub fn is_unchanged_since(&self, revision: u64) -> bool
         ensures { result ≡ (length (above revision self.now.kept) == 0) }
@@ -129,7 +130,7 @@ impl Cache {
         first_above(&self.changes, revision) == self.changes.len()
     }
 
-    /// Returns the first changes of a view after a revision, in order, at most as many as are asked for. The errors are a
+    /// Returns the first events of a view after a revision, in order, at most as many as are asked for. The errors are a
     /// revision below the floor, one above the present, and running out of memory.
     pub fn since(
         &self,

@@ -35,7 +35,7 @@ impl Caches {
     ghost use Rattle.server_state.specs.Recorded.{opened, recorded, compacted_to};
     ghost use Rattle.watch_cache.specs.Changes.{change_seen};
 
-    /// Makes a cache of each kind that keeps the last `window` changes and has none so far. The error is out of memory.
+    /// Returns caches that record the last `window` changes of each kind and have none so far. The error is out of memory.
     pub fn new(alloc: Global, window: usize) -> Result<Caches, AllocError>
         ensures { IfOk result (λ c. c ≡ (λ k. opened k window)) }
     {
@@ -53,7 +53,7 @@ impl Caches {
         &self.caches[kind.rank()]
     }
 
-    /// Takes the next change of its kind into the cache of the kind. It takes no memory.
+    /// Adds the next change to the cache of its kind. It takes no memory.
     pub fn record(&mut self, change: Change)
         requires { last_revision 0 (self.old change.key.kind).kept < change.revision }
         ensures { self.new ≡ (λ k. if rank k == rank change.key.kind
@@ -63,7 +63,7 @@ impl Caches {
         self.caches[place].record(change);
     }
 
-    /// Serves nothing below a revision any more, of no kind. It takes no memory.
+    /// Raises the floor of each kind to a revision, if it is lower. It takes no memory.
     pub fn compact(&mut self, revision: u64)
         ensures { self.new ≡ (λ k. compacted_to (self.old k) revision) }
     {

@@ -2,7 +2,7 @@
 
 use meta::{Key, StoredObject};
 
-/// A write with its revision, and what was under its key before it.
+/// What a write did under its key: its revision, the object before it and the object after it.
 #[derive(Drop)]
 pub struct Change {
     /// The revision of the write.

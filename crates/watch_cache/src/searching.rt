@@ -1,4 +1,4 @@
-//! The kept changes above a revision, found by halving.
+//! The recorded changes above a revision, found by halving.
 ghost use Rattle.std.specs.Prelude.{◌≡◌, ◌<◌, ◌≤◌, ◌+◌, ◌++◌, IfOk, OnOk, IfSome, length, map, take, drop, nat_lt, slice_get};
 ghost use Rattle.definitions.specs.Windows.{IsRising};
 ghost use Rattle.server_state.specs.Recorded.{above, event_recorded, events_recorded};

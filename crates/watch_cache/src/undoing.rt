@@ -48,7 +48,7 @@ pub(crate) fn undone_to<'a>(
     members_in(alloc, &state)
 }
 
-/// Members, copied.
+/// Returns a copy of members.
 fn copied<'a>(alloc: Global, members: &[Member<'a>]) -> Result<Vec<Member<'a>>, AllocError>
     ensures { IfOk result (λ ms. map member_of ms.items ≡ map member_of members.entry.now) }
 {
@@ -74,7 +74,7 @@ fn map_of<'a>(
     Ok(state)
 }
 
-/// Returns what a map holds, in the order of its keys.
+/// Returns the entries of a map, in the order of its keys.
 fn members_in<'a>(
     alloc: Global,
     state: &BTreeMap<&'a Key, &'a StoredObject>,

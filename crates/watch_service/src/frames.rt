@@ -34,7 +34,7 @@ pub(crate) fn write_text<W: Write + Drop>(writer: &mut Device<W>, text: &[u8]) -
     }
 }
 
-/// Adds the frames of changes and then, if there is one, of a bookmark.
+/// Adds the frames of events and then, if there is one, of a bookmark.
 pub(crate) fn push_look(
     alloc: Global,
     text: &mut Vec<u8>,

@@ -15,10 +15,10 @@ use selector::View;
 use std::alloc::Global;
 use std::io::Write;
 
-/// How many changes a look asks for at most, so that the memory that a watch takes stays bounded.
+/// How many events a look asks for at most, so that the memory that a watch takes stays bounded.
 pub(crate) const MOST_CHANGES: usize = 64;
 
-/// Looks what is new, writes its frames, and returns where the watch then stands; after a refusal, which is its last frame, it
+/// Asks what is new, writes its frames, and returns where the watch then stands; after a refusal, which is its last frame, it
 /// stands nowhere.
 pub(crate) fn look<S: WatchSource, W: Write + Drop>(
     alloc: Global,

@@ -70,8 +70,8 @@ fn follow<S: WatchSource, P: Pace, W: Write + Drop>(
 /// Serves a watch of a view, from a revision or, without one, from what is there. The first look decides whether it is refused;
 /// then nothing is written. Else the head is written at once, with the first frames, and then the frames of each look as they
 /// come, those of one look in one write. The watch is over after 1,024 looks in a row that gave no line, or by a refusal, which
-/// is its last frame. Only a watch that is over has an end: one that is left, because the writer fails or out of memory, is seen
-/// to be cut.
+/// is its last frame. Only a watch that is over has an end: one that is left, because the writer fails or out of memory, is
+/// seen to be cut.
 pub fn serve_watch<S: WatchSource, P: Pace, W: Write + Drop>(
     alloc: Global,
     source: &mut S,

@@ -14,16 +14,16 @@ use revisions::Watched;
 use selector::View;
 use std::alloc::Global;
 
-/// What can be watched. Others may write between two calls, so that what a call gives is a relation between what was seen before
-/// it and after it. Out of memory is an answer as each refusal is.
+/// What can be watched. Others may write between two calls, so that what a call gives is a relation between what was seen
+/// before it and after it. Out of memory is an answer as each refusal is.
 pub trait WatchSource {
-    /// A watch of a view from a revision is given this, of which so many changes at most.
+    /// A watch of a view from a revision is given this, of which so many events at most.
     ghost Watches: { Self → history.View → ℕ → ℕ → Result versions.Watched Refusal → Self → Type 0 };
 
     /// A watch of a view that names no revision begins with this.
     ghost Begins: { Self → history.View → Result Listed Refusal → Self → Type 0 };
 
-    /// Gives the first changes of a view after a revision, at most so many.
+    /// Returns the first events of a view after a revision, at most so many.
     fn watch_from(
         &mut self,
         alloc: Global,
@@ -33,7 +33,7 @@ pub trait WatchSource {
     ) -> Result<Watched, Fault>
         ensures watches { Gives watched_of (λ w. Watches self.old (view_of view.now) after most w self.new) result };
 
-    /// Gives what is there of a view.
+    /// Returns what is there of a view.
     fn begin(&mut self, alloc: Global, view: &View) -> Result<Begun, Fault>
         ensures begins { GivesBegun (λ l. Begins self.old (view_of view.now) l self.new) result };
 }

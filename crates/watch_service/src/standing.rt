@@ -3,7 +3,7 @@
 /// Where a watch stands.
 #[derive(Debug, Clone, Copy, PartialEq, Eq)]
 pub struct Standing {
-    /// The revision up to which all changes were given.
+    /// The revision up to which all events were given.
     pub revision: u64,
     /// How many looks in a row have given no line.
     pub idle: u64,

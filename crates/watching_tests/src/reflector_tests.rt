@@ -20,7 +20,7 @@ fn listed(alloc: Global) -> Result<Reflector, ListFault> {
     Ok(reflector)
 }
 
-/// Whether one object is put, and nothing else is said.
+/// Returns whether one object is put, and nothing else.
 fn is_one_put(fed: &Fed) -> bool {
     match fed.deltas.as_slice() {
         [Delta::Put(_)] => fed.end.is_none(),

@@ -1,4 +1,4 @@
--- Sets of keys of work, seen as sets of tasks, and maps from them.
+-- Sets of work keys as contracts see them, and maps from them.
 use Rattle.std.proofs.Common.{◌≡◌, List, true, false, None, option_map}
 use Rattle.std.specs.List.{list_any}
 use Rattle.std.specs.Ordering.{eq_by_cmp, is_eq}
@@ -18,7 +18,7 @@ use Rattle.work_keys.proofs.WorkKeyOrder.{work_key_cmp, work_key_cmp-task_cmp}
 use Rattle.work_keys.proofs.SeenMaps as maps
 use Rattle.work_keys.proofs.SeenSets as sets
 
--- keys that compare equal are for the same task
+-- keys that compare equal are the same work key
 pub same_task : (a b : WorkKey) → is_eq (work_key_cmp a b) ≡ true → work_key_of a ≡ work_key_of b
 same_task = sets.says_same task_cmp task_total task_tells work_key_of work_key_cmp work_key_cmp-task_cmp
 

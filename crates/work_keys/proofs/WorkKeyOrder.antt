@@ -16,6 +16,6 @@ controller_cmp-turn a b = search rules
 abbrev pub work_key_cmp : WorkKey → WorkKey → Ordering
 work_key_cmp = (work_key_ord.ghosts).cmp
 
--- keys of work go by their tasks
+-- work keys are ordered as the definitions order them
 pub work_key_cmp-task_cmp : (a b : WorkKey) → work_key_cmp a b ≡ task_cmp (work_key_of a) (work_key_of b)
 work_key_cmp-task_cmp a b = search (rules, controller_cmp-turn, key_cmp-name_cmp)

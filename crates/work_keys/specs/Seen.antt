@@ -17,10 +17,10 @@ seen_map R say h es = map_of.from_entries (seen_entries say h es)
 abbrev pub seen_set : {K N : Type 0} (R : N → N → Ordering) → (K → N) → List K → set.FinSet R
 seen_set R say ks = set.from_list (map say ks)
 
--- the tasks of keys of work
+-- the work keys, as the definitions have them
 abbrev pub tasks_of : List WorkKey → WorkKeys
 tasks_of ks = seen_set work_key_cmp work_key_of ks
 
--- what stands at keys of work, by task
+-- what stands at work keys, by key
 abbrev pub by_task : {X Y : Type 0} → (X → Y) → List (WorkKey × X) → map_of.FinMap work_key_cmp Y
 by_task h es = seen_map work_key_cmp work_key_of h es

@@ -1,4 +1,4 @@
-//! Keys of work: what a controller is to look at. With what it takes to see sets and maps of keys by what the keys say.
+//! Work keys: what a controller is to look at. With what it takes to see sets and maps of keys by what the keys say.
 #![tactic(auto)]
 
 pub mod work_key;

@@ -1,4 +1,4 @@
-//! Keys of work.
+//! Work keys.
 ghost use Rattle.std.specs.Prelude.{◌≡◌, IfOk};
 ghost use Rattle.work_keys.specs.Tasks.{work_key_of};
 
@@ -6,7 +6,7 @@ use controllers::controller::Controller;
 use meta::keys::Key;
 use std::alloc::AllocError;
 
-/// A key of work: the controller that is to look, and the object that it is to look at. They go by controller, then key.
+/// A work key: the controller that is to look, and the object that it is to look at. They are ordered by controller, then key.
 #[derive(Debug, PartialEq, Eq, PartialOrd, Ord, Drop)]
 pub struct WorkKey {
     pub controller: Controller,

@@ -9,7 +9,7 @@ use std::collections::{BTreeSet, VecDeque};
 use std::marker::Model;
 use work_keys::WorkKey;
 
-/// The keys that wait, first come first; those that want a look; those in workers' hands.
+/// The keys that wait, first come first; those that are to be processed; those in workers' hands.
 /// The list has room for each key in a worker's hands, so that `done` can put it back.
 #[derive(Drop)]
 pub struct Queue {
@@ -68,7 +68,7 @@ impl Queue {
         Ok(())
     }
 
-    /// Hands out the key that waits longest, if one waits.
+    /// Removes the key that waits longest, if one waits, and hands it to a worker.
     pub fn get(&mut self) -> Result<Option<WorkKey>, AllocError>
         ensures ok { OnOk result (self.new ≡ got self.old) }
         ensures handed { IfOk result (λ k. option_map work_key_of k ≡ handed self.old) }
@@ -97,7 +97,7 @@ impl Queue {
         }
     }
 
-    /// From now on nothing is added; what waits is still handed out.
+    /// Shuts the queue: from now on nothing is added; what waits is still handed out.
     pub fn shut_down(&mut self)
         ensures { self.new ≡ shut self.old }
     {

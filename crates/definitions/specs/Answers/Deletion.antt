@@ -40,7 +40,7 @@ abbrev pub others_then : Items → Items → Items
 others_then last no_items = last
 others_then last (item d ds) = if is_of_policy d then others_then last ds else item d (others_then last ds)
 
--- whether they are those of this policy already
+-- whether, of the finalizers of policies, they have just those of this one
 abbrev pub are_of : Policy → Items → Bool
 are_of Orphan ds = has_text ds orphan && not (has_text ds foreground)
 are_of Foreground ds = has_text ds foreground && not (has_text ds orphan)
@@ -51,7 +51,7 @@ abbrev pub leaves : Option Policy → Items → Bool
 leaves None ds = true
 leaves (Some p) ds = are_of p ds
 
--- the finalizers that a delete leaves: with a policy, that of the policy in the place of those of any
+-- the finalizers after a delete: if it names a policy, those of this policy replace those of any
 abbrev pub left_by : Option Policy → Items → Items
 left_by None ds = ds
 left_by (Some p) ds = if are_of p ds then ds else others_then (of_policy p) ds
@@ -63,7 +63,7 @@ abbrev pub with_deletion : Kind → List ℕ → Data → Members
 with_deletion k moment old =
     if is_being_deleted old then metadata_of old else put (codes "deletionTimestamp") (string moment) (with_next_generation (has_generation k) old (metadata_of old))
 
--- the object with its deletionTimestamp set and these finalizers, and so far at its version
+-- the object with its deletionTimestamp set and these finalizers, still at its old resourceVersion
 abbrev pub being_deleted : Kind → List ℕ → Items → Data → Data
 being_deleted k moment left old = with_metadata (put (codes "finalizers") (array left) (with_deletion k moment old)) old
 
@@ -73,7 +73,7 @@ pub data Fate : Type 0 where
   mark : Data → Fate
   keep : Fate
 
--- an object is removed if no finalizer is left; one that is being deleted already, with the finalizers that are left, stays as it is (Kubernetes, Finalizers)
+-- an object is removed if no finalizer is left; one that is being deleted already, and whose finalizers are not changed, is left as it is (Kubernetes, Finalizers)
 abbrev pub fate : Kind → Option Policy → List ℕ → Data → Fate
 fate k policy moment old =
     let left = left_by policy (finalizers old) in
@@ -87,7 +87,7 @@ decided k o moment old =
 
 -- ---- answers
 
--- what is answered for a removed object: of a Pod the Pod, at the revision of its removal, of the others that it is gone
+-- the answer to a removal: of a Pod the Pod, at the revision of its removal; of another kind a Status that names the object
 abbrev pub gone : Key → Data → Data
 gone k old = success_body (Some (k, unwrap_or (uid old) []))
 
@@ -95,7 +95,7 @@ abbrev pub removal_of : Kind → Key → ℕ → Data → Data
 removal_of Pod k r old = at_revision r (metadata_of old) old
 removal_of kind k r old = gone k old
 
--- the HTTP status code for an object that is not removed: it is accepted that its dependents go first (RFC 9110, 202 Accepted)
+-- the HTTP status code where the object is not removed: 202 where its dependents are to be deleted first (RFC 9110, 202 Accepted)
 abbrev pub kept_code : Option Policy → ℕ
 kept_code (Some Foreground) = 202
 kept_code policy = 200

@@ -1,4 +1,4 @@
--- What a list is answered: a page of it, and what it says of itself (Kubernetes API Concepts, Collections; Retrieving large results sets in chunks).
+-- What a list is answered: a page of it, with its metadata (Kubernetes API Concepts, Collections; Retrieving large results sets in chunks).
 use Rattle.std.specs.Prelude.{ℕ, Bool, not, ◌&&◌, ◌==◌, length, Option, Some, None, option_map, Result, Ok, Err, codes, if◌then◌else◌}
 use Rattle.serde_json.specs.Data as json
 use Rattle.serde_json.specs.Data.{Data, string, number, unsigned, member}
@@ -15,7 +15,7 @@ use Rattle.definitions.specs.Answers.Versions.{Listed, list_for}
 abbrev pub token_after : ℕ → Place → Token
 token_after r p = record { name = p.name; namespace = p.namespace; revision = r }
 
--- what a page at revision r says of itself: how to go on, how many objects follow, if that is told, and its revision (Kubernetes API reference, ListMeta)
+-- the metadata of a page at revision r: the token of the next page, how many objects follow, if that is told, and the revision (Kubernetes API reference, ListMeta)
 abbrev pub page_metadata : ℕ → Option ℕ → Option Place → json.Members
 page_metadata r count None = at_version r
 page_metadata r count (Some p) = member (codes "continue") (string (token_text (token_after r p))) (with_optional (codes "remainingItemCount") (option_map (λ n. number (unsigned n)) count) (at_version r))
@@ -32,7 +32,7 @@ is_selective v = not (length v.labels == 0 && length v.fields == 0)
 abbrev pub told_count : View → ListOptions → Listed → Option ℕ
 told_count v o l = if is_selective v then None else Some (remaining l.members o.limit o.after)
 
--- the page of a list that is asked
+-- the answer to a list: the page that is asked for, or the refusal
 abbrev pub list_answer : View → ListOptions → Result Listed Refusal → Outcome
 list_answer v o (Err f) = refused f
 list_answer v o (Ok l) = shown (page_body v.kind l.revision (told_count v o l) (page_of l.members o.limit o.after))

@@ -1,4 +1,4 @@
--- What can have happened at a server: requests that were accepted one after another, whoever asked, and compactions between them.
+-- What can have happened at a server: requests that were answered one after another, whoever asked, and compactions between them.
 use Rattle.std.specs.Prelude.{◌≡◌, ◌≤◌, ◌<◌, ◌^◌, ℕ, pos, negsuc, List, [], ◌∷◌, ◌++◌, length, true}
 use Rattle.std.specs.Ordering.{nat_cmp}
 use Rattle.std.specs.declared.cmp.Ordering.TheVariants.{Less}
@@ -49,13 +49,13 @@ IsAsked (update_status k d) = IsParsed d
 IsAsked (patch_object k d) = IsParsed d
 IsAsked q = Unit {0}
 
--- a text in UTF-8, as long as a moment can be; it is not read
+-- a text in UTF-8 of 1 to 20 bytes, as long as a moment is; it is not read
 abbrev pub IsTime : List ℕ → Type 0
 IsTime moment = (0 < length moment) × (length moment ≤ 20) × IsUtf8 moment
 
 -- ---- what has happened
 
--- nothing yet; more, after a request at a moment, as it is answered; or a compaction no further than what has happened
+-- nothing; or more, with the write of a request that was answered at a moment, or with a compaction to no more than the present revision
 pub data IsReached : History → Type 0 where
   opened : IsReached []
   asks : (h : History) (q : Request) (moment : List ℕ) → IsReached h → IsAsked q → IsTime moment → IsReached (history_after h (accept q h moment))

@@ -75,7 +75,7 @@ longest_object = 1572864
 abbrev pub refuse_if : Bool → Refusal → Outcome → Outcome
 refuse_if b f o = if b then refused f else o
 
--- a field of the object with this name is at fault, or none is
+-- an object under this key is refused for the field that is at fault, if one is
 abbrev pub refuse_field : Key → Option Field → Outcome → Outcome
 refuse_field k None o = o
 refuse_field k (Some f) o = refused (invalid k f)
@@ -112,17 +112,17 @@ is_past_greatest r = nat_lt greatest_revision r
 abbrev pub overflows : history.Members → ℕ → Write → Bool
 overflows ms r w = (nat_le most_objects (length ms) && is_some w.put && not (is_some (found w.key ms))) || is_past_greatest (r + 1)
 
--- what a body says as an object of a kind, with what is filled in where its spec leaves it out
+-- a body read as an object of a kind, with the defaults of its spec
 abbrev pub object_in : Kind → Data → Result Data Part
 object_in k d = result_map_both (defaulted k) (λ p. p) (reading k d)
 
 -- ---- list
 
--- an object as an item of a list, which says the kind once for all (Kubernetes API Concepts, Collections)
+-- an object as an item of a list, which names the kind once for all (Kubernetes API Concepts, Collections)
 abbrev pub as_item : Data → Data
 as_item d = object (without (codes "kind") (without (codes "apiVersion") (members_of d)))
 
--- a list, with what it says of itself (Kubernetes API Concepts, Collections)
+-- a list with this metadata (Kubernetes API Concepts, Collections)
 abbrev pub list_with : Kind → Members → history.Members → Data
 list_with k metadata ms =
     object
@@ -142,11 +142,11 @@ list_body k r ms = list_with k (at_version r) ms
 abbrev pub is_free : Kind → List ℕ → history.Members → List ℕ → Bool
 is_free kind ns ms name = not (is_some (found (record { kind = kind; namespace = ns; name = name }) ms))
 
--- the name of a new object: the one that it says, or one that is made
+-- the key of a new object: its name is the one that it gives, or one that is made
 abbrev pub new_name : Kind → List ℕ → Data → history.Members → ℕ → Key
 new_name kind ns o ms r = record { kind = kind; namespace = ns; name = name_from (is_free kind ns ms) (name o) (generate_name o) (r + 1) }
 
--- a new object, with its first status, is stored if none has its name and its fields are as they have to be (Kubernetes API Concepts, POST)
+-- a new object, with its first status, is stored if no object has its key and its fields are valid (Kubernetes API Concepts, POST)
 abbrev pub create : Kind → List ℕ → Data → history.Members → ℕ → List ℕ → Outcome
 create kind ns o ms r moment =
     let k = new_name kind ns o ms r in
@@ -158,7 +158,7 @@ create kind ns o ms r moment =
 
 -- ---- update
 
--- whether an object names the one of a path, and no other namespace
+-- whether an object has the name of the one in the path, and no other namespace
 abbrev pub names_path : Key → Data → Bool
 names_path k o = not (is_other (namespace o) k.namespace) && not (differs (Some k.name) (name o))
 
@@ -166,7 +166,7 @@ names_path k o = not (is_other (namespace o) k.namespace) && not (differs (Some 
 abbrev pub if_named : Key → Result Data Part → (Data → Outcome) → Outcome
 if_named k read next = if_read read (λ o. refuse_if (not (names_path k o)) (bad_request part.Object) (next o))
 
--- what is done where the object that is stored has the uid and the version that another names (Kubernetes API Conventions, Concurrency Control and Consistency)
+-- what is done where the stored object has the uid and the resourceVersion that the new one names, if it names them (Kubernetes API Conventions, Concurrency Control and Consistency)
 abbrev pub if_same : Key → Data → Data → Outcome → Outcome
 if_same k o old next =
     refuse_if (differs (uid o) (uid old)) (conflict k mismatch.Uid) (refuse_if (differs (version o) (version old)) (conflict k mismatch.Modified) next)
@@ -179,7 +179,7 @@ put_in_place k d r = refuse_if (is_too_large d) too_large (refuse_if (is_past_gr
 abbrev pub take_out : Key → Data → ℕ → Outcome
 take_out k d r = refuse_if (is_past_greatest (r + 1)) storage_full (removed k d)
 
--- an object replaces the one that is stored, which is removed where its last finalizer is; what says the same writes nothing (Kubernetes API Concepts, PUT; Kubernetes, Finalizers)
+-- an object replaces the stored one, which is removed if its last finalizer is; one that says the same writes nothing (Kubernetes API Concepts, PUT; Kubernetes, Finalizers)
 abbrev pub replace : Key → Data → ℕ → Data → Outcome
 replace k o r old =
     let d = in_place k.kind old o in
@@ -187,7 +187,7 @@ replace k o r old =
     if_same k o old
     (refuse_field k (update_fault k.kind k.name r old d) (if says_the_same old d then shown old else (if is_finalized old new then take_out k new r else put_in_place k new r)))
 
--- the status that an object says replaces that of the one that is stored, and nothing else is taken of it (Kubernetes API Conventions, Spec and Status)
+-- the status of an object replaces that of the stored one, and nothing else of it counts (Kubernetes API Conventions, Spec and Status)
 abbrev pub replace_status : Key → Data → ℕ → Data → Outcome
 replace_status k o r old =
     let d = with_status_in k.kind old o in
@@ -196,7 +196,7 @@ replace_status k o r old =
 
 -- ---- delete
 
--- the object that is stored is removed, or its deletionTimestamp is set, however large it is then (Kubernetes API Concepts, DELETE)
+-- the stored object is removed, or its deletionTimestamp is set, however large it is then (Kubernetes API Concepts, DELETE)
 abbrev pub by_decision : Key → ℕ → Data → ℕ → Result Fate Mismatch → Outcome
 by_decision k code old r (Err why) = refused (conflict k why)
 by_decision k code old r (Ok remove) = take_out k (removal_of k.kind k (r + 1) old) r

@@ -18,7 +18,7 @@ pub record Listed : Type 0 where
 abbrev pub listed_as : ℕ → Members → Listed
 listed_as r ms = record { revision = r; members = ms }
 
--- what is answered where revision r is asked: where it is not yet present, nothing (Kubernetes API Concepts, Unavailable resource versions)
+-- what is answered at revision r, or the refusal of one above the present (Kubernetes API Concepts, Unavailable resource versions)
 abbrev pub once_present : {X : Type 0} → ℕ → ℕ → X → Result X Refusal
 once_present now r x = if nat_lt now r then Err (too_new r now) else Ok x
 
@@ -34,21 +34,21 @@ list_for size h v at = listed_at (present h) (list h v (present h)) (list_within
 
 -- ---- watches
 
--- what a watch is given at a time: changes, and the revision up to which they are all that it asks for
+-- what a watch is given at a time: events, and the revision up to which they are all of its events
 pub record Watched : Type 0 where
   pub events : List Event
   pub stands : ℕ
 
--- the revision of the last of these changes, a if there is none
+-- the revision of the last of these events, a if there is none
 abbrev pub last_change : ℕ → List Event → ℕ
 last_change a [] = a
 last_change a (c ∷ cs) = last_change c.revision cs
 
--- the first n of these changes after a: where there is no other, the watch then stands at the present revision, else at that of the last one given
+-- the first n of these events after a: if there are no more, the watch then stands at the present revision, else at that of the last event given
 abbrev pub watched : ℕ → ℕ → ℕ → List Event → Watched
 watched now a n cs = record { events = take n cs; stands = if nat_le (length cs) n then now else last_change a (take n cs) }
 
--- the first n changes of the view after a, from a window of this size; one more is asked for, which tells whether there is more
+-- the first n events of the view after a, from a window of this size; one more is asked for, which tells whether there is more
 -- (Kubernetes API Concepts, Efficient detection of changes)
 abbrev pub watched_from : ℕ → History → View → ℕ → ℕ → Result Watched Refusal
 watched_from size h v a n = result_map_both (watched (present h) a n) (λ f. f) (since size h v a (n + 1))

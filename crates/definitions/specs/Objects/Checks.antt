@@ -82,7 +82,7 @@ adds_no_finalizer stored d = not (is_being_deleted stored) || all_items (text_is
 abbrev pub is_not_empty : List ℕ → Bool
 is_not_empty t = nat_lt 0 (length t)
 
--- the uid of an object that this server has not created yet: it holds a revision above the present one
+-- the uid of an object that this server has not created yet: it encodes a revision above the present one
 abbrev pub is_of_the_future : ℕ → List ℕ → Bool
 is_of_the_future present t =
     bytes_eq t (uid_text cluster_word (uid_revision t)) && nat_lt (uid_revision t) (2 ^ 62) && nat_lt present (uid_revision t)
@@ -123,11 +123,11 @@ counts k = []
 abbrev pub is_status_valid : Kind → Data → Bool
 is_status_valid k d = list_all (λ count. is_not_negative (in_status count d)) (counts k)
 
--- what spec.selector says, where it is there and is one (Kubernetes API reference, LabelSelector)
+-- the requirements of spec.selector, where it is a selector (Kubernetes API reference, LabelSelector)
 abbrev pub requirements : Data → Option (List Requirement)
 requirements d = option_and_then (λ s. result_ok (selector_of_value s)) (in_spec (codes "selector") d)
 
--- spec.selector: one that says something
+-- spec.selector: a selector with at least one requirement
 abbrev pub is_selector_valid : Data → Bool
 is_selector_valid d = passes (λ (rs : List Requirement). nat_lt 0 (length rs)) (requirements d)
 
@@ -174,7 +174,7 @@ abbrev pub is_at_most_all : Amount → Bool
 is_at_most_all (Pods z) = true
 is_at_most_all (Percent n) = nat_le n 100
 
--- something may go on: not both are 0
+-- a rolling update can go on: not both amounts are 0
 abbrev pub are_amounts : Option Amount → Option Amount → Bool
 are_amounts (Some surge) (Some unavailable) = is_at_most_all unavailable && not (is_zero surge && is_zero unavailable)
 are_amounts surge unavailable = false
@@ -194,20 +194,20 @@ is_strategy d = passes (is_strategy_of d) (text_at (codes "type") d)
 abbrev pub is_strategy_valid : Data → Bool
 is_strategy_valid d = passes is_strategy (in_spec (codes "strategy") d)
 
--- whether a field passes
+-- a check: whether it passes, and the field that it is of
 abbrev pub Check : Type 0
 Check = Bool × Field
 
--- the first field that does not
+-- the field of the first check that does not pass
 abbrev pub first_fault : List Check → Option Field
 first_fault [] = None
 first_fault (c ∷ cs) = if c.0 then first_fault cs else Some c.1
 
--- those of the spec of a kind that keeps up a number of pods
+-- the checks of the spec of a kind that runs a number of pods
 abbrev pub replica_checks : Bool → Data → List Check
 replica_checks is_kept d = (are_replicas_valid d, field.Replicas) ∷ (is_selector_valid d && is_kept, field.Selector) ∷ (is_template_valid d, field.Template) ∷ []
 
--- those of the spec and the status, by kind
+-- the checks of the spec and the status, by kind
 abbrev pub checks_of : Kind → Bool → Data → List Check
 checks_of ReplicaSet is_kept d = replica_checks is_kept d ++ (is_status_valid ReplicaSet d, field.Status) ∷ []
 checks_of Deployment is_kept d =
@@ -215,7 +215,7 @@ checks_of Deployment is_kept d =
     ++ (is_strategy_valid d, field.Strategy) ∷ (is_history_limit_valid d, field.RevisionHistoryLimit) ∷ (is_status_valid Deployment d, field.Status) ∷ []
 checks_of k is_kept d = []
 
--- and those of the metadata before them
+-- all checks of an object: those of its metadata, and then these
 abbrev pub checks : Kind → List ℕ → ℕ → Bool → Bool → Data → List Check
 checks kind made present adds_none is_kept d =
     (is_name_valid d, field.Name)

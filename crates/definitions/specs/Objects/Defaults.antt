@@ -11,7 +11,7 @@ use Rattle.definitions.specs.Objects.SelectorValues.{passes}
 abbrev pub whole : ℕ → Data
 whole n = number (unsigned n)
 
--- the value with its member changed, where it has it
+-- the value with this member changed, if it has the member
 abbrev pub with_changed : List ℕ → (Data → Data) → Data → Data
 with_changed k change d = unwrap_or (option_map (λ e. with_member k (change e) d) (get k d)) d
 
@@ -37,7 +37,7 @@ deployment_defaults d =
     with_changed (codes "strategy") strategy_defaults
     (with_default (codes "strategy") empty (with_default (codes "revisionHistoryLimit") (whole 10) (with_default (codes "replicas") (whole 1) d)))
 
--- an object of a kind with what its spec leaves out
+-- an object of a kind with the defaults of what its spec leaves out
 abbrev pub defaulted : Kind → Data → Data
 defaulted ReplicaSet d = with_changed (codes "spec") replica_set_defaults d
 defaulted Deployment d = with_changed (codes "spec") deployment_defaults d

@@ -20,7 +20,7 @@ abbrev pub with_status : Option Data → Members → Members
 with_status None ms = ms
 with_status (Some s) ms = put (codes "status") s ms
 
--- an object of a kind with its first status, whatever status a body says
+-- an object of a kind with its first status, whatever status it has
 abbrev pub with_first_status : Kind → Data → Data
 with_first_status k o = object (with_status (first_status k) (members_of o))
 
@@ -35,6 +35,6 @@ new_metadata k r ns name moment meta =
     (put (codes "creationTimestamp") (string moment)
     (put (codes "namespace") (string ns) (put (codes "name") (string name) (with_generation k (without (codes "deletionTimestamp") meta)))))
 
--- a new object of a kind, at a revision, in a namespace, under a name, of what a body says
+-- a new object of a kind, at a revision, in a namespace, under a name, made of a body
 abbrev pub created : Kind → ℕ → List ℕ → List ℕ → List ℕ → Data → Data
 created k r ns name moment o = at_revision r (new_metadata k r ns name moment (metadata_of o)) (with_first_status k o)

@@ -1,4 +1,4 @@
--- Reading an object: what is wanted of it, and what is left out of it and filled in.
+-- Reading an object: what it has to be, what is left out of it, and what is filled in.
 use Rattle.std.specs.Prelude.{ℤ, Bool, true, false, not, nat_le, Result, Ok, Err, ◌&&◌, ◌||◌, ◌==◌, length, if◌then◌else◌, bytes_eq, int_le, is_some, option_map, unwrap_or, codes}
 use Rattle.definitions.specs.Texts.Values.{Num, Data, boolean, number, string, array, object, Items, no_items, item, Members, no_members, member, depth, as_object, as_i64, has_float, items_len, members_len, with_default, is_null}
 use Rattle.definitions.specs.declared.kinds.Kind.{Kind}

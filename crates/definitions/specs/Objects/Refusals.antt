@@ -10,7 +10,7 @@ use Rattle.definitions.specs.declared.refusals.Field.TheVariants as field
 use Rattle.definitions.specs.Texts.Kinds.{plural, group_name, resource}
 use Rattle.definitions.specs.Texts.Keys.{Key}
 
--- the refusals; a revision is first the one asked for, then the floor or the present one
+-- the refusals; of two revisions the first is the one asked for, the second the floor or the present one
 pub data Refusal : Type 0 where
   bad_request : Part → Refusal
   not_found : Key → Refusal
@@ -111,7 +111,7 @@ status_body f =
     (member (codes "metadata") (object no_members)
     (member (codes "reason") (string (told f).reason) (member (codes "status") (string (codes "Failure")) no_members))))))))
 
--- the body of a success that answers no object: of a removal, with the name and uid removed, or of a compaction, with none
+-- the body of a success without an object: of a removal, with the name and the uid of what was removed, or of a compaction, with neither
 abbrev pub success_body : Option (Key × List ℕ) → Data
 success_body removed =
     object

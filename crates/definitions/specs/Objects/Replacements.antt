@@ -16,7 +16,7 @@ abbrev pub as_held : List ℕ → Option Data → Members → Members
 as_held k None ms = without k ms
 as_held k (Some d) ms = put k d ms
 
--- these members as they are stored, whatever else stands there
+-- the members, those of these names as the stored object has them
 abbrev pub keeping : List (List ℕ) → Members → Members → Members
 keeping [] existing ms = ms
 keeping (k ∷ ks) existing ms = keeping ks existing (as_held k (get_member k existing) ms)
@@ -29,15 +29,15 @@ kept = codes "namespace" ∷ codes "uid" ∷ codes "creationTimestamp" ∷ codes
 abbrev pub kept_of : Kind → List (List ℕ)
 kept_of k = if has_status k then codes "status" ∷ [] else []
 
--- an object as a body says it, in the place of the stored one, and so far at its version
+-- a body's object in the place of the stored one, still at the stored resourceVersion
 abbrev pub in_place : Kind → Data → Data → Data
 in_place k existing o = with_metadata (keeping kept (metadata_of existing) (metadata_of o)) (object (keeping (kept_of k) (members_of existing) (members_of o)))
 
--- the status that a body says, or the first one where it says none
+-- the status of a body, or the first one where it has none
 abbrev pub status_in : Kind → Option Data → Option Data
 status_in k said = option_or said (first_status k)
 
--- the stored object with the status that a body says, and so far at its version
+-- the stored object with the status of a body, still at the stored resourceVersion
 abbrev pub with_status_in : Kind → Data → Data → Data
 with_status_in k existing o = object (with_status (status_in k (get (codes "status") o)) (members_of existing))
 
@@ -63,7 +63,7 @@ is_new_generation k existing d = has_generation k && has_new_spec existing d
 abbrev pub generation : Data → ℕ
 generation d = unwrap_or (option_and_then as_u64 (option_and_then as_number (metadata (codes "generation") d))) 0
 
--- the generation after one; the greatest number that readers hold exactly stays, which no history reaches
+-- the generation after one; the greatest number that readers represent exactly, which no history reaches, stays
 abbrev pub next_generation : ℕ → ℕ
 next_generation n = if nat_lt n greatest_revision then n + 1 else n
 

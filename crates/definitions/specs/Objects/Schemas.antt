@@ -1,4 +1,4 @@
--- The tables: what is said of the members of an object, and of the objects in it (Kubernetes API reference).
+-- The schemas: tables of the members of an object, and of the objects in it (Kubernetes API reference).
 use Rattle.std.specs.Prelude.{ℕ, pos, negsuc, List, [], ◌∷◌, ◌++◌, true, false, if◌then◌else◌, bytes_eq, codes}
 use Rattle.definitions.specs.declared.kinds.Kind.{Kind}
 use Rattle.definitions.specs.declared.kinds.Kind.TheVariants.{ConfigMap, Pod, ReplicaSet, Deployment}
@@ -18,7 +18,7 @@ kept s = record { shape = s; drops_empty = false }
 abbrev pub unless_empty : Shape → Member
 unless_empty s = record { shape = s; drops_empty = true }
 
--- what a table says of a name; of a name that it lacks, nothing
+-- the row of a name in a table; a member that it lacks may be anything
 abbrev pub described : Table → List ℕ → Member
 described [] k = kept Anything
 described (row ∷ rows) k = if bytes_eq k row.0 then row.1 else described rows k
@@ -68,7 +68,7 @@ table Template = (codes "metadata", kept (Object TemplateMetadata)) ∷ (codes "
 table TemplateMetadata =
     (codes "labels", unless_empty (Object Texts)) ∷ (codes "annotations", unless_empty (Object Texts)) ∷ (codes "finalizers", unless_empty TextList) ∷ []
 table Strategy = (codes "type", kept Text) ∷ (codes "rollingUpdate", kept (Object Unknown)) ∷ []
--- what a delete may say; a dry run is not served, and `orphanDependents` is no more (Kubernetes API reference, DeleteOptions)
+-- the options of a delete; a dry run is not served, and `orphanDependents` is no longer (Kubernetes API reference, DeleteOptions)
 table DeleteOptions =
     (codes "preconditions", kept (Object Preconditions)) ∷ (codes "propagationPolicy", kept Text)
     ∷ (codes "dryRun", kept Nothing) ∷ (codes "orphanDependents", kept Nothing) ∷ []
@@ -77,7 +77,7 @@ table Preconditions = (codes "uid", kept Text) ∷ (codes "resourceVersion", kep
 table Texts = []
 table Unknown = []
 
--- what is said of a member of an object with this schema
+-- the shape of a member of an object with this schema, and whether an empty one counts as absent
 abbrev pub member_at : Schema → List ℕ → Member
 member_at Texts k = kept Text
 member_at s k = described (table s) k

@@ -1,4 +1,4 @@
--- What a value says that selects by labels, as `spec.selector` does (Kubernetes API reference, LabelSelector).
+-- The requirements of a value that selects by labels, as `spec.selector` does (Kubernetes API reference, LabelSelector).
 use Rattle.std.specs.Prelude.{ℕ, ◌&&◌, ◌||◌, not, List, [], ◌∷◌, ◌++◌, Bool, true, false, codes, if◌then◌else◌, Option, None, Some, option_and_then, unwrap_or, ok_or, Result, Err}
 use Rattle.std.specs.Map.{lookup}
 use Rattle.std.specs.Str.{bytes_eq}
@@ -14,7 +14,7 @@ use Rattle.definitions.specs.Texts.Selectors.{Requirement, each_read, label_key,
 use Rattle.definitions.specs.Texts.Values.{inner_of}
 use Rattle.definitions.specs.Objects.Reading.{fits, tidied}
 
--- why a value selects nothing: a member has a wrong type, or a key, an operator or values do not go
+-- why a value selects nothing: a member has a wrong type, or a key, an operator or the values are not valid
 pub data Flaw : Type 0 where
   mistyped : Flaw
   unfit : Flaw

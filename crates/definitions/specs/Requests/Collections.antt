@@ -33,7 +33,7 @@ pub record ListOptions : Type 0 where
   pub limit : ℕ
   pub after : Option Place
 
--- how a query says that the revision of a list is to be matched, if it is understood (Kubernetes API Concepts, The resourceVersionMatch parameter)
+-- how a query wants the revision of a list to be matched, if it is understood (Kubernetes API Concepts, The resourceVersionMatch parameter)
 abbrev pub match_of : Option (List ℕ) → Option Match
 match_of None = Some match.Unset
 match_of (Some t) = lookup (bytes_eq t) ((codes "NotOlderThan", match.NotOlderThan) ∷ (codes "Exact", match.Exact) ∷ [])
@@ -88,11 +88,11 @@ abbrev pub watch_from : Option ℕ → Option ℕ
 watch_from (Some (suc r)) = Some (suc r)
 watch_from version = None
 
--- whether a member is there, and says `true` or `1`
+-- whether a member is there, and is `true` or `1`
 abbrev pub is_asked : Option (List ℕ) → Bool
 is_asked value = bytes_eq (or_empty value) (codes "true") || bytes_eq (or_empty value) (codes "1")
 
--- the options of a watch; it may not say how its revision is to be matched, and what it says of limits and tokens is not looked at
+-- the options of a watch; it may not name how its revision is to be matched, and limits and tokens are ignored
 abbrev pub watch_options : Pairs → Result WatchOptions Part
 watch_options pairs =
     if has_any (codes "resourceVersionMatch" ∷ []) pairs then Err part.Query

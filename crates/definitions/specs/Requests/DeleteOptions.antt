@@ -27,12 +27,12 @@ abbrev pub policy_named : List ℕ → Option Policy
 policy_named name =
     lookup (bytes_eq name) ((codes "Orphan", Orphan) ∷ (codes "Foreground", Foreground) ∷ (codes "Background", Background) ∷ [])
 
--- what a text, where there is one, says of the policy
+-- the policy that a text names, where there is one
 abbrev pub stated_policy : Option (List ℕ) → StatedPolicy
 stated_policy None = Nothing
 stated_policy (Some name) = option_map_or Named (policy_named name) Unknown
 
--- the options with what is said of the policy, or the part of the request that says it wrong
+-- the options with the policy that is named, or, where that is unknown, the part of the request that names it
 abbrev pub options_with : Part → Option (List ℕ) → Option (List ℕ) → StatedPolicy → Result Options Part
 options_with p uid version Nothing = Ok (record { uid = uid; version = version; policy = None })
 options_with p uid version (Named policy) = Ok (record { uid = uid; version = version; policy = Some policy })

@@ -40,7 +40,7 @@ pub record IsToken (text : List ℕ) (t : Token) : Type 0 where
 abbrev pub token_with : List ℕ → List ℕ → ℕ → Token
 token_with name namespace revision = record { name = name; namespace = namespace; revision = revision }
 
--- the token that the members of an object say
+-- the token that the members of an object give
 abbrev pub token_said : Data → Option Token
 token_said d =
     option_and_then

@@ -129,7 +129,7 @@ pub data Asked : Type 0 where
   list : View → ListOptions → Asked
   watch : View → WatchOptions → Asked
 
--- what a query adds to a request: which objects of a collection are asked for and what of them, and what is said of a delete's policy
+-- what a query adds to a request: which objects of a collection are asked for and what of them, and the policy that a delete names
 pub record Query : Type 0 where
   pub collection : Collection
   pub policy : StatedPolicy
@@ -152,7 +152,7 @@ delete_options q text =
     if length text == 0 then or_bad_request (options_with part.Query None None q.policy)
     else result_flatten (result_map_both (λ d. or_bad_request (options_of d)) (λ e. e) (body_of text))
 
--- a query of which nothing counts but what is said of a delete's policy; it may not ask for a dry run (Kubernetes API Concepts, Dry-run)
+-- a query of which nothing counts but the policy that a delete names; it may not ask for a dry run (Kubernetes API Concepts, Dry-run)
 abbrev pub only_policy : Pairs → StatedPolicy → Result Query Part
 only_policy pairs policy = if has_any (codes "dryRun" ∷ []) pairs then Err part.Query else Ok (record { collection = everything; policy = policy })
 

@@ -1,4 +1,4 @@
--- The changes of a view: what each write does to the objects that the view asks for.
+-- The events of a view: what each write does to the objects that the view asks for.
 use Rattle.std.specs.Prelude.{ℕ, ◌+◌, ◌-◌, List, [], ◌∷◌, ◌++◌, length, drop, Option, Some, None}
 use Rattle.serde_json.specs.Data.{Data}
 use Rattle.definitions.specs.Texts.Keys.{Key}
@@ -7,7 +7,7 @@ use Rattle.definitions.specs.Objects.Metadata.{metadata_of, at_revision}
 use Rattle.definitions.specs.declared.frames.ChangeKind.{ChangeKind}
 use Rattle.definitions.specs.declared.frames.ChangeKind.TheVariants.{Added, Modified, Deleted}
 
--- what a write did to an object: the write's revision, the object's name, and what is shown of it
+-- what a view sees of a write: what it did to an object, its revision, the object's key, and the object as it is shown
 pub record Event : Type 0 where
   pub kind : ChangeKind
   pub revision : ℕ
@@ -18,38 +18,38 @@ pub record Event : Type 0 where
 abbrev pub gone_at : ℕ → Data → Data
 gone_at r d = at_revision r (metadata_of d) d
 
--- by whether the view shows an object before the write of revision r, and whether it shows one after it (Kubernetes API Concepts, Efficient detection of changes)
+-- the event, if there is one, by whether the view shows an object before the write of revision r, and whether it shows one after it (Kubernetes API Concepts, Efficient detection of changes)
 abbrev pub event_of : ℕ → Key → Option Data → Option Data → List Event
 event_of r k None None = []
 event_of r k None (Some new) = record { kind = Added; revision = r; key = k; object = new } ∷ []
 event_of r k (Some old) (Some new) = record { kind = Modified; revision = r; key = k; object = new } ∷ []
 event_of r k (Some old) None = record { kind = Deleted; revision = r; key = k; object = gone_at r old } ∷ []
 
--- the change, if there is one, of a write after these
+-- the event, if there is one, of a write after these
 abbrev pub write_change : View → List Write → Write → List Event
 write_change v before w = event_of (length before + 2) w.key (seen v w.key (last_of None w.key before)) (seen v w.key w.put)
 
--- the changes of writes after these, in order
+-- the events of writes after these, in order
 abbrev pub changes_after : View → List Write → List Write → List Event
 changes_after v before [] = []
 changes_after v before (w ∷ ws) = write_change v before w ++ changes_after v (before ++ w ∷ []) ws
 
--- the changes of the writes with a revision above a and up to b, in order
+-- the events of the writes with a revision above a and up to b, in order
 abbrev pub events : History → View → ℕ → ℕ → List Event
 events h v a b = changes_after v (up_to a h) (drop (a - 1) (up_to b h))
 
 -- ---- what they make of the list
 
--- what is there of the object after the change
+-- what is there of the object after the event
 abbrev pub put_of : ChangeKind → Data → Option Data
 put_of Deleted d = None
 put_of kind d = Some d
 
--- a change applied to what is there
+-- an event applied to what is there
 abbrev pub apply : Members → Event → Members
 apply ms c = put_or_remove ms c.key (put_of c.kind c.object)
 
--- changes applied one after another
+-- events applied one after another
 abbrev pub applied : Members → List Event → Members
 applied ms [] = ms
 applied ms (c ∷ cs) = applied (apply ms c) cs

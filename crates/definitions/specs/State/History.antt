@@ -47,7 +47,7 @@ last_of before k (w ∷ ws) = last_of (if is_same_key k w.key then w.put else be
 abbrev pub state : History → ℕ → Key → Option Data
 state h r k = last_of None k (up_to r h)
 
--- names and their objects, in the order of names
+-- keys and their objects, in the order of keys
 abbrev pub Members : Type 0
 Members = List (Key × Data)
 
@@ -84,7 +84,7 @@ abbrev pub in_namespace : Option (List ℕ) → List ℕ → Bool
 in_namespace None ns = true
 in_namespace (Some wanted) ns = bytes_eq wanted ns
 
--- whether an object with this name is asked for
+-- whether an object under this key is asked for
 abbrev pub in_view : View → Key → Data → Bool
 in_view v k d =
     (rank v.kind == rank k.kind) && in_namespace v.namespace k.namespace && meets_all v.labels (labels_of d) && fields_meet v.fields k.name k.namespace
@@ -96,7 +96,7 @@ viewed v ms = filter (λ m. in_view v m.0 m.1) ms
 abbrev pub list : History → View → ℕ → Members
 list h v r = viewed v (members h r)
 
--- what is under a name, if the view asks for it
+-- the object under a key, if there is one and the view asks for it
 abbrev pub seen : View → Key → Option Data → Option Data
 seen v k None = None
 seen v k (Some d) = if in_view v k d then Some d else None

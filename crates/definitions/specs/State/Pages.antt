@@ -15,7 +15,7 @@ pub record Place : Type 0 where
 abbrev pub place_of : Key → Place
 place_of n = record { namespace = n.namespace; name = n.name }
 
--- by namespace, then name, in byte order, as names of one kind go
+-- by namespace, then name, in byte order, as the keys of one kind are ordered
 abbrev pub place_cmp : Place → Place → Ordering
 place_cmp = then_cmp (on (λ (p : Place). p.namespace) (slice_cmp nat_cmp)) (on (λ (p : Place). p.name) (slice_cmp nat_cmp))
 
@@ -23,7 +23,7 @@ place_cmp = then_cmp (on (λ (p : Place). p.namespace) (slice_cmp nat_cmp)) (on 
 abbrev pub AreInPlace : Members → Type 0
 AreInPlace ms = IsStrictlySortedBy place_cmp (map (λ m. place_of m.0) ms)
 
--- whether a name comes after a place; where there is none, each does
+-- whether a key comes after a place; where there is none, each does
 abbrev pub is_after : Option Place → Key → Bool
 is_after None k = true
 is_after (Some p) k = is_lt (place_cmp p (place_of k))

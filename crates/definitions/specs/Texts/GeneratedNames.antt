@@ -15,7 +15,7 @@ suffix (suc n) x = suffix n (x / 27) ++ unwrap_or (slice_get alphabet (x % 27)) 
 abbrev pub made : List ℕ → ℕ → List ℕ
 made given n = utf8_lossy (take 58 given) ++ suffix 5 n
 
--- the names of so many numbers, from one on
+-- the names made with so many numbers, from this one on
 abbrev pub tried : List ℕ → ℕ → ℕ → List (List ℕ)
 tried given zero n = []
 tried given (suc tries) n = made given n ∷ tried given tries (n + 1)

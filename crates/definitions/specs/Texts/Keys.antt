@@ -1,4 +1,4 @@
--- The name of an object among all objects, and the order of names.
+-- The key of an object, by which it is known among all objects, and the order of keys.
 use Rattle.std.specs.Prelude.{ℕ, ◌==◌, ◌-◌, ◌&&◌, ◌||◌, List, Bool, length, slice_index, nat_le, nat_lt}
 use Rattle.std.specs.List.{list_all, slice_split}
 use Rattle.std.specs.Ordering.{nat_cmp, then_cmp, on, is_eq}

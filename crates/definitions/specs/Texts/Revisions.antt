@@ -7,10 +7,10 @@ use Rattle.definitions.specs.Texts.Moments.{is_digit}
 abbrev pub is_revision : List ℕ → Bool
 is_revision t = nat_lt 0 (length t) && list_all is_digit t && ((length t == 1) || not (slice_index t 0 == 48)) && nat_lt (digits_value 10 t) 9007199254740992
 
--- the revision that a text writes
+-- the revision that a text names
 abbrev pub revision_of : List ℕ → Option ℕ
 revision_of t = if is_revision t then Some (digits_value 10 t) else None
 
--- the greatest number that every JSON reader holds exactly (RFC 8259, Numbers)
+-- the greatest number that every JSON reader represents exactly (RFC 8259, Numbers)
 abbrev pub greatest_revision : ℕ
 greatest_revision = 9007199254740991

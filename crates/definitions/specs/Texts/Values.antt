@@ -1,4 +1,4 @@
--- JSON values (RFC 8259), and what is done to them: members set and taken out, merge patches.
+-- JSON values (RFC 8259), and what is done to them: members set and removed, merge patches.
 use Rattle.std.specs.Ordering.{nat_cmp, is_eq}
 use Rattle.std.specs.Cmp.Lexicographic.{slice_cmp}
 use Rattle.std.specs.Str.{is_utf8}
@@ -9,7 +9,7 @@ pub use Rattle.serde_json.specs.Find.{as_null, get_member, get, as_array, as_boo
 pub use Rattle.serde_json.specs.Written.{compact_text, has_float}
 pub use Rattle.serde_json.specs.Events.{items_len, members_len}
 
--- the data that a text says: JSON in UTF-8 (RFC 8259, Character Encoding)
+-- the data of a text, if it is JSON in UTF-8 (RFC 8259, Character Encoding)
 abbrev pub data_of : List ℕ → Option Data
 data_of text = if is_utf8 text then read text else None
 

@@ -1,4 +1,4 @@
--- The lines of a watch, one for each event.
+-- Frames: how the events, bookmarks and errors of a watch are written, one on each line.
 use Rattle.std.specs.Prelude.{ℕ, ◌-◌, List, [], ◌∷◌, ◌++◌, Bool, true, false, codes, decimal, Option, Some, None, if◌then◌else◌}
 use Rattle.std.specs.Str.{bytes_eq}
 use Rattle.serde_json.specs.Data.{Data, string, object, Members, no_members, member}
@@ -12,7 +12,7 @@ use Rattle.definitions.specs.Texts.Kinds as kinds
 use Rattle.definitions.specs.Texts.Kinds.{api_version}
 use Rattle.definitions.specs.Objects.Refusals.{Refusal, status_body}
 
--- an event of a watch (Kubernetes API reference, WatchEvent)
+-- a frame of a watch (Kubernetes API reference, WatchEvent)
 pub record Frame : Type 0 where
   pub kind : FrameKind
   pub object : Data
@@ -33,7 +33,7 @@ kind_named t =
     (if bytes_eq t (codes "MODIFIED") then Some Modified
     else (if bytes_eq t (codes "DELETED") then Some Deleted else (if bytes_eq t (codes "BOOKMARK") then Some Bookmark else (if bytes_eq t (codes "ERROR") then Some Error else None))))
 
--- the kind of a frame that shows a change
+-- the kind of a frame that shows an event
 abbrev pub frame_kind : ChangeKind → FrameKind
 frame_kind change.Added = Added
 frame_kind change.Modified = Modified
@@ -42,7 +42,7 @@ frame_kind change.Deleted = Deleted
 abbrev pub frame_data : Frame → Data
 frame_data e = object (member (codes "object") e.object (member (codes "type") (string (kind_text e.kind)) no_members))
 
--- the line of an event: compact JSON and a newline
+-- the line of a frame: compact JSON and a newline
 abbrev pub frame_text : Frame → List ℕ
 frame_text e = compact_text (frame_data e) ++ 10 ∷ []
 

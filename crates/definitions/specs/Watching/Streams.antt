@@ -1,4 +1,4 @@
--- The streams of a watch: changes in order with bookmarks between, and before them, if asked for, the list.
+-- The streams of a watch: events in order with bookmarks between, and before them, if asked for, the list.
 use Rattle.std.specs.Prelude.{◌≡◌, ◌≤◌, ◌<◌, ℕ, List, [], ◌∷◌, ◌++◌, map, flat_map, Some, true, false}
 use Rattle.serde_json.specs.Data.{Data}
 use Rattle.definitions.specs.declared.kinds.Kind.{Kind}
@@ -8,14 +8,14 @@ use Rattle.definitions.specs.State.History.{History, View, Members, list, put_or
 use Rattle.definitions.specs.Watching.Frames.{Frame, frame_kind, frame_text, bookmark_frame}
 use Rattle.definitions.specs.State.Events.{Event, events, apply}
 
--- a line of a stream: a change, a bookmark, an object that was there at the beginning, or the bookmark after the last of these
+-- a line of a stream: an event, a bookmark, an object that was there at the beginning, or the bookmark after the last of these
 pub data Line : Type 0 where
   event : Event → Line
   bookmark : ℕ → Line
   initial : Key → Data → Line
   initial_end : ℕ → Line
 
--- the event that a line of a watch of a kind shows
+-- the frame of a line, in a watch of a kind
 abbrev pub frame_of : Kind → Line → Frame
 frame_of k (event c) = record { kind = frame_kind c.kind; object = c.object }
 frame_of k (bookmark r) = bookmark_frame k false r
@@ -26,7 +26,7 @@ frame_of k (initial_end r) = bookmark_frame k true r
 abbrev pub text_of : Kind → List Line → List ℕ
 text_of k ls = flat_map (λ l. frame_text (frame_of k l)) ls
 
--- these changes in order, and bookmarks, each at least at the revision of what is before it, below that of each change after it, and at most at b (Kubernetes API Concepts, Watch bookmarks)
+-- these events in order, and bookmarks, each at least at the revision of what is before it, below that of each event after it, and at most at b (Kubernetes API Concepts, Watch bookmarks)
 abbrev pub Goes : ℕ → ℕ → List Event → List Line → Type 0
 Goes at b [] [] = Unit {0}
 Goes at b (c ∷ cs) (event d ∷ ls) = (d ≡ c) × Goes c.revision b cs ls
@@ -34,7 +34,7 @@ Goes at b [] (bookmark r ∷ ls) = (at ≤ r) × (r ≤ b) × Goes r b [] ls
 Goes at b (c ∷ cs) (bookmark r ∷ ls) = (at ≤ r) × (r ≤ b) × (r < c.revision) × Goes r b (c ∷ cs) ls
 Goes at b cs ls = ⊥
 
--- a stream of h, v from a to b
+-- a stream of the view v from a to b, in the history h
 abbrev pub IsStream : History → View → ℕ → ℕ → List Line → Type 0
 IsStream h v a b ls = Goes a b (events h v a b) ls
 

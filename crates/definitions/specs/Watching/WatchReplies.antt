@@ -8,7 +8,7 @@ use Rattle.definitions.specs.Objects.Refusals.{Refusal}
 use Rattle.definitions.specs.Watching.Streams.{Line, event, bookmark, added_lines}
 use Rattle.definitions.specs.Answers.Versions.{Watched, last_change, watched_from}
 
--- the lines that show this to a watch from a: the changes, and a bookmark where it stands above the last one (Kubernetes API Concepts, Watch bookmarks)
+-- the lines that show this to a watch from a: the events, and a bookmark where it stands above the last one (Kubernetes API Concepts, Watch bookmarks)
 abbrev pub lines_from : ℕ → Watched → List Line
 lines_from a w = map event w.events ++ (if nat_lt (last_change a w.events) w.stands then bookmark w.stands ∷ [] else [])
 
@@ -16,11 +16,11 @@ lines_from a w = map event w.events ++ (if nat_lt (last_change a w.events) w.sta
 abbrev pub told_lines : Bool → ℕ → Watched → List Line
 told_lines bookmarks a w = if bookmarks then lines_from a w else map event w.events
 
--- by what is there, and by what a watch from each revision is given
+-- a watch's lines, by what is there and by what a watch from each revision is given
 abbrev pub lines_by : history.Members → (ℕ → Result Watched Refusal) → Bool → Option ℕ → Result (List Line) Refusal
 lines_by ms watched bookmarks None = Ok (added_lines ms)
 lines_by ms watched bookmarks (Some a) = result_map_both (told_lines bookmarks a) (λ f. f) (watched a)
 
--- a watch's lines after all that has happened, with windows of this size: a history has fewer changes than its revision
+-- a watch's lines after all that has happened, with windows of this size: a history has fewer events than its revision
 abbrev pub watch_lines : ℕ → History → View → WatchOptions → Result (List Line) Refusal
 watch_lines size h v o = lines_by (list h v (present h)) (λ a. watched_from size h v a (present h)) o.bookmarks o.from

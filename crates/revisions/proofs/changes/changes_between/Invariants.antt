@@ -7,7 +7,7 @@ use Rattle.revisions.specs.Events.{event_seen}
 use Rattle.revisions.specs.Seen.{seen}
 use Rattle.revisions.proofs.changes.changes_between.Given as goal
 
--- the state is that after the writes so far, and the changes so far and those of the writes left are all
+-- the state is that after the writes so far, and the events so far and those of the writes left are all
 abbrev pub invariant-loop-place : goal.invariant-loop-place
 invariant-loop-place l = record {
   state : seen l.state.entries ≡ after_all [] (map write_of l.before ++ take l.place (map write_of l.after));
