@@ -9,9 +9,9 @@ ghost use Rattle.line_protocol.specs.Lines as lines;
 ghost use Rattle.line_service.specs.Replies.{AppendsBeginning};
 ghost use Rattle.kcp.specs.Replays.{fault_text, serve_fault_text, AnswersSome};
 
-mod connections;
+mod handling;
 
-use connections::Connections;
+use handling::Connections;
 use line_service::RunFault;
 use options::{Command, ServeOptions};
 use serving::ServeFault;
@@ -100,7 +100,13 @@ fn serve(rt: &HostRuntime, options: ServeOptions) -> Result<(), ServeFault> {
         return Err(ServeFault::NoMemory);
     };
     let mut writer = io::writer(rt);
-    serving::serve(rt, options.port, options.requests, &mut writer, &mut connections)
+    serving::serve(
+        rt,
+        options.port,
+        options.requests,
+        &mut writer,
+        &mut connections,
+    )
 }
 
 /// Returns what a fault of serving is called on standard error.
