@@ -1,8 +1,9 @@
-"""Runs the gate: whether the negative tests still apply, `rt ci`, and the conformance cases, one after another, whatever the others say.
+"""Runs the gate: whether the negative tests still apply and the made documents are the present ones, `rt ci`, the conformance cases, and
+the cases over HTTP with the program that `rt ci` built, one after another, whatever the others say.
 
 It shows what they print, and ends with tables of what took how long, what the first of them named, and a line 'N passed, M failed'.
 What was printed, with the second of each line, and the figures are kept in a temporary folder, whose name it says; it writes
-nothing into the repository. The status is 0 only where all three passed.
+nothing into the repository. The status is 0 only where all passed.
 """
 import json
 import os
@@ -16,6 +17,8 @@ import time
 
 sys.dont_write_bytecode = True
 ROOT = pathlib.Path(__file__).resolve().parent.parent
+PROGRAM = "crates/kcp/out/kcp"
+RANDOM_HEADS = 5000
 sys.path[:0] = [str(ROOT / ".ci"), str(ROOT / "conformance")]
 import figures
 import sampler
@@ -96,6 +99,24 @@ def used_by_children():
     return used.ru_utime + used.ru_stime
 
 
+def asked_first(log):
+    """Runs what takes a second: whether the negative tests still apply, and whether the documents that scripts make are the present ones."""
+    scripts = {"negative tests apply": "conformance/wrong_code.py", "index of definitions": "docs/definitions.py", "picture of the layers": "docs/layers.py"}
+    return {name: Run([sys.executable, "-B", script, "--check"], log) for name, script in scripts.items()}
+
+
+def asked_over_http(log):
+    """Runs what asks the program that `rt ci` built over sockets: cases, random heads, many clients at once, and real clients where they
+    are installed."""
+    words = {
+        "cases over HTTP": ["http/run.py"],
+        "random heads": ["http/heads.py", "--count", str(RANDOM_HEADS)],
+        "histories": ["histories/run.py"],
+        "clients": ["clients/run.py"],
+    }
+    return {name: Run([sys.executable, "-B", f"conformance/{script}", "--program", PROGRAM, *rest], log) for name, (script, *rest) in words.items()}
+
+
 def show(room, *what):
     """Keeps the figures, and prints them. Where that fails, it says so, and the gate goes on."""
     try:
@@ -110,21 +131,23 @@ def main():
     sys.stdout.reconfigure(encoding="utf-8", errors="replace")
     room = pathlib.Path(tempfile.mkdtemp(prefix="kcp-gate-"))
     with open(room / "output.txt", "w", encoding="utf-8") as log:
-        applies = Run([sys.executable, "-B", "conformance/wrong_code.py", "--check"], log)
+        first = asked_first(log)
         looking, before = sampler.Sampler(), used_by_children()
         looking.start()
         proved = Run(["rt", "ci"], log)
         looking.is_ended.set()
         used = used_by_children() - before
         conforms = Run([sys.executable, "-B", "conformance/run.py"], log)
+        served = asked_over_http(log)
     show(room, proved, conforms, looking, used)
     print(f"kept: {room}/output.txt, {room}/figures.json\n")
-    print("\n".join(line for _, line in applies.lines))
-    counts = [applies.counts(), proved.counts(), conforms.counts()]
-    for run, (passed, failed) in zip(("negative tests apply", "rt ci", "conformance"), counts):
-        print(f"{run}: {'ok' if not failed else 'FAILED'}")
+    print("\n".join(line for _, line in first["negative tests apply"].lines))
+    runs = {**first, "rt ci": proved, "conformance": conforms, **served}
+    for name, run in runs.items():
+        print(f"{name}: {'ok' if not run.counts()[1] else 'FAILED'}")
+    counts = [run.counts() for run in runs.values()]
     print(f"{sum(it[0] for it in counts)} passed, {sum(it[1] for it in counts)} failed", flush=True)
-    sys.exit(1 if any(run.status for run in (applies, proved, conforms)) else 0)
+    sys.exit(1 if any(run.status for run in runs.values()) else 0)
 
 
 if __name__ == "__main__":

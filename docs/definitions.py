@@ -20,7 +20,7 @@ BESIDE = {
     "chunked": ["Bodies"],
     "connections": ["Heads", "Checks", "Connections", "Replies"],
     "server_state": ["Snapshots", "Recorded", "Servers"],
-    "controllers": ["ReadFrames", "Reflectors", "WorkQueues", "Delays", "Expectations"],
+    "controllers": ["ReadFrames", "Reflectors", "WorkQueues", "Delays", "Expectations", "Informers", "Shifts", "OwedKeys"],
 }
 
 HEAD = """# Definitions

@@ -120,7 +120,7 @@ def use_kubernetes(root):
         check("conflict", False, "no conflict")
     except ApiException as error:
         check("conflict", error.status == 409, error)
-    seen = [event["type"] for event in watch.Watch().stream(core.list_namespaced_config_map, "default", resource_version="2", _request_timeout=60)]
+    seen = [event["type"] for event in watch.Watch().stream(core.list_namespaced_config_map, "default", resource_version="2", timeout_seconds=60)]
     check("watch", seen == ["MODIFIED"], seen)
     core.delete_namespaced_config_map("a", "default")
 

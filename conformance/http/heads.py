@@ -6,6 +6,7 @@ The sending half of the connection is closed after it. The heads are the same fo
 Usage: heads.py --program PATH [--count N] [--seed N]
 """
 import argparse
+import json
 import random
 import re
 import socket
@@ -138,17 +139,29 @@ def checked(method, target, minor, fields, rest):
     return served(method, plural, listed[3], rest[:length])
 
 
+def is_object(body):
+    """Returns whether a body is a JSON object."""
+    try:
+        return isinstance(json.loads(body), dict)
+    except ValueError:
+        return False
+
+
 def served(method, plural, name, body):
-    """Returns the reply to a request that passes its checks. No body here is an object, so nothing is ever created."""
+    """Returns the reply to a request that passes its checks. A body that is an object has no name, so nothing is ever created; what is
+    told then is left to the cases."""
     kind, version = EMPTY_LISTS[plural]
+    if is_object(body):
+        return None
     if method in (b"POST", b"PUT", b"PATCH") or (method == b"DELETE" and body):
         return refused(400, "BadRequest", "bad request: body")
     if not name:
         return run.reply(200, f'{{"apiVersion":"{version}","items":[],"kind":"{kind}List","metadata":{{"resourceVersion":"1"}}}}'.encode())
     group = '"group":"apps",' if version != "v1" else ""
     resource = plural + (".apps" if group else "")
+    named, message = (json.dumps(it, ensure_ascii=False) for it in (name, f'{resource} "{name}" not found'))
     return run.reply(404, (
-        f'{{"apiVersion":"v1","code":404,"details":{{{group}"kind":"{plural}","name":"{name}"}},"kind":"Status","message":"{resource} \\"{name}\\" not found",'
+        f'{{"apiVersion":"v1","code":404,"details":{{{group}"kind":"{plural}","name":{named}}},"kind":"Status","message":{message},'
         f'"metadata":{{}},"reason":"NotFound","status":"Failure"}}').encode())
 
 

@@ -6,7 +6,7 @@ A case is a file cases/NAME.http. The program begins with nothing and serves the
     > "text"         bytes to send, as a JSON string; `> 16000 * "a"` sends a text so many times
     pieces 7         what is sent goes out in pieces of so many bytes
     end              nothing more is sent: that half of the connection is closed
-    < 200 {..}       the whole reply: this code and this body, `{time}` in it being the server's moment
+    < 200 {..}       the whole reply: this code and this body, `{time}` in it being the moment of the request
     < refused 400 BadRequest bad request: head
                      the whole reply: the Status with this code, reason and message
     < watch          the head of a watch, each line `| {..}` below it as a chunk, and the last chunk
@@ -18,6 +18,7 @@ Usage: run.py --program PATH [WORD]      WORD: only cases whose name has it
 """
 import argparse
 import concurrent.futures
+import datetime
 import json
 import pathlib
 import re
@@ -29,6 +30,7 @@ HERE = pathlib.Path(__file__).resolve().parent
 SECONDS = 60
 AT_ONCE = 8
 TIME = re.compile(rb"\d{4}-\d\d-\d\dT\d\d:\d\d:\d\dZ")
+SOME_TIME = "2026-01-01T00:00:00Z"
 
 PHRASES = {
     200: "OK", 201: "Created", 202: "Accepted", 400: "Bad Request", 404: "Not Found", 405: "Method Not Allowed", 409: "Conflict",
@@ -61,6 +63,18 @@ def watch(frames):
     return head(200, "Transfer-Encoding: chunked") + chunks + b"0\r\n\r\n"
 
 
+def with_time(text):
+    """Returns the bytes of a text, with a moment in the place of each `{time}`."""
+    return text.replace("{time}", SOME_TIME).encode()
+
+
+def without_time(written, begun):
+    """Returns what was written with the same moment everywhere, and whether each that it had lies between the begin and now."""
+    ended = datetime.datetime.now(datetime.timezone.utc)
+    found = [datetime.datetime.fromisoformat(it.decode()[:-1] + "+00:00") for it in TIME.findall(written)]
+    return TIME.sub(SOME_TIME.encode(), written), all(begun.replace(microsecond=0) <= it <= ended for it in found)
+
+
 class Connection:
     """What is sent over one connection, and what has to come back."""
 
@@ -79,11 +93,11 @@ class Connection:
             elif line == "< watch":
                 frames = []
             elif line.startswith("| "):
-                frames.append(line.removeprefix("| ").encode() + b"\n")
+                frames.append(with_time(line.removeprefix("| ")) + b"\n")
             elif found := re.fullmatch(r"< refused (\d+) (\w+) (.*)", line):
                 self.wanted = reply(int(found[1]), status(int(found[1]), found[2], found[3]))
             elif found := re.fullmatch(r"< (\d+) (.*)", line):
-                self.wanted = reply(int(found[1]), found[2].replace("{time}", "2026-01-01T00:00:00Z").encode())
+                self.wanted = reply(int(found[1]), with_time(found[2]))
             elif not line.startswith("#"):
                 sys.exit(f"not a line of a case: {line}")
         if frames is not None:
@@ -137,11 +151,11 @@ def serve(program, count):
 
 def differences(program, path):
     """Returns what is wrong in a case, a line each."""
-    wrong, asked = [], connections(path)
+    wrong, asked, begun = [], connections(path), datetime.datetime.now(datetime.timezone.utc)
     started, port = serve(program, len(asked))
     for number, connection in enumerate(asked, 1):
-        written = TIME.sub(b"2026-01-01T00:00:00Z", connection.answered(port))
-        if written != connection.wanted:
+        written, is_now = without_time(connection.answered(port), begun)
+        if written != connection.wanted or not is_now:
             wrong.append(f"connection {number}\n    wanted  {connection.wanted[:600]!r}\n    written {written[:600]!r}")
     try:
         code = started.wait(timeout=SECONDS)

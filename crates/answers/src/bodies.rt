@@ -4,11 +4,12 @@ ghost use Rattle.serde_json.specs.View.{view};
 ghost use Rattle.definitions.specs.Verbs.{object_in};
 ghost use Rattle.answers.specs.Bodies.{RefusesSaid};
 
+use defaults::defaults;
 use definitions::kinds::Kind;
-use meta::{Fault, Object};
+use keys::Fault;
+use meta::Object;
 use serde_json::Value;
 use std::alloc::Global;
-use validate::defaults;
 
 /// Returns a body read as an object of a kind, with the defaults of its spec. The errors are the
 /// part of the request at fault, and running out of memory.

@@ -6,7 +6,7 @@ ghost use Rattle.definitions.specs.NewObjects.{first_status};
 ghost use Rattle.definitions.specs.Reading.{empty};
 
 use definitions::kinds::Kind;
-use meta::values::{whole_number, with_member, with_text};
+use json_values::values::{whole_number, with_member, with_text};
 use serde_json::{Map, Value};
 use std::alloc::{AllocError, Global};
 

@@ -8,7 +8,8 @@ ghost use Rattle.definitions.specs.Replacements.{has_new_spec, has_new_annotatio
 ghost use Rattle.definitions.specs.Revisions.{greatest_revision};
 
 use definitions::kinds::Kind;
-use meta::{Draft, Object};
+use drafts::Draft;
+use meta::Object;
 use std::alloc::{AllocError, Global};
 
 /// Returns the text of an object's spec, which is empty where there is none.
@@ -106,7 +107,7 @@ pub fn at_revision(alloc: Global, object: Object, before: u64) -> Result<Object,
     requires { before ≤ greatest_revision }
     ensures { IfOk result (λ o. o.value ≡ at_revision (before + 1) (metadata_of object.value) object.value) }
 {
-    let mut draft = object.open(alloc)?;
+    let mut draft = Draft::new(alloc, object)?;
     set_revision(alloc, &mut draft, before)?;
     let made = draft.close(alloc)?;
     Ok(made)
@@ -124,7 +125,7 @@ pub fn updated(
     ensures { IfOk result (λ o. o.value ≡ updated kind (before + 1) existing.now.value object.value) }
 {
     let is_new = is_new_generation(alloc, kind, existing, &object)?;
-    let mut draft = object.open(alloc)?;
+    let mut draft = Draft::new(alloc, object)?;
     raise_generation(alloc, &mut draft, is_new, existing)?;
     set_revision(alloc, &mut draft, before)?;
     let made = draft.close(alloc)?;

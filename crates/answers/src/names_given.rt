@@ -2,11 +2,12 @@
 ghost use Rattle.std.specs.Prelude.{◌≡◌, option_map};
 ghost use Rattle.definitions.specs.Metadata.{differs, is_other};
 ghost use Rattle.definitions.specs.Verbs.{names_path};
-ghost use Rattle.meta.specs.Keys.{key_of};
+ghost use Rattle.keys.specs.Keys.{key_of};
 ghost use Rattle.answers.specs.Naming.{mismatch};
 
 use definitions::refusals::Mismatch;
-use meta::{Key, Object};
+use keys::Key;
+use meta::Object;
 
 /// Returns whether a text is named, and is another than this one.
 pub fn is_other(named: Option<&str>, text: &str) -> bool

@@ -4,13 +4,14 @@ ghost use Rattle.serde_json.specs.Written.{compact_text};
 ghost use Rattle.definitions.specs.Replacements.{is_finalized, says_the_same};
 ghost use Rattle.definitions.specs.Revisions.{greatest_revision};
 ghost use Rattle.definitions.specs.Verbs.{is_past_greatest, put_in_place, take_out};
-ghost use Rattle.meta.specs.Keys.{key_of};
+ghost use Rattle.keys.specs.Keys.{key_of};
 ghost use Rattle.answers.specs.Serves.{Serves};
 
 use crate::limits::is_too_large;
 use crate::stored_texts::stored_with_text;
+use keys::{Fault, Key};
 use lifecycle::is_finalized;
-use meta::{Fault, Key, Object, StoredObject, Write};
+use meta::{Object, StoredObject, Write};
 use reply::Reply;
 use std::alloc::{AllocError, Global};
 use store::limits::GREATEST_REVISION;

@@ -9,7 +9,7 @@ use Rattle.definitions.specs.Targets as targets
 use Rattle.definitions.specs.Verbs.{Outcome, refused}
 use Rattle.definitions.specs.Versions.{Listed}
 use Rattle.chunked.specs.declared.watched.Watched.{Watched}
-use Rattle.meta.specs.Faults.{refusal_of}
+use Rattle.keys.specs.Faults.{refusal_of}
 use Rattle.received.specs.Receiving as received
 use Rattle.received.specs.Receiving.{IsNeeded, IsWhole, Needs}
 use Rattle.received.specs.declared.received.Received.{Received}

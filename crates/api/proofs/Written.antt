@@ -11,8 +11,8 @@ use Rattle.chunked.specs.declared.fault.ChunkFault.TheVariants as chunk
 use Rattle.chunked.specs.declared.watched.Watched.{Watched}
 use Rattle.connections.specs.Replies.{response_text, reply_text}
 use Rattle.desk.specs.Replies.{Says}
-use Rattle.meta.specs.Faults.{refusal_of}
-use Rattle.meta.specs.declared.faults.Fault.{Fault}
+use Rattle.keys.specs.Faults.{refusal_of}
+use Rattle.keys.specs.declared.fault.Fault.{Fault}
 use Rattle.reply.specs.declared.reply.Reply as replies
 use Rattle.sites.specs.Told.{Tells}
 use Rattle.api.specs.Replying.{Sends, Replies, RepliesTo}

@@ -7,8 +7,8 @@ use Rattle.definitions.specs.Verbs.{Outcome, answered, refused}
 use Rattle.chunked.specs.Devices.{AppendsBeginning, device_of, has_failed}
 use Rattle.chunked.specs.declared.watched.Watched.{Watched}
 use Rattle.connections.specs.Replies.{response_text, reply_text}
-use Rattle.meta.specs.Faults.{refusal_of}
-use Rattle.meta.specs.declared.faults.Fault.{Fault}
+use Rattle.keys.specs.Faults.{refusal_of}
+use Rattle.keys.specs.declared.fault.Fault.{Fault}
 use Rattle.reply.specs.declared.reply.Reply as replies
 use Rattle.api.specs.declared.fault.ServeFault.{ServeFault}
 use Rattle.api.specs.declared.fault.ServeFault.TheVariants as fault

@@ -12,7 +12,7 @@ use Rattle.definitions.specs.Versions.{Listed}
 use Rattle.chunked.specs.declared.watched.Watched.{Watched}
 use Rattle.connections.specs.Connections.{Asks}
 use Rattle.connections.specs.Replies.{reply_text}
-use Rattle.meta.specs.Faults.{refusal_of}
+use Rattle.keys.specs.Faults.{refusal_of}
 use Rattle.received.specs.Receiving.{IsWhole, IsNeeded}
 use Rattle.watch_service.specs.Served.{Serves}
 use Rattle.watch_service.specs.Watches.{Look}

@@ -6,13 +6,14 @@ ghost use Rattle.definitions.specs.Targets as targets;
 ghost use Rattle.received.specs.Receiving.{said};
 ghost use Rattle.requests.specs.Collected.{list_seen, watch_seen};
 ghost use Rattle.selector.specs.Views.{view_of};
-ghost use Rattle.verbs.specs.Requests.{request_of};
+ghost use Rattle.requests.specs.Requests.{request_of};
 
 use crate::fault::ServeFault;
 use crate::replying::{send_answer, send_refusal};
 use asked::Asked;
 use chunked::Watched;
 use received::Received;
+use requests::Request;
 use requests::list_options::ListOptions;
 use requests::watch_options::WatchOptions;
 use selector::View;
@@ -20,7 +21,6 @@ use sites::Site;
 use stamps::moments::Moment;
 use std::alloc::Global;
 use std::io::Write;
-use verbs::Request;
 use watch_service::{Cut, Pace, WatchFault, serve_watch};
 
 /// Does a request at a server, and writes its reply.

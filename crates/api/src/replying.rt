@@ -3,11 +3,11 @@ ghost use Rattle.std.specs.Prelude.{string_bytes};
 ghost use Rattle.api.specs.Replying.{Sends, Replies, RepliesTo};
 ghost use Rattle.connections.specs.Replies.{response_text};
 ghost use Rattle.definitions.specs.Verbs.{refused};
-ghost use Rattle.meta.specs.Faults.{refusal_of};
+ghost use Rattle.keys.specs.Faults.{refusal_of};
 
 use crate::fault::ServeFault;
 use chunked::Watched;
-use meta::Fault;
+use keys::Fault;
 use reply::Reply;
 use responses::{out_of_memory, refusal, send_response};
 use std::alloc::Global;

@@ -8,10 +8,10 @@ use Rattle.definitions.specs.Refusals.{Refusal}
 use Rattle.definitions.specs.Targets as targets
 use Rattle.lifecycle.specs.Options.{options_seen}
 use Rattle.lifecycle.specs.declared.options.DeleteOptions.{DeleteOptions}
-use Rattle.meta.specs.Faults.{refusal_of}
-use Rattle.meta.specs.declared.faults.Fault.{Fault}
-use Rattle.meta.specs.declared.faults.Fault.TheVariants as fault
-use Rattle.verbs.specs.Requests.{request_of}
+use Rattle.keys.specs.Faults.{refusal_of}
+use Rattle.keys.specs.declared.fault.Fault.{Fault}
+use Rattle.keys.specs.declared.fault.Fault.TheVariants as fault
+use Rattle.requests.specs.Requests.{request_of}
 use Rattle.requests.specs.Collected.{list_seen, watch_seen}
 use Rattle.selector.specs.Views.{view_of}
 use Rattle.asked.specs.declared.meaning.Asked.{Asked}

@@ -1,8 +1,8 @@
 //! What a method, a target and a body ask for.
 ghost use Rattle.std.specs.Prelude.{◌≡◌, IfOk, option_map, string_bytes};
 ghost use Rattle.definitions.specs.Targets.{asked, read_as, selected, asked_with, body_of, delete_options, query_for, read_request};
-ghost use Rattle.meta.specs.Faults.{refusal_of};
-ghost use Rattle.meta.specs.Keys.{key_of};
+ghost use Rattle.keys.specs.Faults.{refusal_of};
+ghost use Rattle.keys.specs.Keys.{key_of};
 ghost use Rattle.requests.specs.Collected.{collection_seen, read_seen};
 ghost use Rattle.requests.specs.Queried.{query_seen};
 ghost use Rattle.routes.specs.Seen.{now, route_seen};
@@ -12,8 +12,9 @@ use crate::meaning::Asked;
 use definitions::kinds::Kind;
 use definitions::methods::Method;
 use definitions::refusals::Part;
+use keys::{Fault, Key};
 use lifecycle::DeleteOptions;
-use meta::{Fault, Key};
+use requests::Request;
 use requests::body::{BodyFault, is_too_long, read_body};
 use requests::check::{check_request, decode};
 use requests::collections::{Collection, Read};
@@ -23,7 +24,6 @@ use routes::targets::Target;
 use selector::View;
 use serde_json::Value;
 use std::alloc::{AllocError, Global};
-use verbs::Request;
 
 /// Returns what a method, a target and a body ask. The error is the first refusal: of the path, the method, the query, the
 /// length of the body, which each method looks at, what the body says; or out of memory.

@@ -1,8 +1,8 @@
 //! What is asked.
+use requests::Request;
 use requests::list_options::ListOptions;
 use requests::watch_options::WatchOptions;
 use selector::View;
-use verbs::Request;
 
 /// What a method, a target and a body ask: a request, the list of a view, or a watch of it.
 #[derive(Drop)]

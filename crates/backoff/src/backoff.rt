@@ -2,7 +2,7 @@
 ghost use Rattle.std.specs.Prelude.{◌≡◌, ◌+◌, min, IfOk, OnOk, OnErr};
 ghost use Rattle.std.specs.FinMap as map;
 ghost use Rattle.controllers.specs.Delays.{failures, failed, delay_after};
-ghost use Rattle.work_keys.specs.Tasks.{work_key_of};
+ghost use Rattle.work_keys.specs.WorkKeys.{work_key_of};
 
 use std::alloc::{AllocError, Global};
 use std::collections::BTreeMap;
@@ -23,9 +23,9 @@ impl Model for Backoff {
 
     ghost coded = { coded_counts };
 
-    ghost use Rattle.work_keys.specs.Seen.{by_task};
+    ghost use Rattle.work_keys.specs.Seen.{by_work_key};
 
-    ghost view = { λ b. by_task (λ f. f) b.failures.entries };
+    ghost view = { λ b. by_work_key (λ f. f) b.failures.entries };
 }
 
 impl Backoff {

@@ -2,8 +2,6 @@
 #![tactic(auto)]
 
 #[cfg(test)]
-mod devices;
-#[cfg(test)]
 mod reader_tests;
 #[cfg(test)]
 mod writer_tests;

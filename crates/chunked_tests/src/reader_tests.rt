@@ -1,8 +1,8 @@
-use crate::devices::Source;
 use chunked::{ChunkFault, Reader, Watched, Writer};
 use std::alloc::Global;
 use std::io::{ErrorKind, Read};
 use std::test::Fail;
+use test_devices::Source;
 
 /// Two chunks, the second with an extension, the end, and what follows the body.
 const BODY: &[u8] = b"4\r\nWiki\r\nB;a=\"b\"\r\npedia in ch\r\n0\r\n\r\nnext";

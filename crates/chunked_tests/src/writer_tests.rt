@@ -1,8 +1,8 @@
-use crate::devices::Sink;
 use chunked::{ChunkFault, Watched, Writer};
 use std::alloc::Global;
 use std::io::{ErrorKind, Write};
 use std::test::Fail;
+use test_devices::Sink;
 
 /// Returns a watched sink that fails at this call.
 fn sink(alloc: Global, bad: u64, kind: ErrorKind) -> Watched<Sink> {

@@ -12,23 +12,23 @@ use Rattle.std.specs.FinSet as set
 use Rattle.std.specs.FinSet.{contains-from_list, contains-insert, contains-remove, same_set}
 use Rattle.controllers.specs.WorkQueues.{WorkKey, work_key_cmp}
 use Rattle.controllers.specs.Delays.{Delays, Alarm, alarm_cmp, alarms}
-use Rattle.controllers.proofs.TaskOrder.{task_total, task_tells, then_Equal}
+use Rattle.controllers.proofs.WorkKeyOrder.{work_key_total, work_key_tells, then_Equal}
 
 pub alarm_total : IsTotalOrder alarm_cmp
-alarm_total = then_total (on_total (λ (a : Alarm). a.at) nat_cmp_total) (on_total (λ (a : Alarm). a.task) task_total)
+alarm_total = then_total (on_total (λ (a : Alarm). a.at) nat_cmp_total) (on_total (λ (a : Alarm). a.task) work_key_total)
 
 pub alarm_tells : IsAntisymmetric alarm_cmp
 alarm_tells a b e =
     let parts = then_Equal _ _ e in
     let m = nat_cmp-IsAntisymmetric a.at b.at parts.0 in
-    let t = task_tells a.task b.task parts.1 in
+    let t = work_key_tells a.task b.task parts.1 in
     λ i. record { at = m i; task = t i }
 
 abbrev pub same : WorkKey → WorkKey → Bool
 same = eq_by_cmp work_key_cmp
 
 pub same_tells : (q t : WorkKey) → same q t ≡ true → q ≡ t
-same_tells q t e = task_tells q t ((Equal-is (work_key_cmp q t)).0 e)
+same_tells q t e = work_key_tells q t ((Equal-is (work_key_cmp q t)).0 e)
 
 abbrev pub same_at : ℕ → ℕ → Bool
 same_at a b = is_eq (nat_cmp a b)
@@ -49,7 +49,7 @@ alarm_of e = record { at = e.1; task = e.0 }
 abbrev pub alarm_set : Delays → set.FinSet alarm_cmp
 alarm_set m = set.from_list (map alarm_of (map_of.entries m))
 
-tie_both : (x y : Ordering) → is_eq (ordering_then x y) ≡ (is_eq x && is_eq y)
+pub tie_both : (x y : Ordering) → is_eq (ordering_then x y) ≡ (is_eq x && is_eq y)
 tie_both Less y = refl
 tie_both Equal y = refl
 tie_both Greater y = refl
@@ -58,16 +58,16 @@ tie_both Greater y = refl
 at_alarm : (a : Alarm) (k : WorkKey) (b : ℕ) → eq_by_cmp alarm_cmp a (alarm_of (k, b)) ≡ (same_at a.at b && same a.task k)
 at_alarm a k b = tie_both _ _
 
-less_is_not_equal : (o : Ordering) (b : Bool) → T (is_lt o && b) → is_eq o ≡ false
+pub less_is_not_equal : (o : Ordering) (b : Bool) → T (is_lt o && b) → is_eq o ≡ false
 less_is_not_equal Less b h = refl
 less_is_not_equal Equal b h = absurd h
 less_is_not_equal Greater b h = refl
 
-second : (a b : Bool) → T (a && b) → T b
+pub second : (a b : Bool) → T (a && b) → T b
 second true b h = h
 second false b h = absurd h
 
-first : (a b : Bool) → T (a && b) → T a
+pub first : (a b : Bool) → T (a && b) → T a
 first true b h = tt
 first false b h = absurd h
 
@@ -114,7 +114,7 @@ module _ (m : Delays) (k : WorkKey) where
   pub alarms_begun : (at : ℕ) → map_of.get m k ≡ None → alarm_set (map_of.insert m k at) ≡ set.insert (alarm_set m) (alarm_of (k, at))
   alarms_begun at none =
       same_set alarm_total alarm_tells _ _
-      (λ a. contains-alarms (map_of.insert m k at) a ∙ ap (λ x. is_moment x a.at) (get-insert task_total m k at a.task) ∙ by a (same a.task k) refl ∙ ap (λ b. b || set.contains (alarm_set m) a) (sym (at_alarm a k at)) ∙ sym (contains-insert alarm_total (alarm_set m) (alarm_of (k, at)) a))
+      (λ a. contains-alarms (map_of.insert m k at) a ∙ ap (λ x. is_moment x a.at) (get-insert work_key_total m k at a.task) ∙ by a (same a.task k) refl ∙ ap (λ b. b || set.contains (alarm_set m) a) (sym (at_alarm a k at)) ∙ sym (contains-insert alarm_total (alarm_set m) (alarm_of (k, at)) a))
     where
       by : (a : Alarm) (t : Bool) → same a.task k ≡ t → is_moment (cond t (Some at) (map_of.get m a.task)) a.at ≡ ((same_at a.at at && t) || set.contains (alarm_set m) a)
       by a true e = sym (and_true (same_at a.at at)) ∙ ap (λ b. (same_at a.at at && true) || b) (sym (at_key a None none e))
@@ -125,7 +125,7 @@ module _ (m : Delays) (k : WorkKey) where
   alarms_hastened at before some h =
       same_set alarm_total alarm_tells _ _
       (λ a. contains-alarms (map_of.insert m k at) a
-      ∙ ap (λ x. is_moment x a.at) (get-insert task_total m k at a.task)
+      ∙ ap (λ x. is_moment x a.at) (get-insert work_key_total m k at a.task)
       ∙ by a (same a.task k) refl
       ∙ (λ i. not (sym (at_alarm a k before) i) && (sym (at_alarm a k at) i || set.contains (alarm_set m) a))
       ∙ ap (λ b. not (eq_by_cmp alarm_cmp a (alarm_of (k, before))) && b) (sym (contains-insert alarm_total (alarm_set m) (alarm_of (k, at)) a))
@@ -154,7 +154,7 @@ module _ (m : Delays) (k : WorkKey) where
   alarms_removed before some =
       same_set alarm_total alarm_tells _ _
       (λ a. contains-alarms (map_of.remove m k) a
-      ∙ ap (λ x. is_moment x a.at) (get-remove task_total m k a.task)
+      ∙ ap (λ x. is_moment x a.at) (get-remove work_key_total m k a.task)
       ∙ by a (same a.task k) refl
       ∙ ap (λ b. not b && set.contains (alarm_set m) a) (sym (at_alarm a k before))
       ∙ sym (contains-remove alarm_total (alarm_set m) (alarm_of (k, before)) a))

@@ -13,7 +13,7 @@ use Rattle.std.specs.FinSet as set
 use Rattle.std.specs.FinSet.{contains-from_list, contains-insert, contains-remove, same_set}
 use Rattle.controllers.specs.WorkQueues.{WorkKey, work_key_cmp}
 use Rattle.controllers.specs.Delays.{Delays, Alarm, alarm_cmp, due, has_come, still_delayed}
-use Rattle.controllers.proofs.TaskOrder.{task_total, task_tells}
+use Rattle.controllers.proofs.WorkKeyOrder.{work_key_total, work_key_tells}
 use Rattle.controllers.proofs.Alarms.{alarm_total, alarm_tells, alarm_set, alarm_of, contains-alarms, moment_of, alarms_removed, alarms_are, same_at_itself, same_tells, is_moment}
 
 abbrev same : Alarm → Alarm → Bool
@@ -73,13 +73,13 @@ module _ (m : Delays) (a : Alarm) (ks : List Alarm) (h : AreAlarms m (a ∷ ks))
       ∙ ap (λ l. a.task ∷ l) (sym (due_is now (map_of.remove m a.task) ks rest_are))
 
 pub get-still : (now : ℕ) (m : Delays) (q : WorkKey) → map_of.get (still_delayed now m) q ≡ cond (not (has_come now (map_of.get m q))) (map_of.get m q) None
-get-still now m q = get-retain_keys m (λ k. not (has_come now (map_of.get m k))) q (λ x t. ap (λ o. not (has_come now o)) (get_tied task_total m q x t))
+get-still now m q = get-retain_keys m (λ k. not (has_come now (map_of.get m k))) q (λ x t. ap (λ o. not (has_come now o)) (get_tied work_key_total m q x t))
 
 -- to remove a key that is due changes nothing of what is left afterwards
 pub still_without : (now at : ℕ) (m : Delays) (k : WorkKey) → map_of.get m k ≡ Some at → nat_le at now ≡ true → still_delayed now (map_of.remove m k) ≡ still_delayed now m
 still_without now at m k is come =
-    same_map task_total task_tells _ _
-    (λ q. get-still now (map_of.remove m k) q ∙ ap (λ o. cond (not (has_come now o)) o None) (get-remove task_total m k q) ∙ by q (eq_by_cmp work_key_cmp q k) refl ∙ sym (get-still now m q))
+    same_map work_key_total work_key_tells _ _
+    (λ q. get-still now (map_of.remove m k) q ∙ ap (λ o. cond (not (has_come now o)) o None) (get-remove work_key_total m k q) ∙ by q (eq_by_cmp work_key_cmp q k) refl ∙ sym (get-still now m q))
   where
     left : (o : Option ℕ) → o ≡ Some at → None ≡ cond (not (has_come now o)) o None
     left o e = ap (λ b. cond (not b) (Some at) None) (sym come) ∙ ap (λ o. cond (not (has_come now o)) o None) (sym e)
@@ -129,7 +129,7 @@ module _ (now : ℕ) (m : Delays) (ks : List Alarm) (h : AreAlarms m ks) (l : Al
   none_due_later = due_is now m ks h ∙ ap (map (λ (a : Alarm). a.task)) (none_comes now ks l)
 
   all_still_later : still_delayed now m ≡ m
-  all_still_later = same_map task_total task_tells _ _ (λ q. get-still now m q ∙ by q (map_of.get m q) refl)
+  all_still_later = same_map work_key_total work_key_tells _ _ (λ q. get-still now m q ∙ by q (map_of.get m q) refl)
     where
       by : (q : WorkKey) (o : Option ℕ) → map_of.get m q ≡ o → cond (not (has_come now o)) o None ≡ o
       by q None is = refl

@@ -1,4 +1,4 @@
-pub mod TaskOrder
+pub mod WorkKeyOrder
 pub mod Alarms
 pub mod Due
 pub mod Expected

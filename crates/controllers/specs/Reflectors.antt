@@ -113,16 +113,16 @@ abbrev pub put_all : Members → List Object → Members
 put_all ms [] = ms
 put_all ms (o ∷ os) = put_all (put_in ms o) os
 
-abbrev pub play_delta : Members → Delta → Members
-play_delta ms (replace r os) = put_all [] os
-play_delta ms (put o) = put_in ms o
-play_delta ms (remove r n) = put_or_remove ms n None
-play_delta ms (mark r) = ms
+abbrev pub apply_delta : Members → Delta → Members
+apply_delta ms (replace r os) = put_all [] os
+apply_delta ms (put o) = put_in ms o
+apply_delta ms (remove r n) = put_or_remove ms n None
+apply_delta ms (mark r) = ms
 
 -- deltas applied one after another
-abbrev pub play_deltas : Members → List Delta → Members
-play_deltas ms [] = ms
-play_deltas ms (d ∷ ds) = play_deltas (play_delta ms d) ds
+abbrev pub apply_deltas : Members → List Delta → Members
+apply_deltas ms [] = ms
+apply_deltas ms (d ∷ ds) = apply_deltas (apply_delta ms d) ds
 
 -- ---- what a frame does
 

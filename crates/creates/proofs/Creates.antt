@@ -13,8 +13,8 @@ use Rattle.definitions.specs.Refusals.{invalid}
 use Rattle.definitions.specs.Verbs.{Outcome, refused, refuse_field, new_name}
 use Rattle.definitions.proofs.VerbSteps.{create_read, create_checked, create_as}
 use Rattle.definitions.specs.NewObjects.{created, with_first_status}
-use Rattle.meta.specs.declared.faults.Fault.{Fault}
-use Rattle.meta.specs.declared.faults.Fault.TheVariants as fault
+use Rattle.keys.specs.declared.fault.Fault.{Fault}
+use Rattle.keys.specs.declared.fault.Fault.TheVariants as fault
 use Rattle.meta.specs.declared.writes.Write.{Write}
 use Rattle.reply.specs.declared.reply.Reply.{Reply}
 use Rattle.validate.specs.Faults.{RefusesField}

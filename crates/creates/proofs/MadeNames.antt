@@ -2,22 +2,19 @@
 use Rattle.std.proofs.Common.{◌≡◌, ℕ, zero, suc, ◌+◌, ◌-◌, ◌<◌, List, [], ◌∷◌, Bool, true, false, cond, ◌&&◌, nat_lt, Some, find, slice_get, unwrap_or, refl, sym, ap, ◌∙◌, arith}
 use Rattle.std.proofs.lemmas.Bool.Decides.{nat_tests}
 use Rattle.std.specs.List.{list_all}
+use Rattle.definitions.proofs.Truths.{both_true}
 use Rattle.definitions.specs.GeneratedNames.{alphabet, made, tried, made_name}
 use Rattle.definitions.specs.History.{Members}
 use Rattle.definitions.specs.Verbs.{is_free}
 use Rattle.definitions.specs.declared.kinds.Kind.{Kind}
 
-both : (u v : Bool) → (u && v) ≡ true → (u ≡ true) × (v ≡ true)
-both true v h = (refl, h)
-both false v h = cc
-
 -- what is read of ASCII is ASCII
 small_at : (xs : List ℕ) (i : ℕ) → list_all (λ b. nat_lt b 128) xs ≡ true → unwrap_or (slice_get xs i) 0 < 128
 small_at [] i h = omega arith
 small_at (x ∷ xs) zero h =
-    let e : nat_lt x 128 ≡ true = (both (nat_lt x 128) (list_all (λ b. nat_lt b 128) xs) h).0 in
+    let e : nat_lt x 128 ≡ true = (both_true (nat_lt x 128) (list_all (λ b. nat_lt b 128) xs) h).0 in
     grind (arith, nat_tests)
-small_at (x ∷ xs) (suc i) h = small_at xs i (both (nat_lt x 128) (list_all (λ b. nat_lt b 128) xs) h).1
+small_at (x ∷ xs) (suc i) h = small_at xs i (both_true (nat_lt x 128) (list_all (λ b. nat_lt b 128) xs) h).1
 
 pub small : (i : ℕ) → unwrap_or (slice_get alphabet i) 0 < 128
 small i = small_at alphabet i refl

@@ -8,7 +8,7 @@ ghost use Rattle.definitions.proofs.VerbSteps.{create_as, create_read};
 ghost use Rattle.definitions.specs.NewObjects.{new_metadata, with_first_status, with_generation};
 ghost use Rattle.definitions.specs.Revisions.{greatest_revision};
 ghost use Rattle.definitions.specs.Values.{members_of};
-ghost use Rattle.meta.specs.Keys.{key_of};
+ghost use Rattle.keys.specs.Keys.{key_of};
 ghost use Rattle.serde_json.specs.View.{view};
 ghost use Rattle.answers.specs.Serves.{Serves};
 
@@ -17,9 +17,12 @@ use answers::first_status::first_status;
 use answers::limits::is_too_large;
 use answers::names_given::is_other;
 use answers::stored_texts::stored_with_text;
+use defaults::defaults;
 use definitions::kinds::Kind;
 use definitions::refusals::Part;
-use meta::{Draft, Fault, Key, Object, Write};
+use drafts::Draft;
+use keys::{Fault, Key};
+use meta::{Object, Write};
 use reply::Reply;
 use serde_json::Value;
 use stamps::moments::Moment;
@@ -27,7 +30,7 @@ use stamps::uids::uid_text;
 use std::alloc::{AllocError, Global};
 use store::Store;
 use store::limits::{GREATEST_REVISION, MOST_OBJECTS};
-use validate::{check_create, defaults};
+use validate::check_create;
 
 /// The 48 bits of a uid that say in which cluster it was given.
 const CLUSTER: u64 = 0;
@@ -157,7 +160,7 @@ fn created(
         object.value) }
 {
     let digits = (before + 1).to_string(alloc)?;
-    let mut draft = object.open(alloc)?;
+    let mut draft = Draft::new(alloc, object)?;
     set_metadata(alloc, &mut draft, key, moment, before + 1)?;
     draft.set_text(alloc, "resourceVersion", digits.as_str())?;
     let made = draft.close(alloc)?;

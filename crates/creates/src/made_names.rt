@@ -5,7 +5,7 @@ ghost use Rattle.definitions.specs.GeneratedNames.{alphabet, suffix, made_name};
 ghost use Rattle.definitions.specs.Verbs.{is_free};
 
 use definitions::kinds::Kind;
-use meta::Key;
+use keys::Key;
 use std::alloc::{AllocError, Global};
 use store::Store;
 

@@ -1,4 +1,5 @@
 pub mod EscapedTexts
+pub mod FirstPlaces
 pub mod FirstStatus
 pub mod FoundMembers
 pub mod JsonMembers
@@ -10,6 +11,8 @@ pub mod PathForms
 pub mod PutLaws
 pub mod RevisionTexts
 pub mod TokenTexts
+pub mod TokensOfData
 pub mod TokensRead
+pub mod Truths
 pub mod Uids
 pub mod VerbSteps

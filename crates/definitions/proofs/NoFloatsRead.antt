@@ -1,5 +1,5 @@
 -- What is read of a value with no float has none.
-use Rattle.std.proofs.Common.{◌≡◌, List, ℕ, Bool, true, false, cond, codes, not, ◌||◌, ◌&&◌, refl}
+use Rattle.std.proofs.Common.{◌≡◌, List, ℕ, Bool, true, false, cond, codes, not, ◌||◌, refl}
 use Rattle.std.specs.Ordering.{match_ordering, nat_cmp}
 use Rattle.std.specs.Cmp.Lexicographic.{slice_cmp}
 use Rattle.std.specs.declared.cmp.Ordering.{Ordering}
@@ -7,6 +7,7 @@ use Rattle.std.proofs.Common.{Less, Equal, Greater, is_some}
 use Rattle.serde_json.specs.Data.{Data, null, boolean, number, string, array, object, Items, no_items, item, Members, no_members, member, put}
 use Rattle.serde_json.specs.Find.{get}
 use Rattle.serde_json.specs.Written.{has_float, items_have_float, members_have_float}
+use Rattle.definitions.proofs.Truths.{both_true, left_false, right_false}
 use Rattle.definitions.specs.declared.kinds.Kind.{Kind}
 use Rattle.definitions.specs.declared.kinds.Kind.TheVariants.{Pod}
 use Rattle.definitions.specs.declared.schemas.Shape.{Shape}
@@ -15,14 +16,6 @@ use Rattle.definitions.specs.Kinds.{api_version, kind_text}
 use Rattle.definitions.specs.Schemas.{member_at}
 use Rattle.definitions.specs.Values.{with_member, with_default}
 use Rattle.definitions.specs.Reading.{tidied, tidied_items, tidied_members, is_absent, item_of, schema_of, filled, with_spec, is_body, empty}
-
-pub first_false : (a b : Bool) → (a || b) ≡ false → a ≡ false
-first_false true b h = h
-first_false false b h = refl
-
-pub second_false : (a b : Bool) → (a || b) ≡ false → b ≡ false
-second_false true b h = cc
-second_false false b h = h
 
 pub both_false : (a b : Bool) → a ≡ false → b ≡ false → (a || b) ≡ false
 both_false a b h k = rw (h, k) refl
@@ -42,12 +35,12 @@ mutual
 
   pub items_tidied : (s : Shape) (ds : Items) → items_have_float ds ≡ false → items_have_float (tidied_items s ds) ≡ false
   items_tidied s no_items h = refl
-  items_tidied s (item d ds) h = both_false _ _ (has_float-tidied s d (first_false (has_float d) _ h)) (items_tidied s ds (second_false (has_float d) _ h))
+  items_tidied s (item d ds) h = both_false _ _ (has_float-tidied s d (left_false (has_float d) _ h)) (items_tidied s ds (right_false (has_float d) _ h))
 
   pub members_tidied : (p : Schema) (ms : Members) → members_have_float ms ≡ false → members_have_float (tidied_members p ms) ≡ false
   members_tidied p no_members h = refl
   members_tidied p (member k d ms) h =
-      unless_absent (is_absent (member_at p k) (tidied (member_at p k).shape d)) k _ _ (has_float-tidied (member_at p k).shape d (first_false (has_float d) _ h)) (members_tidied p ms (second_false (has_float d) _ h))
+      unless_absent (is_absent (member_at p k) (tidied (member_at p k).shape d)) k _ _ (has_float-tidied (member_at p k).shape d (left_false (has_float d) _ h)) (members_tidied p ms (right_false (has_float d) _ h))
 
 at_ordering : (o : Ordering) (a b c : Members) → members_have_float a ≡ false → members_have_float b ≡ false → members_have_float c ≡ false → members_have_float (match_ordering o a b c) ≡ false
 at_ordering Less a b c p q r = p
@@ -57,8 +50,8 @@ at_ordering Greater a b c p q r = r
 pub members_have_float-put : (k : List ℕ) (d : Data) (ms : Members) → has_float d ≡ false → members_have_float ms ≡ false → members_have_float (put k d ms) ≡ false
 members_have_float-put k d no_members p q = both_false _ _ p refl
 members_have_float-put k d (member l e ms) p q =
-    at_ordering (slice_cmp nat_cmp k l) _ _ _ (both_false _ _ p q) (both_false _ _ p (second_false (has_float e) _ q))
-    (both_false _ _ (first_false (has_float e) _ q) (members_have_float-put k d ms p (second_false (has_float e) _ q)))
+    at_ordering (slice_cmp nat_cmp k l) _ _ _ (both_false _ _ p q) (both_false _ _ p (right_false (has_float e) _ q))
+    (both_false _ _ (left_false (has_float e) _ q) (members_have_float-put k d ms p (right_false (has_float e) _ q)))
 
 pub has_float-with_member : (k : List ℕ) (d v : Data) → has_float d ≡ false → has_float v ≡ false → has_float (with_member k d v) ≡ false
 has_float-with_member k d null p q = refl
@@ -85,10 +78,6 @@ has_float-filled k v h =
     let whole : has_float (with_spec k with_metadata) ≡ false = has_float-with_spec k with_metadata (has_float-with_default (codes "metadata") empty v refl h) in
     let named = with_default (codes "kind") (string (kind_text k)) (with_spec k with_metadata) in
     has_float-with_default (codes "apiVersion") (string (api_version k)) named refl (has_float-with_default (codes "kind") (string (kind_text k)) (with_spec k with_metadata) refl whole)
-
-pub both_true : (a b : Bool) → (a && b) ≡ true → (a ≡ true) × (b ≡ true)
-both_true true b h = (refl, h)
-both_true false b h = cc
 
 pub not_true : (b : Bool) → not b ≡ true → b ≡ false
 not_true true h = cc

@@ -9,6 +9,7 @@ use Rattle.std.proofs.lemmas.Bool.{le-leb}
 use Rattle.std.proofs.lemmas.Cmp.{nat_list_cmp_total}
 use Rattle.std.proofs.lemmas.List.{take-append-drop, length-take}
 use Rattle.serde_json.specs.Data.{Data}
+use Rattle.definitions.proofs.Truths.{left_true}
 use Rattle.definitions.specs.Kinds.{rank}
 use Rattle.definitions.specs.Metadata.{labels_of}
 use Rattle.definitions.specs.SelectorFields.{fields_meet}
@@ -104,16 +105,12 @@ then_same Less x h = cc
 then_same Equal x h = refl
 then_same Greater x h = cc
 
-first_part : (a b : Bool) → (a && b) ≡ true → a ≡ true
-first_part true b h = refl
-first_part false b h = h
-
 same_rank : (v : View) (a : Key) (d : Data) → in_view v a d ≡ true → rank v.kind ≡ rank a.kind
 same_rank v a d h =
     let kinds = rank v.kind == rank a.kind in
     let namespaces = in_namespace v.namespace a.namespace in
     let labels = meets_all v.labels (labels_of d) in
-    let b : kinds ≡ true = first_part kinds namespaces (first_part (kinds && namespaces) labels (first_part (kinds && namespaces && labels) (fields_meet v.fields a.name a.namespace) h)) in
+    let b : kinds ≡ true = left_true kinds namespaces (left_true (kinds && namespaces) labels (left_true (kinds && namespaces && labels) (fields_meet v.fields a.name a.namespace) h)) in
     grind (arith, nat_tests)
 
 nat_self : (n : ℕ) → nat_cmp n n ≡ Equal

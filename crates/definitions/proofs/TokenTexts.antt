@@ -1,5 +1,5 @@
 -- The text of a page token is read back.
-use Rattle.std.proofs.Common.{◌≡◌, ◌≤◌, ◌<◌, ◌+◌, ◌/◌, ◌^◌, ℕ, zero, suc, List, [], ◌∷◌, ◌++◌, Bool, true, false, cond, ◌&&◌, Option, Some, option_and_then, Ok, inl, inr, codes, decimal, refl, sym, ap, ◌∙◌, subst, arith, append-nil}
+use Rattle.std.proofs.Common.{◌≡◌, ◌≤◌, ◌<◌, ◌+◌, ◌/◌, ◌^◌, ℕ, zero, suc, List, [], ◌∷◌, ◌++◌, Bool, true, false, cond, Option, Some, option_and_then, Ok, inl, inr, codes, decimal, refl, sym, ap, ◌∙◌, subst, arith, append-nil}
 use Rattle.std.specs.Prelude.{nat_lt}
 use Rattle.std.specs.List.{AllByRecursion}
 use Rattle.std.specs.Str.{IsUtf8}
@@ -24,6 +24,7 @@ use Rattle.serde_json.specs.Read.{read, of_json, max_depth}
 use Rattle.serde_json.specs.Written.{compact_text, outline}
 use Rattle.serde_json.proofs.Texts.{print-outline}
 use Rattle.serde_json.proofs.OnLiterals.{serde_json_on_literals}
+use Rattle.definitions.proofs.Truths.{both_true}
 use Rattle.definitions.specs.Revisions.{greatest_revision}
 use Rattle.definitions.specs.PageTokens.{Token, token_data, token_text, IsToken}
 
@@ -50,13 +51,9 @@ bytes-append : (xs ys : List ℕ) → AreBytes xs → AreBytes ys → AreBytes (
 bytes-append [] ys a b = b
 bytes-append (x ∷ xs) ys a b = (a.0, bytes-append xs ys a.1 b)
 
-both : (a b : Bool) → (a && b) ≡ true → (a ≡ true) × (b ≡ true)
-both true b h = (refl, h)
-both false b h = cc
-
 bytes_of_chars : (cs : List ℕ) → scalars cs ≡ true → AreBytes (encodes cs)
 bytes_of_chars [] s = tt
-bytes_of_chars (c ∷ cs) s = let p = both (scalar c) (scalars cs) s in bytes-append (encode c) (encodes cs) (bytes_of_char c p.0) (bytes_of_chars cs p.1)
+bytes_of_chars (c ∷ cs) s = let p = both_true (scalar c) (scalars cs) s in bytes-append (encode c) (encodes cs) (bytes_of_char c p.0) (bytes_of_chars cs p.1)
 
 bytes_at : (bs : List ℕ) → AreBytes bs → IsBytes bs
 bytes_at [] a i = omega arith

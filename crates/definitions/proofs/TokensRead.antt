@@ -13,6 +13,7 @@ use Rattle.serde_json.specs.Data.{Data}
 use Rattle.serde_json.specs.Read.{read}
 use Rattle.serde_json.specs.Written.{compact_text}
 use Rattle.serde_json.proofs.OnLiterals.{serde_json_on_literals}
+use Rattle.definitions.proofs.Truths.{right_true}
 use Rattle.definitions.specs.Metadata.{text_at}
 use Rattle.definitions.specs.Moments.{is_digit}
 use Rattle.definitions.specs.PageTokens.{Token, token_data, token_text, IsToken, token_with, token_said, if_written, token_of}
@@ -57,13 +58,9 @@ token_is_read text t is =
 
 -- ---- a revision that is read is none too great
 
-last_part : (a b : Bool) → (a && b) ≡ true → b ≡ true
-last_part true b h = h
-last_part false b h = cc
-
 bounded_by : (t : List ℕ) (b : Bool) (r : ℕ) → is_revision t ≡ b → cond b (Some (digits_value 10 t)) None ≡ Some r → r ≤ greatest_revision
 bounded_by t true r e h =
-    let small : nat_lt (digits_value 10 t) 9007199254740992 ≡ true = last_part (nat_lt 0 (length t) && list_all is_digit t && ((length t == 1) || not (slice_index t 0 == 48))) (nat_lt (digits_value 10 t) 9007199254740992) e in
+    let small : nat_lt (digits_value 10 t) 9007199254740992 ≡ true = right_true (nat_lt 0 (length t) && list_all is_digit t && ((length t == 1) || not (slice_index t 0 == 48))) (nat_lt (digits_value 10 t) 9007199254740992) e in
     let is : digits_value 10 t ≡ r = cc h in
     let low : digits_value 10 t < 9007199254740992 = grind (arith, nat_tests) in
     omega (arith, is, low)

@@ -1,7 +1,7 @@
 //! What a watch sends: the kinds of events and of frames.
 
 /// What a write did to an object, as a view sees it: the kind of an event.
-#[derive(Clone, Copy, Debug, PartialEq, Eq)]
+#[derive(Clone, Copy)]
 pub enum ChangeKind {
     /// The object came into the view.
     Added,
@@ -12,7 +12,7 @@ pub enum ChangeKind {
 }
 
 /// The type of a frame (Kubernetes API Concepts, Efficient detection of changes).
-#[derive(Clone, Copy, Debug, PartialEq, Eq)]
+#[derive(Clone, Copy)]
 pub enum FrameKind {
     /// An object came into the view.
     Added,

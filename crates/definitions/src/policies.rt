@@ -2,7 +2,7 @@
 
 /// What becomes of an object's dependents, by the finalizer that its deletion waits for (Kubernetes, Garbage
 /// Collection, Cascading deletion).
-#[derive(Clone, Copy, Debug, PartialEq, Eq)]
+#[derive(Clone, Copy, Debug)]
 pub enum Policy {
     /// They are left, without the reference to their owner: `orphan`.
     Orphan,
@@ -13,7 +13,7 @@ pub enum Policy {
 }
 
 /// The policy that a request names, if it names one.
-#[derive(Clone, Copy, Debug, PartialEq, Eq)]
+#[derive(Clone, Copy)]
 pub enum StatedPolicy {
     Nothing,
     Named(Policy),

@@ -1,7 +1,7 @@
 //! What a refusal names beside an object: a part of the request, a precondition, a field.
 
 /// The part of a request that is at fault.
-#[derive(Clone, Copy, Debug, PartialEq, Eq)]
+#[derive(Clone, Copy, Debug)]
 pub enum Part {
     /// The request line or the head.
     Head,
@@ -20,7 +20,7 @@ pub enum Part {
 }
 
 /// What a conditional request named and the object is not.
-#[derive(Clone, Copy, Debug, PartialEq, Eq)]
+#[derive(Clone, Copy, Debug)]
 pub enum Mismatch {
     /// Another version of the object is there.
     Modified,
@@ -31,7 +31,7 @@ pub enum Mismatch {
 }
 
 /// The first field of an object that is not valid.
-#[derive(Clone, Copy, Debug, PartialEq, Eq)]
+#[derive(Clone, Copy, Debug)]
 pub enum Field {
     Name,
     GenerateName,

@@ -2,7 +2,7 @@
 use crate::kinds::Kind;
 
 /// What a value has to be.
-#[derive(Clone, Copy, Debug, PartialEq, Eq)]
+#[derive(Clone, Copy)]
 pub enum Shape {
     /// Any value.
     Anything,
@@ -27,7 +27,7 @@ pub enum Shape {
 }
 
 /// The objects within objects whose members are described.
-#[derive(Clone, Copy, Debug, PartialEq, Eq)]
+#[derive(Clone, Copy)]
 pub enum Schema {
     /// An object of the kind itself.
     Root(Kind),
@@ -55,7 +55,7 @@ pub enum Schema {
 }
 
 /// What a schema has of a member: its shape, and whether an empty one counts as absent.
-#[derive(Clone, Copy, Debug, PartialEq, Eq)]
+#[derive(Clone, Copy)]
 pub struct Member {
     pub shape: Shape,
     pub drops_empty: bool,

@@ -1,7 +1,7 @@
 //! What selectors of labels and of fields are made of.
 
 /// What a requirement says of the label under its key (Kubernetes, Labels and Selectors, Set-based requirement).
-#[derive(Clone, Copy, Debug, PartialEq, Eq)]
+#[derive(Clone, Copy)]
 pub enum Operator {
     /// The label is there, and its value is among those of the requirement.
     In,
@@ -14,7 +14,7 @@ pub enum Operator {
 }
 
 /// A field of the metadata that a field selector can name (Kubernetes, Field Selectors).
-#[derive(Clone, Copy, Debug, PartialEq, Eq)]
+#[derive(Clone, Copy)]
 pub enum SelectableField {
     /// `metadata.name`
     Name,

@@ -1,7 +1,7 @@
 //! At which revision a list is asked, and how a revision is to be matched.
 
 /// At which revision a list is asked (Kubernetes API Concepts, Resource versions).
-#[derive(Clone, Copy, Debug, PartialEq, Eq)]
+#[derive(Clone, Copy)]
 pub enum At {
     /// The present one.
     Present,
@@ -12,7 +12,7 @@ pub enum At {
 }
 
 /// How the revision that a list names is to be matched (Kubernetes API Concepts, the resourceVersionMatch parameter).
-#[derive(Clone, Copy, Debug, PartialEq, Eq)]
+#[derive(Clone, Copy)]
 pub enum Match {
     /// No match is named.
     Unset,

@@ -1,4 +1,5 @@
-pub mod Windows
+pub mod ListedMembers
+pub mod Sent
 pub mod Served
 pub mod Watches
-pub mod ListedMembers
+pub mod Windows

@@ -11,7 +11,7 @@ use Rattle.definitions.specs.Pages.{AreInPlace, place_of, last_place}
 use Rattle.definitions.specs.Refusals.{Refusal, expired, too_new}
 use Rattle.definitions.specs.Windows.{Change}
 use Rattle.server_state.specs.Recorded.{Window, above, undone, recorded_list}
-use Rattle.meta.specs.Keys.{key_of}
+use Rattle.keys.specs.Keys.{key_of}
 use Rattle.meta.specs.Members.{member_of}
 use Rattle.meta.specs.declared.lent_members.Member.{Member}
 use Rattle.watch_cache.specs.Served.{Serves}

@@ -49,7 +49,7 @@ few-above a (k ∷ ks) = by (nat_lt a k.revision) (few-above a ks)
     by true h = omega (arith, h)
     by false h = omega (arith, h)
 
--- where two numbers are the same or no fewer than are kept, they ask for the same changes
+-- two numbers that are the same, or no fewer than the changes of the window, ask for the same changes
 pub since-all : (w : Window) (now : ℕ) (v : View) (a m n : ℕ) → (m ≡ n) ⊎ ((length w.kept ≤ m) × (length w.kept ≤ n)) → recorded_since w now v a m ≡ recorded_since w now v a n
 since-all w now v a m n (inl same) = ap (recorded_since w now v a) same
 since-all w now v a m n (inr most) =

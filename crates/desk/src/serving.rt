@@ -2,11 +2,12 @@
 ghost use Rattle.std.specs.Prelude.{◌≡◌, IfOk, option_map};
 
 use crate::servers::Server;
-use meta::{Fault, StoredObject, Write};
+use keys::Fault;
+use meta::{StoredObject, Write};
 use reply::Reply;
+use requests::Request;
 use stamps::moments::Moment;
 use std::alloc::{AllocError, Global};
-use verbs::Request;
 use watch_cache::Change;
 
 impl Server {
@@ -16,8 +17,8 @@ impl Server {
     ghost use Rattle.definitions.specs.Verbs as outcomes;
     ghost use Rattle.definitions.specs.Verbs.{accept_at, overflows};
     ghost use Rattle.meta.specs.Writes.{write_of};
-    ghost use Rattle.meta.specs.declared.faults.Fault.TheVariants as fault;
-    ghost use Rattle.verbs.specs.Requests.{request_of};
+    ghost use Rattle.keys.specs.declared.fault.Fault.TheVariants as fault;
+    ghost use Rattle.requests.specs.Requests.{request_of};
     ghost use Rattle.desk.specs.Replies.{Replies};
 
     /// Answers a request at a moment, applies what it writes, and returns the reply. An error, a refusal or running out of

@@ -1,6 +1,6 @@
 //! What watches are given.
 use crate::servers::Server;
-use meta::Fault;
+use keys::Fault;
 use revisions::watched::last_revision;
 use revisions::{Event, Watched};
 use selector::View;
@@ -16,7 +16,7 @@ impl Server {
     ghost use Rattle.revisions.specs.Watches.{watched_of};
 
     /// Returns the first changes of a view after a revision, at most `max`, which may be any number. The errors are a revision
-    /// below what is kept, one above the present, and running out of memory. A revision that is refused takes no memory.
+    /// below the oldest that is served, one above the present, and running out of memory. A revision that is refused takes no memory.
     pub fn watch_from(
         &self,
         alloc: Global,
@@ -52,7 +52,7 @@ impl Server {
             (recorded_since (window_of view.now.kind self.now) self.now.snapshot.revision (view_of view.now) after (max + 1)) result }
     {
         let cache = self.cache(view.kind);
-        // says that no more changes are kept than there is room for
+        // says that the window has no more changes than there is room for
         let _ = cache.window();
         cache.since(alloc, self.revision(), view, after, max.saturating_add(1))
     }

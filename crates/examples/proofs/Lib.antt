@@ -1,2 +1,2 @@
-pub mod BoardWorked
+pub mod WorkWorked
 pub mod LongLines

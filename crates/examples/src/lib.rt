@@ -2,18 +2,20 @@
 //! No crate stands on this one.
 #![tactic(auto)]
 
-pub mod board_examples;
 pub mod check_examples;
 pub mod collection_examples;
 pub mod cut_examples;
 pub mod deletion_examples;
 pub mod look_examples;
+pub mod owed_examples;
 pub mod page_examples;
 pub mod reflector_examples;
 pub mod request_examples;
 pub mod selector_examples;
 pub mod server_examples;
 pub mod serving_examples;
+pub mod shift_examples;
 pub mod verb_examples;
 pub mod watch_examples;
 pub mod window_examples;
+pub mod work_examples;

@@ -1,14 +1,15 @@
 -- A table of maps as one table.
-use Rattle.std.proofs.Common.{◌≡◌, refl, sym, ap, ◌∙◌, ℕ, List, [], ◌∷◌, ◌++◌, ◌&&◌, Bool, true, false, not, cond, Option, None, Some, T, Ordering, Less, Equal, Greater}
+use Rattle.std.proofs.Common.{◌≡◌, refl, sym, ap, ◌∙◌, ℕ, List, [], ◌∷◌, ◌++◌, ◌&&◌, Bool, true, false, not, cond, Option, None, Some, T}
 use Rattle.std.specs.Cmp.{Equal-is, eq_by_cmp_equiv}
-use Rattle.std.specs.Ordering.{eq_by_cmp, is_eq, is_lt, ordering_then}
+use Rattle.std.specs.Ordering.{eq_by_cmp, is_lt}
 use Rattle.std.specs.FinMap as map_of
 use Rattle.std.specs.FinMap.{find, is_sorted, entries_sorted, get-entries, get-from_entries, get-insert, get-retain_keys, same_map}
 use Rattle.std.specs.FinMap.Entries.{below_all}
 use Rattle.definitions.specs.Keys.{Key, key_cmp, is_same_key}
 use Rattle.controllers.specs.Expectations.{Owner, owner_cmp, Expectation, change, forgotten}
-use Rattle.controllers.proofs.TaskOrder.{name_total, name_tells}
+use Rattle.controllers.proofs.WorkKeyOrder.{name_total, name_tells}
 use Rattle.controllers.proofs.Expected.{owner_total, owner_tells, keys_tied}
+use Rattle.controllers.proofs.Alarms.{first, less_is_not_equal, second, tie_both}
 use Rattle.expectations.specs.Seen.{uid_cmp, Owners, Nested, inside, flattened, flat, changed_from, changed_at}
 use Rattle.expectations.proofs.SeenTexts.{uid_total, uid_tells}
 
@@ -19,11 +20,6 @@ or_else (Some e) y = Some e
 abbrev pub within : List ℕ → Option Owners → Option Expectation
 within u None = None
 within u (Some m) = map_of.get m u
-
-tie_both : (x y : Ordering) → is_eq (ordering_then x y) ≡ (is_eq x && is_eq y)
-tie_both Less y = refl
-tie_both Equal y = refl
-tie_both Greater y = refl
 
 named_same : (a b : Key) → is_same_key a b ≡ true → a ≡ b
 named_same a b e = name_tells a b ((Equal-is (key_cmp a b)).0 e)
@@ -47,19 +43,6 @@ find_inside o k (f ∷ fs) rest =
     by true true x r = refl
     by true false x r = refl
     by false b x r = refl
-
-less_is_not_equal : (o : Ordering) (b : Bool) → T (is_lt o && b) → is_eq o ≡ false
-less_is_not_equal Less b h = refl
-less_is_not_equal Equal b h = absurd h
-less_is_not_equal Greater b h = refl
-
-second : (a b : Bool) → T (a && b) → T b
-second true b h = h
-second false b h = absurd h
-
-first : (a b : Bool) → T (a && b) → T a
-first true b h = tt
-first false b h = absurd h
 
 not_found : (k : Key) (es : List (Key × Owners)) → T (below_all key_cmp k es) → find key_cmp k es ≡ None
 not_found k [] h = refl

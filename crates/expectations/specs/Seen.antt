@@ -13,8 +13,8 @@ use Rattle.definitions.specs.Keys.{Key as Name, key_cmp}
 use Rattle.controllers.specs.Expectations as spec
 use Rattle.controllers.specs.Expectations.{Owner, owner_cmp, Table, Uids}
 use Rattle.expectations.specs.declared.expectation.Expectation.{Expectation}
-use Rattle.meta.specs.Keys.{key_of}
-use Rattle.meta.specs.declared.keys.Key.{Key}
+use Rattle.keys.specs.Keys.{key_of}
+use Rattle.keys.specs.declared.key.Key.{Key}
 use Rattle.work_keys.specs.Seen.{seen_map, seen_set}
 
 abbrev pub uid_cmp : List ℕ → List ℕ → Ordering

@@ -2,7 +2,7 @@
 ghost use Rattle.std.specs.Prelude.{◌≡◌, OnOk, OnErr, string_bytes, map as list_map};
 ghost use Rattle.std.specs.FinMap as map;
 ghost use Rattle.controllers.specs.Expectations.{creations_expected, deletions_expected, created, deleted, satisfied, forgotten};
-ghost use Rattle.meta.specs.Keys.{key_of};
+ghost use Rattle.keys.specs.Keys.{key_of};
 ghost use Rattle.std.specs.Prelude.{IfOk};
 ghost use Rattle.std.specs.FinSet as set;
 ghost use Rattle.expectations.specs.Seen.{expectation_of, uid_cmp};
@@ -10,7 +10,7 @@ ghost use Rattle.work_keys.specs.Seen.{seen_set};
 
 use crate::expectation::Expectation;
 use crate::owners;
-use meta::keys::Key;
+use keys::Key;
 use std::alloc::{AllocError, Global};
 use std::collections::{BTreeMap, BTreeSet};
 use std::marker::Model;

@@ -17,6 +17,7 @@ use Rattle.serde_json.specs.Read.{read, of_json, max_depth}
 use Rattle.serde_json.specs.Written.{compact_text, outline, items_outline, members_outline, has_float, IsInOrder}
 use Rattle.serde_json.proofs.Texts.{tokens_from_order, print-outline}
 use Rattle.serde_json.proofs.OnLiterals.{serde_json_on_literals}
+use Rattle.definitions.proofs.TokensOfData.{depth-outline, read_tokens}
 use Rattle.definitions.specs.Frames.{Frame, frame_data, frame_text, kind_text}
 use Rattle.controllers.specs.ReadFrames.{frame_in, line_read, reading, next, longest_frame}
 use Rattle.framing.specs.Texts.{framed_text, IsWithin, ReadsAs}
@@ -25,30 +26,6 @@ use Rattle.definitions.specs.declared.frames.FrameKind.TheVariants.{Added, Modif
 use Rattle.framing.proofs.Newlines.{IsPartial-from_flat, flat-compact_text}
 use Rattle.framing.proofs.OneLine.{line_read_is}
 use Rattle.framing.proofs.Reading.{reading-line}
-
-mutual
-  depth-outline : (d : Data) → tree.depth (outline d) ≡ depth d
-  depth-outline null = refl
-  depth-outline (boolean b) = refl
-  depth-outline (number n) = refl
-  depth-outline (string s) = refl
-  depth-outline (array ds) = ap suc (items_depth-outline ds)
-  depth-outline (object ms) = ap suc (members_depth-outline ms)
-
-  items_depth-outline : (ds : Items) → tree.items_depth (items_outline ds) ≡ items_depth ds
-  items_depth-outline no_items = refl
-  items_depth-outline (item d ds) = ap₂ max (depth-outline d) (items_depth-outline ds)
-
-  members_depth-outline : (ms : Members) → tree.members_depth (members_outline ms) ≡ members_depth ms
-  members_depth-outline no_members = refl
-  members_depth-outline (member k d ms) = ap₂ max (depth-outline d) (members_depth-outline ms)
-
-abbrev whole : Option (json.Json × List Token) → Option Data
-whole o = option_and_then of_json (option_and_then (λ p. json.if_last p.0 p.1) o)
-
--- tokens of a value are read as what it converts to
-read_tokens : (j : json.Json) (text : List ℕ) → tokens text ≡ json_tokens j → tree.depth j ≤ max_depth → read text ≡ of_json j
-read_tokens j text same shallow = ap whole (ap (json.value max_depth) (same ∙ sym (append-nil (json_tokens j))) ∙ value-json_tokens j max_depth [] shallow)
 
 numbered : (j : json.Json) (text : List ℕ) → tokens text ≡ json_tokens j → tree.depth j ≤ 128 → HasNumbers j
 numbered j text same shallow =

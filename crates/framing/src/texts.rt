@@ -5,13 +5,14 @@ ghost use Rattle.serde_json.specs.Data.{object};
 ghost use Rattle.serde_json.specs.Written.{has_float};
 ghost use Rattle.definitions.specs.Frames.{kind_text, frame_text, bookmark_metadata, bookmark_data, bookmark_frame, error_frame};
 ghost use Rattle.definitions.specs.declared.frames.FrameKind.TheVariants.{Added};
-ghost use Rattle.meta.specs.Faults.{refusal_of};
+ghost use Rattle.keys.specs.Faults.{refusal_of};
 ghost use Rattle.framing.specs.Events.{event_seen};
 ghost use Rattle.framing.specs.Texts.{framed_text, IsWithin, ReadsAs};
 
 use definitions::frames::FrameKind;
 use definitions::kinds::Kind;
-use meta::{Fault, StoredObject};
+use keys::Fault;
+use meta::StoredObject;
 use revisions::Event;
 use serde_json::{Value, json};
 use std::alloc::{AllocError, Global};

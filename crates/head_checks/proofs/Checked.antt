@@ -11,8 +11,8 @@ use Rattle.definitions.specs.Targets as queries
 use Rattle.connections.specs.Heads.{Head, stated_length, method_named}
 use Rattle.connections.specs.Checks as words
 use Rattle.connections.specs.Checks.{length_or_none, body_checked, query_checked, method_checked, path_checked, length_checked, checked}
-use Rattle.meta.specs.Faults.{refusal_of}
-use Rattle.meta.specs.declared.faults.Fault.{Fault}
+use Rattle.keys.specs.Faults.{refusal_of}
+use Rattle.keys.specs.declared.fault.Fault.{Fault}
 use Rattle.request_heads.specs.declared.body_length.BodyLength.{BodyLength}
 use Rattle.request_heads.specs.declared.body_length.BodyLength.TheVariants as kind
 use Rattle.request_heads.specs.Fields.{IsLength}

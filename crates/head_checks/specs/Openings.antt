@@ -4,9 +4,9 @@ use Rattle.definitions.specs.Refusals.{Refusal}
 use Rattle.connections.specs.Heads.{Head}
 use Rattle.connections.specs.Checks as words
 use Rattle.connections.specs.Checks.{body_checked}
-use Rattle.meta.specs.Faults.{refusal_of}
-use Rattle.meta.specs.declared.faults.Fault.{Fault}
-use Rattle.meta.specs.declared.faults.Fault.TheVariants as fault
+use Rattle.keys.specs.Faults.{refusal_of}
+use Rattle.keys.specs.declared.fault.Fault.{Fault}
+use Rattle.keys.specs.declared.fault.Fault.TheVariants as fault
 use Rattle.requests.specs.Queried.{query_seen}
 use Rattle.routes.specs.Seen.{route_seen}
 use Rattle.head_checks.specs.declared.opening.Opening.{Opening}

@@ -15,7 +15,7 @@ ghost use Rattle.head_checks.specs.Openings.{Opens, ChecksBody};
 use crate::opening::Opening;
 use definitions::methods::Method;
 use definitions::refusals::Part;
-use meta::Fault;
+use keys::Fault;
 use request_heads::body_length::content_length;
 use request_heads::field::has_transfer_coding;
 use request_heads::media_type::media_type;

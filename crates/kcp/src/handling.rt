@@ -1,62 +1,99 @@
-//! What answers the connections of `kcp serve`.
+//! What answers the connections of a thread of `kcp serve`.
+ghost use Rattle.shared_desk.specs.Desks.{IsPassAt};
+
 use api::serve_one;
+use bells::Bell;
 use chunked::Watched;
-use desk::Server;
 use routes::table::Routes;
 use serving::Handler;
-use sites::Solo;
+use shared_desk::{Anything, Desk, Listener, Seat, StorePass};
 use stamps::moments::Moment;
 use std::alloc::{AllocError, Global};
 use std::io::{Read, Write};
+use std::sync::Wait;
 use std::thread;
 use std::time::{Clock, Duration};
 use watch_service::Pace;
 
-/// How many milliseconds a watch that has seen nothing waits before it looks again.
+/// How many milliseconds a watch that has seen nothing waits for a write before it looks again.
 const PAUSE_MILLISECONDS: u64 = 20;
 
-/// Waits between two looks of a watch.
+/// How many looks in a row that gave nothing a write may cut short. The pauses after them are whole, so that a watch that sees
+/// nothing lives for ten seconds at least, however much is written that it does not ask for.
+const MOST_CUT_SHORT: u64 = 512;
+
+/// Wakes the watches of all threads at each write.
 #[derive(Drop)]
-struct Pause<'c, C: Clock> {
-    clock: &'c C,
+struct Ringer<'a> {
+    bell: &'a Bell,
 }
 
-impl<C: Clock> Pace for Pause<'_, C> {
-    fn pause(&mut self) {
-        thread::sleep(self.clock, Duration::from_millis(PAUSE_MILLISECONDS));
+impl Listener for Ringer<'_> {
+    ghost Hears = { λ before after. Unit {0} };
+
+    fn wrote<R: Wait>(&mut self, _rt: &R) {
+        self.bell.ring();
     }
 }
 
-/// A server, and what its connections share.
+/// Waits between two looks of a watch, until something is written or the pause is over.
 #[derive(Drop)]
-pub struct Connections<'c, C: Clock> {
-    alloc: Global,
-    routes: Routes,
-    site: Solo,
-    pause: Pause<'c, C>,
+struct Pause<'a, R> {
+    rt: &'a R,
+    bell: &'a Bell,
+    /// The bell's count before the last look.
+    seen: u64,
 }
 
-impl<'c, C: Clock> Connections<'c, C> {
-    /// Returns a server where nothing is there, with windows of a size, whose watches wait by a clock.
+impl<R: Wait + Clock> Pace for Pause<'_, R> {
+    fn pause(&mut self, idle: u64) {
+        if idle < MOST_CUT_SHORT {
+            let _ = self.bell.wait(self.rt, self.seen, PAUSE_MILLISECONDS);
+        } else {
+            thread::sleep(self.rt, Duration::from_millis(PAUSE_MILLISECONDS));
+        }
+        self.seen = self.bell.count();
+    }
+}
+
+/// What a thread needs to answer its connections: its seat at the desk that all threads share, and how its watches wait.
+#[derive(Drop)]
+pub struct Connection<'a, R> {
+    alloc: Global,
+    routes: Routes,
+    seat: Seat<'a, Anything, Ringer<'a>, R>,
+    pause: Pause<'a, R>,
+}
+
+impl<'a, R: Wait + Clock> Connection<'a, R> {
+    /// Returns what answers connections with a pass of a desk, whose writes ring a bell.
     pub fn new(
+        rt: &'a R,
         alloc: Global,
-        window: usize,
-        clock: &'c C,
-    ) -> Result<Connections<'c, C>, AllocError> {
-        Ok(Connections {
+        desk: &'a Desk<Anything>,
+        pass: StorePass,
+        bell: &'a Bell,
+    ) -> Result<Connection<'a, R>, AllocError>
+        requires { IsPassAt desk.now pass }
+    {
+        Ok(Connection {
             alloc,
             routes: Routes::new(alloc)?,
-            site: Solo::new(Server::new(alloc, window)?),
-            pause: Pause { clock },
+            seat: Seat::new(desk, pass, rt, Ringer { bell }),
+            pause: Pause {
+                rt,
+                bell,
+                seen: bell.count(),
+            },
         })
     }
 }
 
-impl<C: Clock> Handler for Connections<'_, C> {
+impl<R: Wait + Clock> Handler for Connection<'_, R> {
     ghost step = { λ old new. Unit {0} };
 
-    /// Serves the one request of a connection. A connection that fails is left, and the server goes on.
-    fn handle<R: Read, W: Write>(&mut self, reader: &mut R, writer: &mut W, moment: Moment) {
+    /// Serves the one request of a connection. A connection that fails is left, and the thread goes on.
+    fn handle<I: Read, W: Write>(&mut self, reader: &mut I, writer: &mut W, moment: Moment) {
         let mut reader = Watched::new(reader);
         let mut writer = Watched::new(writer);
         let _ = serve_one(
@@ -64,7 +101,7 @@ impl<C: Clock> Handler for Connections<'_, C> {
             &self.routes,
             &mut reader,
             &mut writer,
-            &mut self.site,
+            &mut self.seat,
             moment,
             &mut self.pause,
         );

@@ -10,10 +10,10 @@ ghost use Rattle.line_service.specs.Replies.{AppendsBeginning};
 ghost use Rattle.kcp.specs.Replays.{fault_text, serve_fault_text, AnswersSome};
 
 mod handling;
+mod serving_threads;
 
-use handling::Connections;
 use line_service::RunFault;
-use options::{Command, ServeOptions};
+use options::Command;
 use serving::ServeFault;
 use session::Session;
 use std::alloc::Global;
@@ -94,21 +94,6 @@ fn fault_name(fault: RunFault) -> &'static str
     }
 }
 
-/// Serves requests over HTTP/1.1 on the loopback address, one connection after another.
-fn serve(rt: &HostRuntime, options: ServeOptions) -> Result<(), ServeFault> {
-    let Ok(mut connections) = Connections::new(rt.alloc(), options.window, rt) else {
-        return Err(ServeFault::NoMemory);
-    };
-    let mut writer = io::writer(rt);
-    serving::serve(
-        rt,
-        options.port,
-        options.requests,
-        &mut writer,
-        &mut connections,
-    )
-}
-
 /// Returns what a fault of serving is called on standard error.
 fn serve_fault_name(fault: ServeFault) -> &'static str
     ensures { result.now ≡ serve_fault_text fault }
@@ -120,23 +105,29 @@ fn serve_fault_name(fault: ServeFault) -> &'static str
     }
 }
 
-/// Does what is asked. The error is what the fault is called.
-fn run(rt: &HostRuntime, command: Command) -> Result<(), &'static str> {
-    match command {
-        Command::Replay => match replay_standard_input(rt) {
-            Ok(()) => Ok(()),
-            Err(fault) => Err(fault_name(fault)),
-        },
-        Command::Serve(options) => match serve(rt, options) {
-            Ok(()) => Ok(()),
-            Err(fault) => Err(serve_fault_name(fault)),
-        },
+/// Returns what an outcome of replaying is called where it is a fault.
+fn replayed(outcome: Result<(), RunFault>) -> Result<(), &'static str> {
+    match outcome {
+        Ok(()) => Ok(()),
+        Err(fault) => Err(fault_name(fault)),
+    }
+}
+
+/// Returns what an outcome of serving is called where it is a fault.
+fn served(outcome: Result<(), ServeFault>) -> Result<(), &'static str> {
+    match outcome {
+        Ok(()) => Ok(()),
+        Err(fault) => Err(serve_fault_name(fault)),
     }
 }
 
 fn main(rt: HostRuntime) -> io::Result<ExitCode> {
     let outcome = match command(&rt) {
-        Ok(Some(command)) => run(&rt, command),
+        Ok(Some(Command::Replay)) => replayed(replay_standard_input(&rt)),
+        Ok(Some(Command::Serve(options))) => {
+            let mut writer = io::writer(&rt);
+            served(serving_threads::serve(&rt, rt.alloc(), options, &mut writer))
+        }
         Ok(None) => {
             eprintln!(rt; "kcp: bad arguments")?;
             return Ok(ExitCode::from(2));

@@ -8,6 +8,7 @@ use Rattle.std.specs.Str.{bytes_eq}
 use Rattle.serde_json.specs.Data.{Data, string, object, Members, put, no_items}
 use Rattle.serde_json.specs.Find.{get, get_member, as_array}
 use Rattle.serde_json.proofs.Views.{get_member-put, get_member-put_other}
+use Rattle.definitions.proofs.Truths.{and_true, both_true, right_true}
 use Rattle.definitions.specs.declared.kinds.Kind.{Kind}
 use Rattle.definitions.specs.declared.kinds.Kind.TheVariants.{ConfigMap, Pod, ReplicaSet, Deployment}
 use Rattle.definitions.specs.declared.refusals.Field.{Field}
@@ -22,7 +23,7 @@ use Rattle.definitions.specs.NewObjects.{created, first_status, new_metadata, wi
 use Rattle.definitions.specs.Defaults.{whole}
 use Rattle.definitions.specs.Kinds.{has_generation}
 use Rattle.definitions.specs.Keys.{is_subdomain}
-use Rattle.laws.proofs.HeldMembers.{text-at_revision, name-new_metadata}
+use Rattle.laws.proofs.SetMetadata.{text-at_revision, name-new_metadata}
 use Rattle.definitions.proofs.JsonMembers.{apart, get_member-without_other, metadata_of-with, text_in}
 use Rattle.definitions.proofs.FirstStatus.{get-first, metadata_of-first}
 
@@ -53,15 +54,11 @@ has_template Pod kept d (inr e) m = cc
 has_template ReplicaSet kept d is m = m.1.1.0
 has_template Deployment kept d is m = m.1.1.0
 
-and-second : (u v : Bool) → (u && v) ≡ true → v ≡ true
-and-second true v h = h
-and-second false v h = cc
-
 selects : (d : Data) → is_template_valid d ≡ true → SelectsItsTemplate d
 selects d h s t rs selector template said =
     let reads : requirements d ≡ Some rs = ap (option_and_then (λ x. result_ok (selector_of_value x))) selector ∙ ap result_ok said in
-    let both : passes (is_selected rs) (Some t) ≡ true = sym (ap (λ o. passes (λ (rs : List Requirement). passes (is_selected rs) (in_spec (codes "template") d)) o) reads ∙ ap (passes (is_selected rs)) template) ∙ h in
-    and-second (are_labels_valid t) (meets_all rs (labels_of t)) both
+    let both_true : passes (is_selected rs) (Some t) ≡ true = sym (ap (λ o. passes (λ (rs : List Requirement). passes (is_selected rs) (in_spec (codes "template") d)) o) reads ∙ ap (passes (is_selected rs)) template) ∙ h in
+    right_true (are_labels_valid t) (meets_all rs (labels_of t)) both_true
 
 pub created_select : CreatedSelectTheirTemplates
 created_select k made present d is h = selects d (has_template k true d is (all_met (checks k made present true true d) h).1.1.1.1.1)
@@ -93,13 +90,6 @@ and_last : (u v w : Bool) → (v ≡ true → w ≡ true) → (u && v) ≡ true 
 and_last true v w f h = f h
 and_last false v w f h = h
 
-both : (u v : Bool) → (u && v) ≡ true → (u ≡ true) × (v ≡ true)
-both true v h = (refl, h)
-both false v h = cc
-
-and_true : (u v : Bool) → u ≡ true → v ≡ true → (u && v) ≡ true
-and_true u v p q = rw (p, q) refl
-
 module _ (present later : ℕ) (le : present ≤ later) where
   known : (t : List ℕ) → is_known_uid present t ≡ true → is_known_uid later t ≡ true
   known t h =
@@ -118,7 +108,7 @@ module _ (present later : ℕ) (le : present ≤ later) where
   owners_later : (os : List Owner) → list_all (is_owner present) os ≡ true → list_all (is_owner later) os ≡ true
   owners_later [] h = refl
   owners_later (o ∷ os) h =
-      let p = both (is_owner present o) (list_all (is_owner present) os) h in
+      let p = both_true (is_owner present o) (list_all (is_owner present) os) h in
       and_true (is_owner later o) (list_all (is_owner later) os) (owner_later o p.0) (owners_later os p.1)
 
   owned_later : (d : Data) → are_owners_valid present d ≡ true → are_owners_valid later d ≡ true
@@ -127,7 +117,7 @@ module _ (present later : ℕ) (le : present ≤ later) where
 -- the name under which it is created is valid
 by_generated : (under : List ℕ) (g : Option (List ℕ)) → is_some g ≡ true → passes_if_there (generates under) g ≡ true → is_subdomain under ≡ true
 by_generated under None h p = cc
-by_generated under (Some t) h p = and-second (list_all is_generating_byte t) (is_subdomain under) p
+by_generated under (Some t) h p = right_true (list_all is_generating_byte t) (is_subdomain under) p
 
 by_name : (under : List ℕ) (o : Option (List ℕ)) (d : Data) → IfSome o (λ n. n ≡ under) → unwrap_or (option_map is_subdomain o) (is_some (generate_name d)) ≡ true → (is_some o || passes_if_there (generates under) (generate_name d)) ≡ true
     → is_subdomain under ≡ true

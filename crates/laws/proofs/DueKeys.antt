@@ -18,7 +18,7 @@ use Rattle.controllers.specs.Delays.{Delays, Alarm, alarm_cmp, alarms, due, has_
 use Rattle.laws.specs.DueLaws.{IsDue, alarm_at, AreInTurn, DueHaveCome, DueAreInTurn, DueAreTheOnlyList, StillDelayedAreLater}
 use Rattle.controllers.proofs.Alarms.{alarm_total, alarm_tells, alarm_of, contains-alarms, moment_of, find_mark, marked_entries, mark, is_moment, same_at_itself}
 use Rattle.controllers.proofs.Due.{AreAlarms, get-still}
-use Rattle.controllers.proofs.TaskOrder.{task_total, task_tells}
+use Rattle.controllers.proofs.WorkKeyOrder.{work_key_total, work_key_tells}
 
 -- ---- lists in order
 
@@ -84,7 +84,7 @@ equal : (o : Ordering) → is_eq o ≡ true → o ≡ Equal
 equal o h = (Equal-is o).0 h
 
 same_task : (k j : WorkKey) → eq_by_cmp work_key_cmp k j ≡ true → k ≡ j
-same_task k j h = task_tells k j (equal (work_key_cmp k j) h)
+same_task k j h = work_key_tells k j (equal (work_key_cmp k j) h)
 
 same_alarm : (a b : Alarm) → same a b ≡ true → a ≡ b
 same_alarm a b h = alarm_tells a b (equal (alarm_cmp a b) h)
@@ -130,7 +130,7 @@ handed_at : (now at : ℕ) (k : WorkKey) (a : Alarm) (ks : List Alarm) (b : Bool
 handed_at now at k a ks true is come h later =
     let one = same_alarm (alarm_of (k, at)) a is in
     let here : nat_le a.at now ≡ true = ap (λ (b : Alarm). nat_le b.at now) (sym one) ∙ come in
-    let alike : eq_by_cmp work_key_cmp k a.task ≡ true = ap (λ (b : Alarm). eq_by_cmp work_key_cmp k b.task) (sym one) ∙ ap is_eq (tied_itself task_total k) in
+    let alike : eq_by_cmp work_key_cmp k a.task ≡ true = ap (λ (b : Alarm). eq_by_cmp work_key_cmp k b.task) (sym one) ∙ ap is_eq (tied_itself work_key_total k) in
     ap (λ b. list_any (eq_by_cmp work_key_cmp k) (map task_of (cond b (a ∷ filter (comes now) ks) (filter (comes now) ks)))) here
     ∙ or_first (eq_by_cmp work_key_cmp k a.task) (list_any (eq_by_cmp work_key_cmp k) (map task_of (filter (comes now) ks))) alike
 handed_at now at k a ks false is come h later = by (nat_le a.at now)
@@ -156,7 +156,7 @@ from_due : (now : ℕ) (m : Delays) (k : WorkKey) → IsDue now m k → list_any
 from_due now m k d = handed now d.0 k (alarms m) (at_most_back d.0 now d.2) (there m (alarm_of (k, d.0)) ∙ ap (λ o. is_moment o d.0) d.1 ∙ same_at_itself d.0)
 
 any_task : (k : WorkKey) (ks : List WorkKey) → Contains ks k → list_any (eq_by_cmp work_key_cmp k) ks ≡ true
-any_task k ks = list_any-from_Contains (eq_by_cmp_equiv task_total) k ks
+any_task k ks = list_any-from_Contains (eq_by_cmp_equiv work_key_total) k ks
 
 task_from_any : (k : WorkKey) (ks : List WorkKey) → list_any (eq_by_cmp work_key_cmp k) ks ≡ true → Contains ks k
 task_from_any k ks = Contains-from_any same_task k ks

@@ -1,11 +1,12 @@
 -- An object reads as itself where some of its owner references are left out, or have a truth value set.
-use Rattle.std.proofs.Common.{◌≡◌, ◌≤◌, inl, inr, ℕ, suc, List, Bool, true, false, true≢false, codes, ◌&&◌, ◌||◌, Some, Ok, refl, sym, subst, arith}
+use Rattle.std.proofs.Common.{◌≡◌, ◌≤◌, inl, inr, ℕ, suc, List, Bool, true, false, true≢false, codes, ◌||◌, Some, Ok, refl, sym, subst, arith}
 use Rattle.std.proofs.lemmas.Bool.{ne_eqb, or_parts}
 use Rattle.serde_json.specs.Data.{Data, null, boolean, number, string, array, object, Items, item, Members, put, depth, items_depth, members_depth}
 use Rattle.serde_json.specs.Events.{items_len}
 use Rattle.std.specs.Str.{IsUtf8}
 use Rattle.json.proofs.Printed.Utf8.{IsUtf8-are_ascii}
 use Rattle.serde_json.specs.Written.{has_float, items_have_float}
+use Rattle.definitions.proofs.Truths.{and_true, both_true}
 use Rattle.definitions.specs.declared.kinds.Kind.{Kind}
 use Rattle.definitions.specs.declared.schemas.Shape.TheVariants.{Object}
 use Rattle.definitions.specs.declared.schemas.Schema.TheVariants.{Root, Metadata, OwnerReference}
@@ -14,7 +15,6 @@ use Rattle.definitions.specs.Reading.{fits, items_fit, reading}
 use Rattle.definitions.specs.Values.{members_of}
 use Rattle.laws.specs.ParsedLaws.{IsFlag, AreEdited, none, left_out, as_it_was, set, ReferencesStayParsed, ReferencesReadAgain}
 use Rattle.laws.proofs.NeatMembers.{One, Neat, Neat-put, Neat-get, Neat-of, Neat-fits, Neat-tidy, Neat-depth, Neat-whole, Neat-good, Neat-metadata, Filled-put, one_metadata, opens}
-use Rattle.definitions.proofs.NoFloatsRead.{both_true}
 use Rattle.laws.proofs.Parsed.{joined, inside, Both-put}
 use Rattle.laws.proofs.ReadAgain.{IsTidy, ItemsTidy, Filled, Filled-filled, filled_members, settled}
 
@@ -57,9 +57,6 @@ fine_set q b (object ms) flag f =
 abbrev AllFine : Items → Type 0
 AllFine rs = (items_fit (Object OwnerReference) rs ≡ true) × ItemsTidy (Object OwnerReference) rs × (items_depth rs ≤ 97) × (items_have_float rs ≡ false)
 
-and_so : (a b : Bool) → a ≡ true → b ≡ true → (a && b) ≡ true
-and_so a b p q = rw (p, q) refl
-
 or_so : (a b : Bool) → a ≡ false → b ≡ false → (a || b) ≡ false
 or_so a b p q = rw (p, q) refl
 
@@ -74,7 +71,7 @@ more_fine : (r : Data) (rs : Items) → Fine r → AllFine rs → AllFine (item 
 more_fine r rs one rest =
     let first : depth r ≤ 97 = one.2 in
     let later : items_depth rs ≤ 97 = rest.2 in
-    (and_so (fits (Object OwnerReference) r) (items_fit (Object OwnerReference) rs) one.0 rest.0, (one.1, rest.1), omega arith, or_so (has_float r) (items_have_float rs) one.3 rest.3)
+    (and_true (fits (Object OwnerReference) r) (items_fit (Object OwnerReference) rs) one.0 rest.0, (one.1, rest.1), omega arith, or_so (has_float r) (items_have_float rs) one.3 rest.3)
 
 all_fine : (rs ss : Items) → AreEdited rs ss → AllFine rs → AllFine ss
 all_fine rs ss none f = f

@@ -2,13 +2,13 @@
 use Rattle.std.proofs.Common.{◌≡◌, ℕ, List, Bool, true, false, true≢false, ◌&&◌, ◌||◌, cond, bytes_eq, refl, sym, subst, ap, ap₂, ◌∙◌}
 use Rattle.std.proofs.lemmas.Slice.Eq.{bytes_eq-Decides}
 use Rattle.serde_json.specs.Data.{Data, null, boolean, number, string, array, object, Items, no_items, item}
+use Rattle.definitions.proofs.Truths.{and_true, both_false, left_true, right_true}
 use Rattle.definitions.specs.declared.policies.Policy.{Policy}
 use Rattle.definitions.specs.declared.policies.Policy.TheVariants.{Orphan, Foreground, Background}
 use Rattle.definitions.specs.Checks.{has_text, text_is}
 use Rattle.definitions.specs.Deletion.{orphan, foreground, is_of_policy, of_policy, others_then, are_of}
 use Rattle.laws.specs.FinalizerLaws.{without_policies, followed_by, replaced_by, are_among, NoPolicyLeavesAll, PoliciesReplaceFinalizers, is_text}
 use Rattle.definitions.specs.SelectorValues.{all_items}
-use Rattle.laws.proofs.SelectorForms.{first, second}
 
 -- ---- the others, and one after them
 
@@ -50,10 +50,6 @@ or_second : (a b : Bool) → b ≡ true → (a || b) ≡ true
 or_second true b h = refl
 or_second false b h = h
 
-and_both : (a b : Bool) → a ≡ true → b ≡ true → (a && b) ≡ true
-and_both true b h g = g
-and_both false b h g = h
-
 pub among_from : (ds es : Items) → all_items is_text ds ≡ true → ((t : List ℕ) → has_text ds t ≡ true → has_text es t ≡ true) → are_among ds es ≡ true
 among_from no_items es texts h = refl
 among_from (item null ds) es texts h = absurd (true≢false (sym texts))
@@ -62,7 +58,7 @@ among_from (item (number n) ds) es texts h = absurd (true≢false (sym texts))
 among_from (item (array xs) ds) es texts h = absurd (true≢false (sym texts))
 among_from (item (object ms) ds) es texts h = absurd (true≢false (sym texts))
 among_from (item (string s) ds) es texts h =
-    and_both (has_text es s) (are_among ds es) (h s (or_first (bytes_eq s s) (has_text ds s) (itself s))) (among_from ds es texts (λ t g. h t (or_second (bytes_eq t s) (has_text ds t) g)))
+    and_true (has_text es s) (are_among ds es) (h s (or_first (bytes_eq s s) (has_text ds s) (itself s))) (among_from ds es texts (λ t g. h t (or_second (bytes_eq t s) (has_text ds t) g)))
 
 -- and what one lacks, it is not among
 lacks : (d : Data) (ds es : Items) (t : List ℕ) → are_among (item d ds) es ≡ true → (has_text ds t ≡ true → has_text es t ≡ true) → (b : Bool) → text_is (bytes_eq t) d ≡ b → (b || has_text ds t) ≡ true → has_text es t ≡ true
@@ -72,11 +68,11 @@ lacks (boolean b) ds es t h later true is g = absurd (true≢false (sym is))
 lacks (number n) ds es t h later true is g = absurd (true≢false (sym is))
 lacks (array xs) ds es t h later true is g = absurd (true≢false (sym is))
 lacks (object ms) ds es t h later true is g = absurd (true≢false (sym is))
-lacks (string s) ds es t h later true is g = ap (has_text es) ((bytes_eq-Decides t s).0 is) ∙ first (has_text es s) (are_among ds es) h
+lacks (string s) ds es t h later true is g = ap (has_text es) ((bytes_eq-Decides t s).0 is) ∙ left_true (has_text es s) (are_among ds es) h
 
 has_from : (ds es : Items) (t : List ℕ) → are_among ds es ≡ true → has_text ds t ≡ true → has_text es t ≡ true
 has_from no_items es t h g = absurd (true≢false (sym g))
-has_from (item d ds) es t h g = lacks d ds es t h (has_from ds es t (second (text_is (has_text es) d) (are_among ds es) h)) (text_is (bytes_eq t) d) refl g
+has_from (item d ds) es t h g = lacks d ds es t h (has_from ds es t (right_true (text_is (has_text es) d) (are_among ds es) h)) (text_is (bytes_eq t) d) refl g
 
 not_among : (ds es : Items) (t : List ℕ) → has_text ds t ≡ true → has_text es t ≡ false → are_among ds es ≡ false
 not_among ds es t has none = by (are_among ds es) refl
@@ -96,15 +92,11 @@ neither : (t : List ℕ) → ((d : Data) → is_of_policy d ≡ false → text_i
 neither t other no_items = refl
 neither t other (item d ds) = neither_at (is_of_policy d) t d ds refl (other d) (neither t other ds)
 
-or_none : (a b : Bool) → (a || b) ≡ false → (a ≡ false) × (b ≡ false)
-or_none true b h = absurd (true≢false h)
-or_none false b h = (refl, h)
-
 no_orphan : (ds : Items) → has_text (without_policies ds) orphan ≡ false
-no_orphan = neither orphan (λ d h. (or_none (text_is (bytes_eq orphan) d) (text_is (bytes_eq foreground) d) h).0)
+no_orphan = neither orphan (λ d h. (both_false (text_is (bytes_eq orphan) d) (text_is (bytes_eq foreground) d) h).0)
 
 no_foreground : (ds : Items) → has_text (without_policies ds) foreground ≡ false
-no_foreground = neither foreground (λ d h. (or_none (text_is (bytes_eq orphan) d) (text_is (bytes_eq foreground) d) h).1)
+no_foreground = neither foreground (λ d h. (both_false (text_is (bytes_eq orphan) d) (text_is (bytes_eq foreground) d) h).1)
 
 other_text : (s t : List ℕ) (a b : Bool) → bytes_eq orphan s ≡ a → bytes_eq foreground s ≡ b → (a || b) ≡ true → bytes_eq t orphan ≡ false → bytes_eq t foreground ≡ false → bytes_eq t s ≡ false
 other_text s t true b is is' h p q = ap (bytes_eq t) (sym ((bytes_eq-Decides orphan s).0 is)) ∙ p
@@ -131,11 +123,11 @@ module _ (t : List ℕ) (p : bytes_eq t orphan ≡ false) (q : bytes_eq t foregr
 
 text_unless : (b : Bool) (d : Data) (ds : Items) → (is_text d && all_items is_text ds) ≡ true → all_items is_text (without_policies ds) ≡ true → all_items is_text (cond b (without_policies ds) (item d (without_policies ds))) ≡ true
 text_unless true d ds h later = later
-text_unless false d ds h later = and_both (is_text d) (all_items is_text (without_policies ds)) (first (is_text d) (all_items is_text ds) h) later
+text_unless false d ds h later = and_true (is_text d) (all_items is_text (without_policies ds)) (left_true (is_text d) (all_items is_text ds) h) later
 
 still_texts : (ds : Items) → all_items is_text ds ≡ true → all_items is_text (without_policies ds) ≡ true
 still_texts no_items h = refl
-still_texts (item d ds) h = text_unless (is_of_policy d) d ds h (still_texts ds (second (is_text d) (all_items is_text ds) h))
+still_texts (item d ds) h = text_unless (is_of_policy d) d ds h (still_texts ds (right_true (is_text d) (all_items is_text ds) h))
 
 fewer_at : (b x y z : Bool) → (y ≡ true → z ≡ true) → cond b y (x || y) ≡ true → (x || z) ≡ true
 fewer_at true x y z f h = or_second x z (f h)

@@ -6,7 +6,7 @@ use Rattle.laws.specs.FloorLaws.{NonePassed, IsRemembered, RememberedAreServed}
 use Rattle.definitions.specs.History.{History, write, compaction, View, writes, present}
 use Rattle.definitions.specs.Windows.{Change, changes_of, all_but, last_revision, IsRising, compacted, floor}
 use Rattle.server_state.specs.Recorded.{above}
-use Rattle.laws.proofs.KeptWrites.{rising, rising_least, rising_take, above_dropped}
+use Rattle.laws.proofs.RecordedChanges.{rising, rising_least, rising_take, above_dropped}
 use Rattle.laws.proofs.ServedWindows.{revisions_served}
 
 -- ---- compactions

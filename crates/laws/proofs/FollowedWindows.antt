@@ -7,7 +7,7 @@ use Rattle.definitions.specs.History.{History, Write, write, compaction, writes}
 use Rattle.laws.specs.WindowLaws.{WindowsOpen, WindowsRecord, WindowsStay, WindowsCompact}
 use Rattle.definitions.specs.Windows.{Change, is_of, change_of, changes_after, changes_of, all_but, last_n, last_revision, IsRising, compacted}
 use Rattle.laws.proofs.Past.{writes-append}
-use Rattle.laws.proofs.KeptWrites.{rising, rising_least, rising_take, kept_after-append}
+use Rattle.laws.proofs.RecordedChanges.{rising, rising_least, rising_take, kept_after-append}
 
 last-append : (r : ℕ) (xs ys : List Change) → last_revision r (xs ++ ys) ≡ last_revision (last_revision r xs) ys
 last-append r [] ys = refl

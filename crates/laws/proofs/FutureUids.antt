@@ -2,11 +2,10 @@
 use Rattle.std.proofs.Common.{◌≡◌, ℕ, ◌<◌, ◌^◌, List, true, ◌&&◌, nat_lt, bytes_eq, arith, sym, subst}
 use Rattle.std.proofs.lemmas.Bool.Decides.{nat_tests}
 use Rattle.std.proofs.lemmas.Slice.Eq.{bytes_eq-Decides}
+use Rattle.definitions.proofs.Truths.{and_true, left_true, right_true}
 use Rattle.definitions.specs.Checks.{is_of_the_future}
 use Rattle.laws.specs.UidLaws.{IsUidAbove, FutureUidsAreLater}
 use Rattle.definitions.specs.Uids.{uid_text, uid_revision, cluster_word}
-use Rattle.laws.proofs.SelectorForms.{first, second}
-use Rattle.laws.proofs.SelectorPlain.{and-true}
 use Rattle.definitions.proofs.Uids.{existing}
 
 below : (a b : ℕ) → nat_lt a b ≡ true → a < b
@@ -20,14 +19,14 @@ later_from present t h =
     let r = uid_revision t in
     let is = bytes_eq t (uid_text cluster_word r) in
     let fits = nat_lt r (2 ^ 62) in
-    let both = first (is && fits) (nat_lt present r) h in
-    (r, below present r (second (is && fits) (nat_lt present r) h), below r (2 ^ 62) (second is fits both), (bytes_eq-Decides t (uid_text cluster_word r)).0 (first is fits both))
+    let both = left_true (is && fits) (nat_lt present r) h in
+    (r, below present r (right_true (is && fits) (nat_lt present r) h), below r (2 ^ 62) (right_true is fits both), (bytes_eq-Decides t (uid_text cluster_word r)).0 (left_true is fits both))
 
 future_at : (present r : ℕ) (t : List ℕ) → uid_revision t ≡ r → present < r → r < 2 ^ 62 → t ≡ uid_text cluster_word r → is_of_the_future present t ≡ true
 future_at present r t back above fits is =
     rw back
-    (and-true (bytes_eq t (uid_text cluster_word r) && nat_lt r (2 ^ 62)) (nat_lt present r)
-    (and-true (bytes_eq t (uid_text cluster_word r)) (nat_lt r (2 ^ 62)) ((bytes_eq-Decides t (uid_text cluster_word r)).1 is) (below_back r (2 ^ 62) fits)) (below_back present r above))
+    (and_true (bytes_eq t (uid_text cluster_word r) && nat_lt r (2 ^ 62)) (nat_lt present r)
+    (and_true (bytes_eq t (uid_text cluster_word r)) (nat_lt r (2 ^ 62)) ((bytes_eq-Decides t (uid_text cluster_word r)).1 is) (below_back r (2 ^ 62) fits)) (below_back present r above))
 
 future_from : (present : ℕ) (t : List ℕ) → IsUidAbove present t → is_of_the_future present t ≡ true
 future_from present t u = future_at present u.0 t (subst (λ s. uid_revision s ≡ u.0) (sym u.3) (existing cluster_word u.0 u.2)) u.1 u.2 u.3

@@ -25,7 +25,7 @@ use Rattle.definitions.specs.Verbs.{Outcome, with_write, shown, object_in, new_n
 use Rattle.definitions.specs.ObjectRequests.{Request, get_object, list_objects, create_object, update_object, update_status, patch_object, delete_object}
 use Rattle.laws.proofs.Cases.{of_create, of_delete, of_patch, of_status, of_update}
 use Rattle.laws.proofs.Guards.{there}
-use Rattle.laws.proofs.HeldMembers.{generation-in_place}
+use Rattle.laws.proofs.SetMetadata.{generation-in_place}
 use Rattle.definitions.proofs.JsonMembers.{apart, metadata_of-with}
 use Rattle.laws.proofs.Removals.{at_held, member-at_revision, member-restated, member-updated}
 use Rattle.laws.proofs.VerbLaws.{found-state, none_from, of_none}

@@ -6,6 +6,7 @@ use Rattle.std.proofs.lemmas.Bool.{le-ltb, ltb-false}
 use Rattle.serde_json.specs.Data.{Data, Items, no_items, put, string, array}
 use Rattle.serde_json.specs.Find.{as_array, get_member}
 use Rattle.serde_json.proofs.Views.{get_member-put_other}
+use Rattle.definitions.proofs.Truths.{left_true, right_true}
 use Rattle.definitions.specs.declared.kinds.Kind.{Kind}
 use Rattle.definitions.specs.Checks.{finalizers, generate_name, is_owner, is_of_the_future, is_known_uid, is_not_empty, are_owners_valid, controllers, checks, update_fault, adds_no_finalizer, is_selector_kept}
 use Rattle.definitions.specs.Deletion.{left_by, being_deleted, with_deletion}
@@ -63,14 +64,6 @@ all_later p q (o ∷ os) le h = (known_later p q o.uid le h.0, all_later p q os 
 
 -- ---- from the checks
 
-and_second : (a b : Bool) → (a && b) ≡ true → b ≡ true
-and_second true b h = h
-and_second false b h = cc
-
-and_first : (a b : Bool) → (a && b) ≡ true → a ≡ true
-and_first true b h = refl
-and_first false b h = cc
-
 fourth : (a b c d : Bool) → (a && b && c && d) ≡ true → d ≡ true
 fourth true true true d h = h
 fourth true true false d h = cc
@@ -83,17 +76,17 @@ not_is false h = refl
 
 known_uid : (n : ℕ) (u : Option (List ℕ)) → passes (is_known_uid n) u ≡ true → IfSome u (λ t. is_of_the_future n t ≡ false)
 known_uid n None h = tt
-known_uid n (Some t) h = not_is (is_of_the_future n t) (and_second (is_not_empty t) (not (is_of_the_future n t)) h)
+known_uid n (Some t) h = not_is (is_of_the_future n t) (right_true (is_not_empty t) (not (is_of_the_future n t)) h)
 
 known_owners : (n : ℕ) (os : List Owner) → list_all (is_owner n) os ≡ true → Each (IsKnown n) os
 known_owners n [] h = tt
 known_owners n (o ∷ os) h = (
-  known_uid n o.uid (fourth (passes is_not_empty o.api_version) (passes is_not_empty o.kind) (passes is_not_empty o.name) (passes (is_known_uid n) o.uid) (and_first (is_owner n o) (list_all (is_owner n) os) h)),
-  known_owners n os (and_second (is_owner n o) (list_all (is_owner n) os) h),
+  known_uid n o.uid (fourth (passes is_not_empty o.api_version) (passes is_not_empty o.kind) (passes is_not_empty o.name) (passes (is_known_uid n) o.uid) (left_true (is_owner n o) (list_all (is_owner n) os) h)),
+  known_owners n os (right_true (is_owner n o) (list_all (is_owner n) os) h),
 )
 
 valid_known : (n : ℕ) (d : Data) → are_owners_valid n d ≡ true → Known n d
-valid_known n d h = known_owners n (owners d) (and_first (list_all (is_owner n) (owners d)) (nat_le (controllers (owners d)) 1) h)
+valid_known n d h = known_owners n (owners d) (left_true (list_all (is_owner n) (owners d)) (nat_le (controllers (owners d)) 1) h)
 
 -- ---- each verb
 

@@ -4,6 +4,7 @@ use Rattle.serde_json.specs.Data.{Data, null, boolean, number, string, array, ob
 use Rattle.serde_json.specs.Events.{items_len}
 use Rattle.serde_json.specs.Find.{get_member}
 use Rattle.serde_json.specs.Written.{comma_if, compact_text, items_text, items_have_float}
+use Rattle.definitions.proofs.Truths.{both_true}
 use Rattle.definitions.specs.declared.policies.Policy.{Policy}
 use Rattle.definitions.specs.declared.policies.Policy.TheVariants.{Orphan, Foreground, Background}
 use Rattle.definitions.specs.declared.schemas.Schema.TheVariants.{Metadata}
@@ -12,7 +13,6 @@ use Rattle.definitions.specs.Deletion.{orphan, foreground, is_of_policy, of_poli
 use Rattle.definitions.specs.Reading.{fits, items_fit}
 use Rattle.definitions.specs.SelectorValues.{items_in}
 use Rattle.laws.proofs.NeatMembers.{Neat, Neat-get, One}
-use Rattle.definitions.proofs.NoFloatsRead.{both_true}
 use Rattle.laws.proofs.ReadAgain.{ItemsTidy}
 use Rattle.definitions.proofs.EscapedTexts.{length-quoted}
 use Rattle.laws.proofs.TextLengths.{short_comma}

@@ -6,6 +6,7 @@ use Rattle.std.specs.Map.{lookup, remove_entry}
 use Rattle.std.specs.BTreeMap.{insert_entry, is_at}
 use Rattle.serde_json.specs.Data.{Data}
 use Rattle.laws.specs.HistoryLaws.{BodiesFit, WritesHaveRoom}
+use Rattle.definitions.proofs.Truths.{both_false}
 use Rattle.definitions.specs.Keys.{Key, key_cmp}
 use Rattle.definitions.specs.History.{History, Write, write, writes, up_to, Members, after, after_all, put_or_remove, members, found, present}
 use Rattle.definitions.specs.declared.methods.Method.{Method}
@@ -17,7 +18,7 @@ use Rattle.definitions.specs.Verbs.{new_name, write_of, overflows, most_objects,
 use Rattle.laws.proofs.Cases.{of_accept_at}
 use Rattle.laws.proofs.Past.{writes-append, whole}
 use Rattle.definitions.proofs.PutLaws.{IsAscending, IsAbove-below, none_above, name_cmp_total, IsAscending-after_all}
-use Rattle.laws.proofs.HeldMembers.{at_most}
+use Rattle.laws.proofs.SetMetadata.{at_most}
 use Rattle.laws.proofs.VerbLaws.{present-write}
 
 -- what is asked where the test for a refusal fails
@@ -121,17 +122,13 @@ few_after : (k : Key) (o : Option Data) (ms : Members) → IsAscending key_cmp m
 few_after k None ms a few room = let less = no_more k ms in omega (arith, less, few)
 few_after k (Some d) ms a few room = few_at k d ms (found k ms) refl a few room
 
-either_false : (a b : Bool) → (a || b) ≡ false → (a ≡ false) × (b ≡ false)
-either_false true b h = cc
-either_false false b h = (refl, h)
-
 pub at_most_next : (n : ℕ) → nat_lt 9007199254740991 n ≡ false → n ≤ 9007199254740991
 at_most_next n h = at_most 9007199254740991 n h
 
 -- a write that does not overflow leaves what is within the limits within them
 pub within-write : (h : History) (w : Write) → overflows (members h (present h)) (present h) w ≡ false → Within h → Within (h ++ write w ∷ [])
 within-write h w room within =
-    let parts = either_false (nat_le 65536 (length (members h (present h))) && is_some w.put && not (is_some (found w.key (members h (present h))))) (is_past_greatest (present h + 1)) room in (
+    let parts = both_false (nat_le 65536 (length (members h (present h))) && is_some w.put && not (is_some (found w.key (members h (present h))))) (is_past_greatest (present h + 1)) room in (
       subst (λ ms. length ms ≤ 65536) (sym (members-write h w)) (few_after w.key w.put (members h (present h)) (IsAscending-after_all [] (up_to (present h) h) tt) within.0 parts.0),
       subst (λ r. r ≤ 9007199254740991) (sym (present-write h w)) (at_most_next (present h + 1) parts.1),
     )

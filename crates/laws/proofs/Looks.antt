@@ -13,10 +13,10 @@ use Rattle.definitions.specs.Versions.{watched}
 use Rattle.definitions.specs.WatchReplies.{lines_from}
 use Rattle.laws.specs.WatchLaws.{AreBetween}
 use Rattle.definitions.specs.Windows.{floor, within}
-use Rattle.laws.proofs.Played.{goes_on, lie_between}
+use Rattle.laws.proofs.AppliedEvents.{goes_on, lie_between}
 use Rattle.laws.proofs.ServedWindows.{within_is}
 use Rattle.laws.proofs.StandingWatches.{given_stands, lines_stream, changes_past}
-use Rattle.laws.proofs.Streamed.{stream_played, all_put, list_ascending}
+use Rattle.laws.proofs.Streamed.{stream_applied, all_put, list_ascending}
 
 -- ---- two streams in a row
 
@@ -91,7 +91,7 @@ looks_stream size h v a (l ∷ ls) is =
 pub looks_are_one_stream : LooksAreOneStream
 looks_are_one_stream size h v a ls is =
     let s = looks_stream size h v a ls is in
-    (s.0, s.1, stream_played (last_history h ls) v a (last_stand a ls) (look_lines a ls) s.0 s.1)
+    (s.0, s.1, stream_applied (last_history h ls) v a (last_stand a ls) (look_lines a ls) s.0 s.1)
 
 -- ---- any number
 
@@ -131,10 +131,10 @@ as_added : (v : View) (ms : Members) → map (frame_of v.kind) (added_lines ms) 
 as_added v [] = refl
 as_added v (m ∷ ms) = ap (λ z. record { kind = Added; object = m.1 } ∷ z) (as_added v ms)
 
-added_played : (h : History) (v : View) (r : ℕ) → applied_lines [] (added_lines (list h v r)) ≡ list h v r
-added_played h v r = ap (applied_lines []) (sym (append-nil (added_lines (list h v r)))) ∙ all_put (list h v r) [] [] (list_ascending h v r)
+added_applied : (h : History) (v : View) (r : ℕ) → applied_lines [] (added_lines (list h v r)) ≡ list h v r
+added_applied h v r = ap (applied_lines []) (sym (append-nil (added_lines (list h v r)))) ∙ all_put (list h v r) [] [] (list_ascending h v r)
 
 pub list_comes_first : WatchesBeginWithTheList
-list_comes_first size h v None bookmarks none = (added_lines (list h v (present h)), refl, as_added v (list h v (present h)), added_played h v (present h))
-list_comes_first size h v (Some zero) bookmarks none = (added_lines (list h v (present h)), refl, as_added v (list h v (present h)), added_played h v (present h))
+list_comes_first size h v None bookmarks none = (added_lines (list h v (present h)), refl, as_added v (list h v (present h)), added_applied h v (present h))
+list_comes_first size h v (Some zero) bookmarks none = (added_lines (list h v (present h)), refl, as_added v (list h v (present h)), added_applied h v (present h))
 list_comes_first size h v (Some (suc r)) bookmarks none = absurd (omega (arith, none))

@@ -6,6 +6,7 @@ use Rattle.std.specs.Cmp.Lexicographic.{slice_cmp}
 use Rattle.serde_json.specs.Data.{Data, null, boolean, number, string, array, object, Members, no_members, member, put, depth, members_depth}
 use Rattle.serde_json.specs.Find.{get_member}
 use Rattle.serde_json.specs.Written.{has_float, members_have_float}
+use Rattle.definitions.proofs.Truths.{both_true}
 use Rattle.definitions.specs.declared.kinds.Kind.{Kind}
 use Rattle.definitions.specs.declared.kinds.Kind.TheVariants.{ConfigMap, Pod, ReplicaSet, Deployment}
 use Rattle.definitions.specs.declared.schemas.Shape.TheVariants.{Object}
@@ -16,7 +17,7 @@ use Rattle.definitions.specs.Reading.{fits, members_fit, is_absent, reading, tid
 use Rattle.definitions.specs.Schemas.{member_at}
 use Rattle.definitions.specs.Values.{members_of, inner_of, without, is_null}
 use Rattle.definitions.specs.Replacements.{as_held, keeping}
-use Rattle.definitions.proofs.NoFloatsRead.{has_float-tidied, has_float-filled, has_float-is_body, both_true}
+use Rattle.definitions.proofs.NoFloatsRead.{has_float-tidied, has_float-filled, has_float-is_body}
 use Rattle.laws.proofs.ReadAgain.{IsTidy, MembersTidy, MembersTidy-tidied, members_fit-tidied, members_depth-tidied, Good, Good-of, Good-filled, Has-put, Filled, HasSpec, filled_members, filled-object, opened, same_name}
 
 -- a member that may stand, nested no deeper than n

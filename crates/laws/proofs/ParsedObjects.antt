@@ -12,7 +12,7 @@ use Rattle.std.proofs.lemmas.Bool.Decides.{nat_tests}
 use Rattle.std.specs.Char.{digit_char}
 use Rattle.laws.proofs.TextsRead.{one_byte}
 use Rattle.json.proofs.Printed.Utf8.{are_ascii, IsUtf8-are_ascii}
-use Rattle.definitions.proofs.NoFloatsRead.{both_true}
+use Rattle.definitions.proofs.Truths.{both_true}
 use Rattle.definitions.specs.declared.kinds.Kind.{Kind}
 use Rattle.definitions.specs.declared.kinds.Kind.TheVariants.{ConfigMap, Pod, ReplicaSet, Deployment}
 use Rattle.definitions.specs.declared.policies.Policy.{Policy}

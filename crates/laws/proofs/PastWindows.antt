@@ -2,9 +2,9 @@
 use Rattle.std.proofs.Common.{zero, suc, ◌≤◌, ℕ, ◌+◌, ◌-◌, List, [], ◌∷◌, ◌++◌, length, drop, Bool, true, false, cond, sym, subst, arith}
 use Rattle.definitions.specs.declared.kinds.Kind.{Kind}
 use Rattle.definitions.specs.History.{Write, writes, present}
-use Rattle.laws.specs.WindowLaws.{KeptWritesArePast}
+use Rattle.laws.specs.WindowLaws.{RecordedChangesArePast}
 use Rattle.definitions.specs.Windows.{Change, is_of, change_of, changes_after, changes_of, last_revision}
-use Rattle.laws.proofs.KeptWrites.{pushed}
+use Rattle.laws.proofs.RecordedChanges.{pushed}
 
 -- each revision is at most m
 abbrev AreWithin : ℕ → List Change → Type 0
@@ -30,7 +30,7 @@ last_within : (m r : ℕ) (ks : List Change) → r ≤ m → AreWithin m ks → 
 last_within m r [] l a = l
 last_within m r (k ∷ ks) l a = last_within m k.revision ks a.0 a.1
 
-pub kept_past : KeptWritesArePast
+pub kept_past : RecordedChangesArePast
 kept_past s h f =
     subst (λ ks. last_revision 0 ks ≤ present h) (sym f.0)
     (last_within (present h) 0 (drop (length (changes_of s.kind h) - s.size) (changes_of s.kind h)) (omega arith)

@@ -3,6 +3,7 @@ use Rattle.std.proofs.Common.{◌≡◌, ℕ, List, [], ◌∷◌, ◌++◌, ◌
 use Rattle.std.proofs.lemmas.Slice.Eq.{bytes_eq-Decides}
 use Rattle.std.specs.List.{onto_first, list_all, find}
 use Rattle.std.specs.Option.{option_map_or}
+use Rattle.definitions.proofs.Truths.{both_true}
 use Rattle.definitions.specs.declared.kinds.Kind.{Kind}
 use Rattle.definitions.specs.declared.kinds.Group.{Group}
 use Rattle.definitions.specs.declared.kinds.Group.TheVariants.{Core, Apps}
@@ -80,10 +81,6 @@ one_form : (b : Bool) (f g : Form) → cond b (Some f) None ≡ Some g → (b �
 one_form true f g is = (refl, cc)
 one_form false f g is = cc
 
-both : (a b : Bool) → (a && b) ≡ true → (a ≡ true) × (b ≡ true)
-both true b h = (refl, h)
-both false b h = cc
-
 word_is : (word w : List ℕ) → bytes_eq word w ≡ true → w ≡ word
 word_is word w h = sym ((bytes_eq-Decides word w).0 h)
 
@@ -100,7 +97,7 @@ form-text g (word ∷ n ∷ p ∷ o ∷ []) f is =
     ap (λ w. prefix g ++ rest_text (w ∷ n ∷ p ∷ o ∷ [])) (word_is (codes "namespaces") word one.0) ∙ ap form_text one.1
 form-text g (word ∷ n ∷ p ∷ o ∷ last ∷ []) f is =
     let one = one_form (bytes_eq (codes "namespaces") word && bytes_eq (codes "status") last) (status_form g n p o) f is in
-    let words = both (bytes_eq (codes "namespaces") word) (bytes_eq (codes "status") last) one.0 in
+    let words = both_true (bytes_eq (codes "namespaces") word) (bytes_eq (codes "status") last) one.0 in
     ap (λ w. prefix g ++ rest_text (w ∷ n ∷ p ∷ o ∷ last ∷ [])) (word_is (codes "namespaces") word words.0)
     ∙ ap (λ w. prefix g ++ rest_text (codes "namespaces" ∷ n ∷ p ∷ o ∷ w ∷ [])) (word_is (codes "status") last words.1)
     ∙ ap form_text one.1
@@ -151,7 +148,7 @@ group_tells Apps Apps is = refl
 -- the plural that was read is that of the kind, and its group the one that was asked
 named : (g : Group) (p : List ℕ) (k : Kind) → kind_named g p ≡ Some k → (group k ≡ g) × (p ≡ plural k)
 named g p k is =
-    let passed = both (bytes_eq (text_of_group g) (group_name k)) (bytes_eq p (plural k)) (passes_found (λ k. bytes_eq (text_of_group g) (group_name k) && bytes_eq p (plural k)) kinds k is) in
+    let passed = both_true (bytes_eq (text_of_group g) (group_name k)) (bytes_eq p (plural k)) (passes_found (λ k. bytes_eq (text_of_group g) (group_name k) && bytes_eq p (plural k)) kinds k is) in
     (group_tells g (group k) ((bytes_eq-Decides (text_of_group g) (group_name k)).0 passed.0), (bytes_eq-Decides p (plural k)).0 passed.1)
 
 one_route : {A : Type 0} (f : A → Route) (o : Option A) (r : Route) → option_map f o ≡ Some r → (k : A) × (o ≡ Some k) × (f k ≡ r)

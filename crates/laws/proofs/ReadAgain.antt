@@ -1,5 +1,5 @@
 -- What was read reads as itself.
-use Rattle.std.proofs.Common.{◌≡◌, ◌≤◌, List, ℕ, Bool, true, false, not, cond, codes, ◌||◌, ◌&&◌, nat_le, max, is_some, is_eq, Option, Some, Result, Ok, Err, Ordering, Less, Equal, Greater, nat_cmp, refl, sym, ap, ◌∙◌, subst, arith}
+use Rattle.std.proofs.Common.{◌≡◌, ◌≤◌, List, ℕ, Bool, true, false, not, cond, codes, ◌||◌, nat_le, max, is_some, is_eq, Option, Some, Result, Ok, Err, Ordering, Less, Equal, Greater, nat_cmp, refl, sym, ap, ◌∙◌, subst, arith}
 use Rattle.std.proofs.lemmas.Bool.{leb-true, le-leb}
 use Rattle.std.proofs.lemmas.Map.Text.{is_eq-slice_cmp}
 use Rattle.std.proofs.lemmas.Slice.Eq.{bytes_eq-Decides}
@@ -9,6 +9,7 @@ use Rattle.serde_json.specs.Data.{Data, null, boolean, number, string, array, ob
 use Rattle.serde_json.specs.Find.{get_member}
 use Rattle.serde_json.specs.Written.{has_float}
 use Rattle.serde_json.proofs.Views.{get_member-put}
+use Rattle.definitions.proofs.Truths.{and_true, both_true}
 use Rattle.definitions.specs.declared.refusals.Part.{Part}
 use Rattle.definitions.specs.declared.refusals.Part.TheVariants as part
 use Rattle.definitions.specs.declared.kinds.Kind.{Kind}
@@ -22,7 +23,7 @@ use Rattle.definitions.specs.Kinds.{api_version, kind_text}
 use Rattle.definitions.specs.Schemas.{member_at}
 use Rattle.definitions.specs.Values.{with_default, is_null}
 use Rattle.definitions.specs.Reading.{fits, items_fit, members_fit, tidied, tidied_items, tidied_members, is_absent, item_of, schema_of, filled, with_spec, is_body, empty, reading}
-use Rattle.definitions.proofs.NoFloatsRead.{has_float-tidied, has_float-filled, has_float-is_body, both_true}
+use Rattle.definitions.proofs.NoFloatsRead.{has_float-tidied, has_float-filled, has_float-is_body}
 
 -- ---- tidy values
 
@@ -91,9 +92,6 @@ mutual
 either_true : (b c e : Bool) → (c ≡ true → e ≡ true) → (b || c) ≡ true → (b || e) ≡ true
 either_true true c e f h = refl
 either_true false c e f h = f h
-
-and_true : (a b : Bool) → a ≡ true → b ≡ true → (a && b) ≡ true
-and_true a b p q = rw (p, q) refl
 
 is_null-tidied : (s : Shape) (d : Data) → is_null (tidied s d) ≡ is_null d
 is_null-tidied s null = refl

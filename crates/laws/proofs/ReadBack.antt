@@ -1,18 +1,15 @@
 -- The text of data as a parser gives it is read as the data, where no number is a float and it does not nest too deeply.
-use Rattle.std.proofs.Common.{suc, ◌≡◌, ◌≤◌, ◌<◌, ◌^◌, ℕ, pos, negsuc, max, List, [], false, Option, Some, option_map, option_and_then, Less, Greater, refl, sym, ap, ap₂, ◌∙◌, subst, arith, append-nil}
+use Rattle.std.proofs.Common.{◌≡◌, ◌≤◌, ◌<◌, ◌^◌, ℕ, pos, negsuc, List, false, Some, option_map, option_and_then, Less, Greater, refl, sym, ap, ◌∙◌, subst, arith}
 use Rattle.std.specs.Ordering.{nat_cmp, ordering_reverse}
 use Rattle.std.specs.Cmp.Lexicographic.{slice_cmp, nat_list_cmp_total}
 use Rattle.std.specs.Fmt.{signed_decimal}
-use Rattle.json.specs.Token.{Token}
 use Rattle.json.specs.Lex.{tokens}
 use Rattle.json.specs.Print.{IsNumber}
-use Rattle.json.specs.Json as json
-use Rattle.json.specs.Tree as tree
 use Rattle.json.specs.Tree.{json_tokens, HasNumbers, ItemsHaveNumbers, MembersHaveNumbers}
-use Rattle.json.proofs.Printed.Trees.{value-json_tokens, ArePrintable-json_tokens}
+use Rattle.json.proofs.Printed.Trees.{ArePrintable-json_tokens}
 use Rattle.json.proofs.Printed.Tokens.{tokens-print}
 use Rattle.json.proofs.Printed.Decimals.{IsNumber-decimal, IsNumber-signed_decimal}
-use Rattle.serde_json.specs.Data.{Num, unsigned, negative, float, Data, null, boolean, number, string, array, object, Items, no_items, item, Members, no_members, member, put, depth, items_depth, members_depth}
+use Rattle.serde_json.specs.Data.{Num, unsigned, negative, float, Data, null, boolean, number, string, array, object, Items, no_items, item, Members, no_members, member, put, depth}
 use Rattle.serde_json.specs.Read.{read, of_json, of_items, of_members, number_of, max_depth}
 use Rattle.serde_json.specs.Written.{number_text, compact_text, outline, items_outline, members_outline, has_float, items_have_float, members_have_float}
 use Rattle.serde_json.proofs.Numbers.{number_of-decimal, number_of-negative}
@@ -20,10 +17,11 @@ use Rattle.serde_json.proofs.Texts.{print-outline}
 use Rattle.std.proofs.lemmas.Bool.{cases_eq}
 use Rattle.std.proofs.Common.{◌⊎◌, inl, inr}
 use Rattle.serde_json.specs.Find.{is_float}
+use Rattle.definitions.proofs.Truths.{left_false, right_false}
+use Rattle.definitions.proofs.TokensOfData.{depth-outline, read_tokens}
 use Rattle.definitions.proofs.OnLiterals.{on_literals}
 use Rattle.definitions.specs.Reached.{IsBefore, IsInRange, IsParsed, AreParsed, AreInOrder}
 use Rattle.laws.proofs.JsonOrder.{IsOrdered}
-use Rattle.definitions.proofs.NoFloatsRead.{first_false, second_false}
 use Rattle.laws.proofs.Parsed.{parts}
 
 -- ---- numbers
@@ -83,16 +81,16 @@ mutual
   items_convert : (ds : Items) → AreParsed ds → items_have_float ds ≡ false → of_items (items_outline ds) ≡ Some ds
   items_convert no_items p w = refl
   items_convert (item d ds) p w =
-      ap (option_and_then (λ d. option_map (item d) (of_items (items_outline ds)))) (converts d p.0 (first_false (has_float d) (items_have_float ds) w))
-      ∙ ap (option_map (item d)) (items_convert ds p.1 (second_false (has_float d) (items_have_float ds) w))
+      ap (option_and_then (λ d. option_map (item d) (of_items (items_outline ds)))) (converts d p.0 (left_false (has_float d) (items_have_float ds) w))
+      ∙ ap (option_map (item d)) (items_convert ds p.1 (right_false (has_float d) (items_have_float ds) w))
 
   members_convert : (ms found : Members) → AreInOrder ms → members_have_float ms ≡ false → IsOrdered (then_members found ms) → of_members (members_outline ms) found ≡ Some (then_members found ms)
   members_convert no_members found p w a = ap Some (sym (then-nothing found))
   members_convert (member k d ms) found p w a =
       let last = put_last k d found ms a in
       let same : then_members (put k d found) ms ≡ then_members found (member k d ms) = ap (λ z. then_members z ms) last ∙ then-then found (member k d no_members) ms in
-      ap (option_and_then (λ d. of_members (members_outline ms) (put k d found))) (converts d p.1 (first_false (has_float d) (members_have_float ms) w))
-      ∙ members_convert ms (put k d found) p.2 (second_false (has_float d) (members_have_float ms) w) (subst IsOrdered (sym same) a)
+      ap (option_and_then (λ d. of_members (members_outline ms) (put k d found))) (converts d p.1 (left_false (has_float d) (members_have_float ms) w))
+      ∙ members_convert ms (put k d found) p.2 (right_false (has_float d) (members_have_float ms) w) (subst IsOrdered (sym same) a)
       ∙ ap Some same
 
 -- ---- its text
@@ -111,34 +109,11 @@ mutual
 
   items_numbered : (ds : Items) → AreParsed ds → items_have_float ds ≡ false → ItemsHaveNumbers (items_outline ds)
   items_numbered no_items p w = tt
-  items_numbered (item d ds) p w = (numbered d p.0 (first_false (has_float d) (items_have_float ds) w), items_numbered ds p.1 (second_false (has_float d) (items_have_float ds) w))
+  items_numbered (item d ds) p w = (numbered d p.0 (left_false (has_float d) (items_have_float ds) w), items_numbered ds p.1 (right_false (has_float d) (items_have_float ds) w))
 
   members_numbered : (ms : Members) → AreInOrder ms → members_have_float ms ≡ false → MembersHaveNumbers (members_outline ms)
   members_numbered no_members p w = tt
-  members_numbered (member k d ms) p w = (numbered d p.1 (first_false (has_float d) (members_have_float ms) w), members_numbered ms p.2 (second_false (has_float d) (members_have_float ms) w))
-
-mutual
-  depth-outline : (d : Data) → tree.depth (outline d) ≡ depth d
-  depth-outline null = refl
-  depth-outline (boolean b) = refl
-  depth-outline (number n) = refl
-  depth-outline (string s) = refl
-  depth-outline (array ds) = ap suc (items_depth-outline ds)
-  depth-outline (object ms) = ap suc (members_depth-outline ms)
-
-  items_depth-outline : (ds : Items) → tree.items_depth (items_outline ds) ≡ items_depth ds
-  items_depth-outline no_items = refl
-  items_depth-outline (item d ds) = ap₂ max (depth-outline d) (items_depth-outline ds)
-
-  members_depth-outline : (ms : Members) → tree.members_depth (members_outline ms) ≡ members_depth ms
-  members_depth-outline no_members = refl
-  members_depth-outline (member k d ms) = ap₂ max (depth-outline d) (members_depth-outline ms)
-
-abbrev whole : Option (json.Json × List Token) → Option Data
-whole o = option_and_then of_json (option_and_then (λ p. json.if_last p.0 p.1) o)
-
-read_tokens : (j : json.Json) (text : List ℕ) → tokens text ≡ json_tokens j → tree.depth j ≤ max_depth → read text ≡ of_json j
-read_tokens j text same shallow = ap whole (ap (json.value max_depth) (same ∙ sym (append-nil (json_tokens j))) ∙ value-json_tokens j max_depth [] shallow)
+  members_numbered (member k d ms) p w = (numbered d p.1 (left_false (has_float d) (members_have_float ms) w), members_numbered ms p.2 (right_false (has_float d) (members_have_float ms) w))
 
 pub read_back : (d : Data) → IsParsed d → has_float d ≡ false → depth d ≤ max_depth → read (compact_text d) ≡ Some d
 read_back d p w nests =

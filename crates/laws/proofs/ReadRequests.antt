@@ -4,6 +4,7 @@ use Rattle.std.proofs.lemmas.Bool.{ltb-true, lt-ltb}
 use Rattle.std.proofs.lemmas.Bool.Decides.{nat_tests}
 use Rattle.json.proofs.Printed.Utf8.{are_ascii, IsUtf8-are_ascii}
 use Rattle.serde_json.specs.Data.{Data}
+use Rattle.definitions.proofs.Truths.{both_true}
 use Rattle.definitions.specs.declared.methods.Method.{Method}
 use Rattle.definitions.specs.declared.methods.Method.TheVariants.{Get, Post, Put, Patch, Delete}
 use Rattle.definitions.specs.declared.refusals.Part.{Part}
@@ -25,7 +26,6 @@ use Rattle.definitions.specs.ObjectRequests.{Request, create_object, update_obje
 use Rattle.definitions.specs.DeleteOptions.{Options}
 use Rattle.definitions.specs.History as history
 use Rattle.laws.proofs.Parsed.{parsed_data}
-use Rattle.definitions.proofs.NoFloatsRead.{both_true}
 use Rattle.laws.proofs.Runs.{kept_asked, kept_watched, by_compaction}
 use Rattle.definitions.specs.Reached.{IsParsed, IsAsked, IsTime, IsReached, opened, asks, compacts}
 use Rattle.laws.specs.ReachedLaws.{RunsAreReached, RequestsAreAsked, MomentsAreTimes}

@@ -6,6 +6,7 @@ use Rattle.serde_json.specs.Data.{Data, null, boolean, number, string, array, ob
 use Rattle.serde_json.specs.Events.{items_len}
 use Rattle.serde_json.specs.Find.{get_member}
 use Rattle.serde_json.proofs.Views.{get_member-put, get_member-put_other}
+use Rattle.definitions.proofs.Truths.{both_true}
 use Rattle.definitions.specs.declared.kinds.Kind.{Kind}
 use Rattle.definitions.specs.declared.policies.Policy.{Policy}
 use Rattle.definitions.specs.Checks.{finalizers, has_text, text_is, checks, update_fault, adds_no_finalizer, is_selector_kept}
@@ -26,9 +27,8 @@ use Rattle.definitions.specs.ObjectRequests.{Request, get_object, list_objects, 
 use Rattle.laws.proofs.Cases.{of_accept, of_create, of_delete, of_patch, of_status, of_update}
 use Rattle.laws.proofs.CheckLaws.{all_met}
 use Rattle.laws.proofs.Guards.{there}
-use Rattle.laws.proofs.HeldMembers.{moved, text-at_revision, text-updated, deletion-in_place}
+use Rattle.laws.proofs.SetMetadata.{moved, text-at_revision, text-updated, deletion-in_place}
 use Rattle.definitions.proofs.JsonMembers.{apart, text_in, text_in-put_other, metadata_of-with}
-use Rattle.definitions.proofs.NoFloatsRead.{both_true}
 use Rattle.laws.proofs.VerbLaws.{found-state, none_from, of_held, of_none, text-restated, metadata_of-status}
 
 -- ---- what a delete leaves

@@ -12,6 +12,7 @@ use Rattle.serde_json.specs.Data.{Data, null, boolean, number, string, array, ob
 use Rattle.serde_json.specs.Read.{read}
 use Rattle.serde_json.specs.View.{items_of}
 use Rattle.serde_json.specs.Written.{compact_text, has_float, items_have_float, members_have_float}
+use Rattle.definitions.proofs.Truths.{left_false, right_false}
 use Rattle.definitions.specs.declared.kinds.Kind.{Kind}
 use Rattle.definitions.specs.History.{History, Write, View, Members, writes, present, list}
 use Rattle.definitions.specs.Kinds.{api_version, kind_text}
@@ -22,7 +23,7 @@ use Rattle.definitions.specs.Verbs.{as_item, list_body}
 use Rattle.definitions.proofs.PageLists.{all_after}
 use Rattle.laws.specs.ReplyLaws.{list_reply, RepliesAreRead, ObjectsAreReadBack}
 use Rattle.laws.specs.SentLaws.{whole}
-use Rattle.definitions.proofs.NoFloatsRead.{first_false, second_false, has_float-is_body}
+use Rattle.definitions.proofs.NoFloatsRead.{has_float-is_body}
 use Rattle.laws.proofs.Parsed.{joined, inside, Both-without, version_ascii, kind_ascii}
 use Rattle.laws.proofs.Limited.{limited}
 use Rattle.laws.proofs.WrittenTexts.{text_written}
@@ -40,13 +41,13 @@ reply_is size h k = ap (λ ms. list_body k (present h) ms) (all_after (list h (w
 -- ---- no number in it is a float
 
 floats_without : (b : Bool) (l : List ℕ) (e : Data) (ms left : json.Members) → members_have_float (member l e ms) ≡ false → members_have_float left ≡ false → members_have_float (cond b ms (member l e left)) ≡ false
-floats_without true l e ms left h later = second_false (has_float e) (members_have_float ms) h
-floats_without false l e ms left h later = rw (first_false (has_float e) (members_have_float ms) h, later) refl
+floats_without true l e ms left h later = right_false (has_float e) (members_have_float ms) h
+floats_without false l e ms left h later = rw (left_false (has_float e) (members_have_float ms) h, later) refl
 
 no_floats_without : (q : List ℕ) (ms : json.Members) → members_have_float ms ≡ false → members_have_float (without q ms) ≡ false
 no_floats_without q no_members h = refl
 no_floats_without q (member l e ms) h =
-    floats_without (is_eq (slice_cmp nat_cmp q l)) l e ms (without q ms) h (no_floats_without q ms (second_false (has_float e) (members_have_float ms) h))
+    floats_without (is_eq (slice_cmp nat_cmp q l)) l e ms (without q ms) h (no_floats_without q ms (right_false (has_float e) (members_have_float ms) h))
 
 no_floats_in : (d : Data) → has_float d ≡ false → members_have_float (members_of d) ≡ false
 no_floats_in null h = refl

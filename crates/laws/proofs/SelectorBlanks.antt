@@ -5,9 +5,9 @@ use Rattle.std.proofs.lemmas.List.{length-reverse, reverse-append, reverse-rever
 use Rattle.std.proofs.lemmas.List.Folds.{list_all-append}
 use Rattle.std.specs.List.{list_all, list_any}
 use Rattle.laws.specs.SelectorGrammar.{AreBlanks}
+use Rattle.definitions.proofs.Truths.{and_true, left_true, right_true}
 use Rattle.definitions.specs.SelectorTexts.{is_blank, is_comma, is_equals, is_opening, without_first_blanks, trimmed}
-use Rattle.laws.proofs.SelectorForms.{first, second}
-use Rattle.laws.proofs.SelectorPlain.{is_plain, is_closing, is_mark, and-true, begins, begins-plain, no-blank-first, ends-in}
+use Rattle.laws.proofs.SelectorPlain.{is_plain, is_closing, is_mark, begins, begins-plain, no-blank-first, ends-in}
 
 -- ---- bytes
 
@@ -43,26 +43,26 @@ soft-no-mark b h = grind (arith, nat_tests)
 -- ---- tests of all bytes
 
 pub all-append : (p : ℕ → Bool) (t u : List ℕ) → list_all p t ≡ true → list_all p u ≡ true → list_all p (t ++ u) ≡ true
-all-append p t u h g = list_all-append p t u ∙ and-true (list_all p t) (list_all p u) h g
+all-append p t u h g = list_all-append p t u ∙ and_true (list_all p t) (list_all p u) h g
 
 pub all-weaker : (p q : ℕ → Bool) → ((b : ℕ) → p b ≡ true → q b ≡ true) → (t : List ℕ) → list_all p t ≡ true → list_all q t ≡ true
 all-weaker p q f [] h = refl
-all-weaker p q f (b ∷ t) h = and-true (q b) (list_all q t) (f b (first (p b) (list_all p t) h)) (all-weaker p q f t (second (p b) (list_all p t) h))
+all-weaker p q f (b ∷ t) h = and_true (q b) (list_all q t) (f b (left_true (p b) (list_all p t) h)) (all-weaker p q f t (right_true (p b) (list_all p t) h))
 
 pub all-none : (p q : ℕ → Bool) → ((b : ℕ) → p b ≡ true → q b ≡ false) → (t : List ℕ) → list_all p t ≡ true → list_any q t ≡ false
 all-none p q f [] h = refl
-all-none p q f (b ∷ t) h = ap₂ (λ x y. x || y) (f b (first (p b) (list_all p t) h)) (all-none p q f t (second (p b) (list_all p t) h))
+all-none p q f (b ∷ t) h = ap₂ (λ x y. x || y) (f b (left_true (p b) (list_all p t) h)) (all-none p q f t (right_true (p b) (list_all p t) h))
 
 pub all-reverse : (p : ℕ → Bool) (t : List ℕ) → list_all p t ≡ true → list_all p (reverse t) ≡ true
 all-reverse p [] h = refl
 all-reverse p (b ∷ t) h =
     ap (list_all p) (reverse-append (b ∷ []) t)
-    ∙ all-append p (reverse t) (b ∷ []) (all-reverse p t (second (p b) (list_all p t) h)) (and-true (p b) true (first (p b) (list_all p t) h) refl)
+    ∙ all-append p (reverse t) (b ∷ []) (all-reverse p t (right_true (p b) (list_all p t) h)) (and_true (p b) true (left_true (p b) (list_all p t) h) refl)
 
 pub all-at : (p : ℕ → Bool) (t : List ℕ) (i : ℕ) → i < length t → list_all p t ≡ true → p (get_or t i 0) ≡ true
 all-at p [] i l h = absurd (omega (arith, l))
-all-at p (b ∷ t) zero l h = first (p b) (list_all p t) h
-all-at p (b ∷ t) (suc i) l h = all-at p t i (omega (arith, l)) (second (p b) (list_all p t) h)
+all-at p (b ∷ t) zero l h = left_true (p b) (list_all p t) h
+all-at p (b ∷ t) (suc i) l h = all-at p t i (omega (arith, l)) (right_true (p b) (list_all p t) h)
 
 pub soft-plain : (t : List ℕ) → list_all is_plain t ≡ true → list_all is_soft t ≡ true
 soft-plain = all-weaker is_plain is_soft plain-soft
@@ -74,7 +74,7 @@ soft-blanks = all-weaker is_blank is_soft blank-soft
 
 pub first-blanks : (a t : List ℕ) → AreBlanks a → without_first_blanks (a ++ t) ≡ without_first_blanks t
 first-blanks [] t h = refl
-first-blanks (b ∷ a) t h = rw (first (is_blank b) (list_all is_blank a) h) (first-blanks a t (second (is_blank b) (list_all is_blank a) h))
+first-blanks (b ∷ a) t h = rw (left_true (is_blank b) (list_all is_blank a) h) (first-blanks a t (right_true (is_blank b) (list_all is_blank a) h))
 
 pub only-blanks : (a : List ℕ) → AreBlanks a → without_first_blanks a ≡ []
 only-blanks a h = ap without_first_blanks (sym (append-nil a)) ∙ first-blanks a [] h
@@ -143,7 +143,7 @@ trimmed-shortened a (b ∷ v) z h g p =
 
 all-without : (p : ℕ → Bool) (t : List ℕ) → list_all p t ≡ true → list_all p (without_first_blanks t) ≡ true
 all-without p [] h = refl
-all-without p (b ∷ t) h = by (is_blank b) (all-without p t (second (p b) (list_all p t) h))
+all-without p (b ∷ t) h = by (is_blank b) (all-without p t (right_true (p b) (list_all p t) h))
   where
     by : (c : Bool) → list_all p (without_first_blanks t) ≡ true → list_all p (cond c (without_first_blanks t) (b ∷ t)) ≡ true
     by true later = later
@@ -169,7 +169,7 @@ first-trims [] = ([], refl, refl)
 first-trims (b ∷ t) = by (is_blank b) refl (first-trims t)
   where
     by : (c : Bool) → is_blank b ≡ c → FirstTrims t → FirstTrims (b ∷ t)
-    by true e s = (b ∷ s.0, and-true (is_blank b) (list_all is_blank s.0) e s.1, ap (λ x. b ∷ x) s.2 ∙ ap (λ c. b ∷ (s.0 ++ cond c (without_first_blanks t) (b ∷ t))) (sym e))
+    by true e s = (b ∷ s.0, and_true (is_blank b) (list_all is_blank s.0) e s.1, ap (λ x. b ∷ x) s.2 ∙ ap (λ c. b ∷ (s.0 ++ cond c (without_first_blanks t) (b ∷ t))) (sym e))
     by false e s = ([], refl, ap (λ c. cond c (without_first_blanks t) (b ∷ t)) (sym e))
 
 pub trims : (t : List ℕ) → Trims t

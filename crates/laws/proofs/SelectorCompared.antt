@@ -4,6 +4,7 @@ use Rattle.std.proofs.lemmas.Bool.Decides.{nat_tests}
 use Rattle.std.proofs.lemmas.List.{length-append}
 use Rattle.std.proofs.lemmas.List.Folds.{list_any-append}
 use Rattle.std.specs.List.{list_all, list_any}
+use Rattle.definitions.proofs.Truths.{left_true, right_true}
 use Rattle.definitions.specs.declared.selectors.Operator.{Operator}
 use Rattle.definitions.specs.declared.selectors.Operator.TheVariants.{In, NotIn, Exists, DoesNotExist}
 use Rattle.definitions.specs.Labels.{is_label_key, is_label_value}
@@ -12,7 +13,7 @@ use Rattle.definitions.specs.Selectors.{label_key, label_value, each_read, put_f
 use Rattle.definitions.specs.SelectorTexts as texts
 use Rattle.definitions.specs.SelectorTexts.{is_comma, is_equals, is_opening, trimmed, before_last, compared_requirement, without_equals, plain_requirement, unblanked_requirement, requirement}
 use Rattle.laws.proofs.SelectorBlanks.{ends-plain, is_soft, soft-no-comma, soft-no-equals, soft-no-opening, soft-no-mark, all-append, all-none, all-at, soft-plain, soft-blanks, shortened, trimmed-over, trimmed-around, trimmed-plain-around, trimmed-plain-after, trimmed-plain-before, trimmed-shortened, all-shortened}
-use Rattle.laws.proofs.SelectorForms.{first, second, own-key, own-value}
+use Rattle.laws.proofs.SelectorForms.{own-key, own-value}
 use Rattle.laws.proofs.SelectorPlain.{is_plain, cut-at, key-plain, value-plain, begins, begins-plain, ends-with, trimmed-plain}
 use Rattle.laws.proofs.SelectorTextsRead.{closes, last-here, not-marked, compares, no-key, exists-read}
 
@@ -25,10 +26,10 @@ IsRead t k o vs = (closes false t ≡ true) × (requirement t ≡ Some (record {
 pub closes-soft : (t u : List ℕ) → list_all is_soft t ≡ true → closes false (t ++ u) ≡ closes false u
 closes-soft [] u h = refl
 closes-soft (b ∷ t) u h =
-    let p = first (is_soft b) (list_all is_soft t) h in
+    let p = left_true (is_soft b) (list_all is_soft t) h in
     let c : (b == 44) ≡ false = soft-no-comma b p in
     let o : (b == 40) ≡ false = soft-no-opening b p in
-    rw (c, o) (closes-soft t u (second (is_soft b) (list_all is_soft t) h))
+    rw (c, o) (closes-soft t u (right_true (is_soft b) (list_all is_soft t) h))
 
 pub closes-only : (t : List ℕ) → list_all is_soft t ≡ true → closes false t ≡ true
 closes-only t h = ap (closes false) (sym (append-nil t)) ∙ closes-soft t [] h
@@ -54,9 +55,9 @@ or-true false = refl
 pub closes-inner : (t u : List ℕ) → list_all is_inner t ≡ true → closes true (t ++ u) ≡ closes true u
 closes-inner [] u h = refl
 closes-inner (b ∷ t) u h =
-    let q : (b == 41) ≡ false = inner-no-closing b (first (is_inner b) (list_all is_inner t) h) in
+    let q : (b == 41) ≡ false = inner-no-closing b (left_true (is_inner b) (list_all is_inner t) h) in
     ap₂ (λ x y. not x && closes y (t ++ u)) (not-and (b == 44)) (ap (λ c. (b == 40) || (true && not c)) q ∙ or-true (b == 40))
-    ∙ closes-inner t u (second (is_inner b) (list_all is_inner t) h)
+    ∙ closes-inner t u (right_true (is_inner b) (list_all is_inner t) h)
 
 pub some-text : (t u : List ℕ) (b : ℕ) → 0 < length (t ++ b ∷ u)
 some-text t u b = omega (arith, length-append t (b ∷ u))
@@ -119,14 +120,14 @@ no-last-mark t h = by (nat_lt 0 (length t) && (slice_index t (length t - 1) == 3
 
     by : (v : Bool) → (nat_lt 0 (length t) && (slice_index t (length t - 1) == 33)) ≡ v → before_last 33 t ≡ None
     by true e =
-        let l = some (length t) (first (nat_lt 0 (length t)) (slice_index t (length t - 1) == 33) e) in
+        let l = some (length t) (left_true (nat_lt 0 (length t)) (slice_index t (length t - 1) == 33) e) in
         let p = all-at is_soft t (length t - 1) (omega (arith, l)) h in
-        absurd (true≢false (sym (second (nat_lt 0 (length t)) (slice_index t (length t - 1) == 33) e) ∙ soft-no-mark (get_or t (length t - 1) 0) p))
+        absurd (true≢false (sym (right_true (nat_lt 0 (length t)) (slice_index t (length t - 1) == 33) e) ∙ soft-no-mark (get_or t (length t - 1) 0) p))
     by false e = rw e refl
 
 no-equals : (t : List ℕ) → list_all is_soft t ≡ true → without_equals t ≡ t
 no-equals [] h = refl
-no-equals (b ∷ t) h = rw (soft-no-equals b (first (is_soft b) (list_all is_soft t) h)) refl
+no-equals (b ∷ t) h = rw (soft-no-equals b (left_true (is_soft b) (list_all is_soft t) h)) refl
 
 -- what stands left and right
 record Sides (k v l x : List ℕ) : Type 0 where
@@ -182,7 +183,7 @@ begins-key (b ∷ k) z s x h = begins-plain (b ∷ k) (key-plain (b ∷ k) h)
 
 pub plain-key : (k z s x : List ℕ) → is_label_key k ≡ true → unblanked_requirement (((k ++ z) ++ s) ++ x) ≡ plain_requirement (((k ++ z) ++ s) ++ x)
 plain-key [] z s x h = absurd (no-key h)
-plain-key (b ∷ k) z s x h = not-marked b (((k ++ z) ++ s) ++ x) (first (is_plain b) (list_all is_plain k) (key-plain (b ∷ k) h))
+plain-key (b ∷ k) z s x h = not-marked b (((k ++ z) ++ s) ++ x) (left_true (is_plain b) (list_all is_plain k) (key-plain (b ∷ k) h))
 
 module _ (t k : List ℕ) (o : Operator) (v : List ℕ) (w : IsComparedText t k o v) where
   abbrev left : List ℕ

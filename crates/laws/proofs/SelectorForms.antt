@@ -1,10 +1,11 @@
 -- Values that say given requirements are read as these.
-use Rattle.std.proofs.Common.{◌≡◌, ℕ, List, [], ◌∷◌, Bool, true, false, cond, not, ◌&&◌, ◌||◌, Some, option_and_then, Ok, Err, ok_or, codes, is_some, refl, ap, ap₂, ◌∙◌}
+use Rattle.std.proofs.Common.{◌≡◌, ℕ, List, [], ◌∷◌, true, false, cond, not, ◌&&◌, ◌||◌, Some, option_and_then, Ok, Err, ok_or, codes, is_some, refl, ap, ap₂, ◌∙◌}
 use Rattle.std.specs.List.{list_all}
 use Rattle.std.specs.Str.{is_utf8}
 use Rattle.serde_json.specs.Data.{Data, string, array, object, Items, item, no_members, member}
 use Rattle.serde_json.specs.Written.{has_float, items_have_float}
 use Rattle.serde_json.proofs.OnLiterals.{serde_json_on_literals}
+use Rattle.definitions.proofs.Truths.{left_true, right_true}
 use Rattle.definitions.specs.declared.selectors.Operator.{Operator}
 use Rattle.definitions.specs.declared.selectors.Operator.TheVariants.{In, NotIn, Exists, DoesNotExist}
 use Rattle.definitions.specs.declared.schemas.Shape.TheVariants.{Object, Text}
@@ -14,14 +15,6 @@ use Rattle.definitions.specs.Reading.{fits, items_fit, tidied, tidied_items}
 use Rattle.laws.specs.SelectorForms.{is_sound, text_items, operator_name, expression_value, expression_items, selector_value, pair_value}
 use Rattle.definitions.specs.SelectorValues.{mistyped, operator_named, item_values, fitting, expression_requirement, expression_requirements, both, unfit, selector_of_value}
 use Rattle.definitions.specs.Selectors.{Requirement, label_key, label_value, each_read, put_first, requiring}
-
-pub first : (u v : Bool) → (u && v) ≡ true → u ≡ true
-first true v h = refl
-first false v h = h
-
-pub second : (u v : Bool) → (u && v) ≡ true → v ≡ true
-second true v h = h
-second false v h = cc
 
 pub own-value : (v : List ℕ) → is_label_value v ≡ true → label_value v ≡ Some v
 own-value v h = rw h refl
@@ -44,7 +37,7 @@ texts-tidy (v ∷ vs) = ap (item (string v)) (texts-tidy vs)
 
 values-read : (vs : List (List ℕ)) → list_all is_label_value vs ≡ true → item_values (text_items vs) ≡ Some vs
 values-read [] h = refl
-values-read (v ∷ vs) h = ap₂ put_first (own-value v (first (is_label_value v) (list_all is_label_value vs) h)) (values-read vs (second (is_label_value v) (list_all is_label_value vs) h))
+values-read (v ∷ vs) h = ap₂ put_first (own-value v (left_true (is_label_value v) (list_all is_label_value vs) h)) (values-read vs (right_true (is_label_value v) (list_all is_label_value vs) h))
 
 goes-with : (o : Operator) (vs : List (List ℕ)) → is_some (fitting o vs) ≡ true → fitting o vs ≡ Some vs
 goes-with In [] h = cc
@@ -105,16 +98,16 @@ value-parts rs = refl
 pub expression-read : (r : Requirement) → is_sound r ≡ true → expression_requirement (expression_value r) ≡ Some r
 expression-read r h =
     let kv = is_label_key r.key && list_all is_label_value r.values in
-    let k = own-key r.key (first (is_label_key r.key) (list_all is_label_value r.values) (first kv (is_some (fitting r.operator r.values)) h)) in
-    let vs = values-read r.values (second (is_label_key r.key) (list_all is_label_value r.values) (first kv (is_some (fitting r.operator r.values)) h)) in
-    let f = goes-with r.operator r.values (second kv (is_some (fitting r.operator r.values)) h) in
+    let k = own-key r.key (left_true (is_label_key r.key) (list_all is_label_value r.values) (left_true kv (is_some (fitting r.operator r.values)) h)) in
+    let vs = values-read r.values (right_true (is_label_key r.key) (list_all is_label_value r.values) (left_true kv (is_some (fitting r.operator r.values)) h)) in
+    let f = goes-with r.operator r.values (right_true kv (is_some (fitting r.operator r.values)) h) in
     parts-of r ∙ ap (λ x. option_and_then (λ (o : Operator). requiring x o (option_and_then (fitting o) (item_values (text_items r.values)))) (operator_named (operator_name r.operator))) k
     ∙ ap₂ (λ f x. option_and_then (λ (o : Operator). requiring (Some r.key) o (option_and_then (fitting o) x)) f) (named r.operator) vs
     ∙ ap (requiring (Some r.key) r.operator) f
 
 expressions-read : (rs : List Requirement) → list_all is_sound rs ≡ true → expression_requirements (expression_items rs) ≡ Some rs
 expressions-read [] h = refl
-expressions-read (r ∷ rs) h = ap₂ put_first (expression-read r (first (is_sound r) (list_all is_sound rs) h)) (expressions-read rs (second (is_sound r) (list_all is_sound rs) h))
+expressions-read (r ∷ rs) h = ap₂ put_first (expression-read r (left_true (is_sound r) (list_all is_sound rs) h)) (expressions-read rs (right_true (is_sound r) (list_all is_sound rs) h))
 
 value-says : (rs : List Requirement) → selector_of_value (selector_value rs) ≡ ok_or (both (Some []) (expression_requirements (expression_items rs))) unfit
 value-says rs = value-parts rs ∙ rw (all-whole rs, all-fit rs, all-tidy rs) refl

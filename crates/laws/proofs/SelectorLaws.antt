@@ -1,31 +1,20 @@
 -- Requirements that stand in both of two lists.
 use Rattle.std.proofs.Common.{◌≡◌, inl, inr, ◌↔◌, ℕ, List, [], ◌∷◌, ◌++◌, Bool, true, false, ◌&&◌, None, refl, sym, ap, ◌∙◌}
 use Rattle.serde_json.specs.Data.{Members}
+use Rattle.definitions.proofs.Truths.{and_true, left_true, right_true}
 use Rattle.definitions.specs.declared.selectors.Operator.TheVariants.{In, NotIn}
 use Rattle.definitions.specs.Labels.{label_at}
 use Rattle.definitions.specs.Selectors.{Requirement, holds, meets, meets_all}
 use Rattle.laws.specs.SelectorLaws.{IsSaid}
 
-and-first : (u v : Bool) → (u && v) ≡ true → u ≡ true
-and-first true v h = refl
-and-first false v h = h
-
-and-second : (u v : Bool) → (u && v) ≡ true → v ≡ true
-and-second true v h = h
-and-second false v h = cc
-
-and-true : (u v : Bool) → u ≡ true → v ≡ true → (u && v) ≡ true
-and-true true v h k = k
-and-true false v h k = h
-
 meets-said : (r : Requirement) (rs : List Requirement) (l : Members) → meets_all rs l ≡ true → IsSaid r rs → meets r l ≡ true
 meets-said r [] l h m = absurd m
-meets-said r (s ∷ rs) l h (inl e) = ap (λ q. meets q l) e ∙ and-first (meets s l) (meets_all rs l) h
-meets-said r (s ∷ rs) l h (inr m) = meets-said r rs l (and-second (meets s l) (meets_all rs l) h) m
+meets-said r (s ∷ rs) l h (inl e) = ap (λ q. meets q l) e ∙ left_true (meets s l) (meets_all rs l) h
+meets-said r (s ∷ rs) l h (inr m) = meets-said r rs l (right_true (meets s l) (meets_all rs l) h) m
 
 meets-each : (rs : List Requirement) (l : Members) → ((r : Requirement) → IsSaid r rs → meets r l ≡ true) → meets_all rs l ≡ true
 meets-each [] l f = refl
-meets-each (s ∷ rs) l f = and-true (meets s l) (meets_all rs l) (f s (inl refl)) (meets-each rs l (λ r m. f r (inr m)))
+meets-each (s ∷ rs) l f = and_true (meets s l) (meets_all rs l) (f s (inl refl)) (meets-each rs l (λ r m. f r (inr m)))
 
 both-true : (u v : Bool) → (u ≡ true → v ≡ true) → (v ≡ true → u ≡ true) → u ≡ v
 both-true true v f g = sym (f refl)

@@ -5,14 +5,14 @@ use Rattle.std.proofs.lemmas.List.{take_more}
 use Rattle.std.proofs.lemmas.List.Splits.{join_with_byte-slice_split, length-slice_split}
 use Rattle.std.proofs.lemmas.List.Sums.{split_at_first, passes_at_first}
 use Rattle.std.specs.List.{list_any, before_first, after_first, count_by, join_with_byte, position_or_len, slice_split}
+use Rattle.definitions.proofs.Truths.{left_true, right_true}
 use Rattle.definitions.specs.declared.selectors.Operator.{Operator}
 use Rattle.definitions.specs.Labels.{is_label_key, is_label_value}
 use Rattle.laws.specs.SelectorGrammar.{AreBlanks, IsValueText, AreValuesText, IsKeyText}
 use Rattle.definitions.specs.Selectors.{Requirement, label_key, label_value, each_read, only_if, put_first, requiring}
 use Rattle.definitions.specs.SelectorTexts.{is_blank, is_comma, trimmed, before_last, value_in}
 use Rattle.laws.proofs.SelectorBlanks.{all-append, trims}
-use Rattle.laws.proofs.SelectorForms.{first, second}
-use Rattle.laws.proofs.SelectorPlain.{some-place}
+use Rattle.definitions.proofs.FirstPlaces.{some-place}
 
 -- ---- what a result says of its parts
 
@@ -93,7 +93,7 @@ written-value t z v g is =
 pub same-byte : (a b : ℕ) → (a == b) ≡ true → a ≡ b
 same-byte a b h = grind (arith, nat_tests)
 
--- a text is cut at the first byte that passes a test
+-- a text is cut at the left_true byte that passes a test
 pub cut-back : (p : ℕ → Bool) (t : List ℕ) → list_any p t ≡ true → (x : ℕ) × (p x ≡ true) × (t ≡ before_first p t ++ x ∷ after_first p t)
 cut-back p t h = let l = some-place p t h in (get_or t (position_or_len p t) 0, passes_at_first p t 0 l, split_at_first p t 0 l)
 
@@ -106,10 +106,10 @@ last-back b t s h =
     let some = nat_lt 0 (length t) in
     let here = slice_index t (length t - 1) == b in
     let o = only (some && here) (take (length t - 1) t) s h in
-    let l = positive (length t) (first some here o.0) in
+    let l = positive (length t) (left_true some here o.0) in
     sym (ap (λ n. take n t) (one-less (length t) l) ∙ take_all (length t) t (omega arith))
     ∙ take_more t (length t - 1) 0 (less (length t) l)
-    ∙ ap₂ (λ x y. x ++ y ∷ []) o.1 (same-byte (slice_index t (length t - 1)) b (second some here o.0))
+    ∙ ap₂ (λ x y. x ++ y ∷ []) o.1 (same-byte (slice_index t (length t - 1)) b (right_true some here o.0))
   where
     positive : (n : ℕ) → nat_lt 0 n ≡ true → 0 < n
     positive n h = grind (arith, nat_tests)

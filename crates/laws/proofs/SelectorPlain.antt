@@ -1,12 +1,13 @@
 -- Keys and values of labels have none of the marks of a selector's text.
-use Rattle.std.proofs.Common.{◌≡◌, ℕ, suc, ◌+◌, ◌<◌, ◌≤◌, List, [], ◌∷◌, ◌++◌, Bool, true, false, not, ◌&&◌, ◌||◌, ◌==◌, nat_lt, nat_le, length, reverse, take, drop, refl, arith, get_or, slice_index, ◌-◌, subst, sym, ap, ◌∙◌}
+use Rattle.std.proofs.Common.{◌≡◌, ℕ, suc, ◌+◌, ◌<◌, List, [], ◌∷◌, ◌++◌, Bool, true, false, not, ◌&&◌, ◌||◌, ◌==◌, nat_lt, nat_le, length, reverse, take, drop, refl, arith, get_or, slice_index, ◌-◌, subst, sym, ap, ◌∙◌}
 use Rattle.std.proofs.lemmas.Bool.Decides.{nat_tests}
 use Rattle.std.proofs.Math.Seq.{take-append_seam, drop-append-add}
 use Rattle.std.proofs.lemmas.List.{reverse-append, reverse-reverse}
 use Rattle.std.proofs.lemmas.List.Folds.{list_all-append}
-use Rattle.std.proofs.lemmas.List.Sums.{split_at_first, passes_at_first, fails_before_first}
+use Rattle.std.proofs.lemmas.List.Sums.{split_at_first, passes_at_first}
 use Rattle.std.specs.List.{list_all, list_any, join_with_byte, slice_split, onto_first, before_first, after_first, position_or_len}
-use Rattle.laws.proofs.SelectorForms.{first, second}
+use Rattle.definitions.proofs.FirstPlaces.{some-place}
+use Rattle.definitions.proofs.Truths.{and_true, left_true, right_true}
 use Rattle.definitions.specs.Keys.{is_letter_or_digit, is_label, is_subdomain}
 use Rattle.definitions.specs.Labels.{is_name_byte, is_alphanumeric, is_short_name, is_label_value, is_label_key, is_slash}
 use Rattle.definitions.specs.SelectorTexts.{is_blank, is_comma, is_equals, is_opening, without_first_blanks, trimmed}
@@ -38,10 +39,6 @@ plain-no-closing b h = grind (arith, nat_tests)
 pub plain-no-mark : (b : ℕ) → is_plain b ≡ true → is_mark b ≡ false
 plain-no-mark b h = grind (arith, nat_tests)
 
-pub and-true : (u v : Bool) → u ≡ true → v ≡ true → (u && v) ≡ true
-and-true true v h k = k
-and-true false v h k = h
-
 or-true : (u v : Bool) → u ≡ true → (u || v) ≡ true
 or-true true v h = refl
 or-true false v h = cc
@@ -52,13 +49,13 @@ or-second false v h = h
 
 pub none : (p : ℕ → Bool) → ((b : ℕ) → is_plain b ≡ true → p b ≡ false) → (t : List ℕ) → list_all is_plain t ≡ true → list_any p t ≡ false
 none p f [] h = refl
-none p f (b ∷ t) h = rw (f b (first (is_plain b) (list_all is_plain t) h)) (none p f t (second (is_plain b) (list_all is_plain t) h))
+none p f (b ∷ t) h = rw (f b (left_true (is_plain b) (list_all is_plain t) h)) (none p f t (right_true (is_plain b) (list_all is_plain t) h))
 
 names-plain : (t : List ℕ) → list_all is_name_byte t ≡ true → list_all is_plain t ≡ true
 names-plain [] h = refl
 names-plain (b ∷ t) h =
-    and-true (is_plain b) (list_all is_plain t) (or-true (is_name_byte b) (is_slash b) (first (is_name_byte b) (list_all is_name_byte t) h))
-    (names-plain t (second (is_name_byte b) (list_all is_name_byte t) h))
+    and_true (is_plain b) (list_all is_plain t) (or-true (is_name_byte b) (is_slash b) (left_true (is_name_byte b) (list_all is_name_byte t) h))
+    (names-plain t (right_true (is_name_byte b) (list_all is_name_byte t) h))
 
 short-plain : (t : List ℕ) → is_short_name t ≡ true → list_all is_plain t ≡ true
 short-plain t h =
@@ -66,7 +63,7 @@ short-plain t h =
     let names = list_all is_name_byte t in
     let begins = is_alphanumeric (slice_index t 0) in
     let ends = is_alphanumeric (slice_index t (length t - 1)) in
-    names-plain t (second long names (first (long && names) begins (first (long && names && begins) ends h)))
+    names-plain t (right_true long names (left_true (long && names) begins (left_true (long && names && begins) ends h)))
 
 pub value-plain : (t : List ℕ) → is_label_value t ≡ true → list_all is_plain t ≡ true
 value-plain [] h = refl
@@ -95,11 +92,11 @@ slash-plain : (b : ℕ) → is_slash b ≡ true → is_plain b ≡ true
 slash-plain b h = grind (arith, nat_tests)
 
 onto : (c : ℕ) (ps : List (List ℕ)) → list_all (list_all is_domain_byte) (onto_first c ps) ≡ true → (is_domain_byte c ≡ true) × (list_all (list_all is_domain_byte) ps ≡ true)
-onto c [] h = (first (is_domain_byte c) true (first (is_domain_byte c && true) true h), refl)
+onto c [] h = (left_true (is_domain_byte c) true (left_true (is_domain_byte c && true) true h), refl)
 onto c (p ∷ ps) h =
-    let front = first (is_domain_byte c && list_all is_domain_byte p) (list_all (list_all is_domain_byte) ps) h in
-    let back = second (is_domain_byte c && list_all is_domain_byte p) (list_all (list_all is_domain_byte) ps) h in
-    (first (is_domain_byte c) (list_all is_domain_byte p) front, and-true (list_all is_domain_byte p) (list_all (list_all is_domain_byte) ps) (second (is_domain_byte c) (list_all is_domain_byte p) front) back)
+    let front = left_true (is_domain_byte c && list_all is_domain_byte p) (list_all (list_all is_domain_byte) ps) h in
+    let back = right_true (is_domain_byte c && list_all is_domain_byte p) (list_all (list_all is_domain_byte) ps) h in
+    (left_true (is_domain_byte c) (list_all is_domain_byte p) front, and_true (list_all is_domain_byte p) (list_all (list_all is_domain_byte) ps) (right_true (is_domain_byte c) (list_all is_domain_byte p) front) back)
 
 parts-plain : (t : List ℕ) → list_all (list_all is_domain_byte) (slice_split is_dot t) ≡ true → list_all is_plain t ≡ true
 parts-plain [] h = refl
@@ -108,11 +105,11 @@ parts-plain (b ∷ t) h = by (is_dot b) (λ g. parts-plain t g) refl
     by : (v : Bool) → (list_all (list_all is_domain_byte) (slice_split is_dot t) ≡ true → list_all is_plain t ≡ true) → is_dot b ≡ v → list_all is_plain (b ∷ t) ≡ true
     by true more e =
         let g : list_all (list_all is_domain_byte) (slice_split is_dot t) ≡ true = rw e at h in
-        and-true (is_plain b) (list_all is_plain t) (dot-plain b e) (more g)
+        and_true (is_plain b) (list_all is_plain t) (dot-plain b e) (more g)
     by false more e =
         let g : list_all (list_all is_domain_byte) (onto_first b (slice_split is_dot t)) ≡ true = rw e at h in
         let o = onto b (slice_split is_dot t) g in
-        and-true (is_plain b) (list_all is_plain t) (domain-plain b o.0) (more o.1)
+        and_true (is_plain b) (list_all is_plain t) (domain-plain b o.0) (more o.1)
 
 label-bytes : (t : List ℕ) → is_label t ≡ true → list_all is_domain_byte t ≡ true
 label-bytes t h =
@@ -120,48 +117,28 @@ label-bytes t h =
     let names = list_all is_domain_byte t in
     let begins = is_letter_or_digit (slice_index t 0) in
     let ends = is_letter_or_digit (slice_index t (length t - 1)) in
-    second long names (first (long && names) begins (first (long && names && begins) ends h))
+    right_true long names (left_true (long && names) begins (left_true (long && names && begins) ends h))
 
 labels-bytes : (ps : List (List ℕ)) → list_all is_label ps ≡ true → list_all (list_all is_domain_byte) ps ≡ true
 labels-bytes [] h = refl
 labels-bytes (p ∷ ps) h =
-    and-true (list_all is_domain_byte p) (list_all (list_all is_domain_byte) ps) (label-bytes p (first (is_label p) (list_all is_label ps) h)) (labels-bytes ps (second (is_label p) (list_all is_label ps) h))
+    and_true (list_all is_domain_byte p) (list_all (list_all is_domain_byte) ps) (label-bytes p (left_true (is_label p) (list_all is_label ps) h)) (labels-bytes ps (right_true (is_label p) (list_all is_label ps) h))
 
 bytes-plain : (t : List ℕ) → list_all is_domain_byte t ≡ true → list_all is_plain t ≡ true
 bytes-plain [] h = refl
 bytes-plain (b ∷ t) h =
-    and-true (is_plain b) (list_all is_plain t) (domain-plain b (first (is_domain_byte b) (list_all is_domain_byte t) h)) (bytes-plain t (second (is_domain_byte b) (list_all is_domain_byte t) h))
+    and_true (is_plain b) (list_all is_plain t) (domain-plain b (left_true (is_domain_byte b) (list_all is_domain_byte t) h)) (bytes-plain t (right_true (is_domain_byte b) (list_all is_domain_byte t) h))
 
 pub label-plain : (t : List ℕ) → is_label t ≡ true → list_all is_plain t ≡ true
 label-plain t h = bytes-plain t (label-bytes t h)
 
 pub subdomain-plain : (t : List ℕ) → is_subdomain t ≡ true → list_all is_plain t ≡ true
-subdomain-plain t h = parts-plain t (labels-bytes (slice_split is_dot t) (first (list_all is_label (slice_split is_dot t)) (nat_le (length t) 253) h))
-
-both-values : (v : Bool) → v ≡ true → v ≡ false → ⊥
-both-values true h k = cc
-both-values false h k = cc
-
-none-passes : (p : ℕ → Bool) (t : List ℕ) → ((k : ℕ) → k < length t → p (get_or t k 0) ≡ false) → list_any p t ≡ false
-none-passes p [] h = refl
-none-passes p (x ∷ t) h =
-    let here : p x ≡ false = h 0 (omega arith) in
-    rw here (none-passes p t (λ k l. h (suc k) (omega (arith, l))))
-
-pub some-place : (p : ℕ → Bool) (t : List ℕ) → list_any p t ≡ true → position_or_len p t < length t
-some-place p t h = by (nat_lt (position_or_len p t) (length t)) refl
-  where
-    by : (v : Bool) → nat_lt (position_or_len p t) (length t) ≡ v → position_or_len p t < length t
-    by true e = grind (arith, nat_tests)
-    by false e =
-        let far : length t ≤ position_or_len p t = grind (arith, nat_tests) in
-        let n : list_any p t ≡ false = none-passes p t (λ k l. fails_before_first p t k 0 (omega (arith, far, l))) in
-        absurd (both-values (list_any p t) h n)
+subdomain-plain t h = parts-plain t (labels-bytes (slice_split is_dot t) (left_true (list_all is_label (slice_split is_dot t)) (nat_le (length t) 253) h))
 
 one-more : (n : ℕ) → 1 + n ≡ suc n
 one-more n = omega arith
 
--- a list is cut at its first element that passes
+-- a list is cut at its left_true element that passes
 pub position : (p : ℕ → Bool) (t : List ℕ) (x : ℕ) (u : List ℕ) → list_any p t ≡ false → p x ≡ true → position_or_len p (t ++ x ∷ u) ≡ length t
 position p [] x u h g = rw g refl
 position p (b ∷ t) x u h g = by (p b) (λ k. position p t x u k g) refl
@@ -198,24 +175,24 @@ split-here p (b ∷ t) x u h g = by (p b) (λ k. split-here p t x u k g) refl
 
 -- what is joined by commas is split at them
 pub joined-split : (v : List ℕ) (vs : List (List ℕ)) → list_all (λ w. list_all is_plain w) (v ∷ vs) ≡ true → slice_split is_comma (join_with_byte 44 (v ∷ vs)) ≡ v ∷ vs
-joined-split v [] h = split-nowhere is_comma v (none is_comma plain-no-comma v (first (list_all is_plain v) true h))
+joined-split v [] h = split-nowhere is_comma v (none is_comma plain-no-comma v (left_true (list_all is_plain v) true h))
 joined-split v (w ∷ vs) h =
-    split-here is_comma v 44 (join_with_byte 44 (w ∷ vs)) (none is_comma plain-no-comma v (first (list_all is_plain v) (list_all (λ x. list_all is_plain x) (w ∷ vs)) h)) refl
-    ∙ ap (λ x. v ∷ x) (joined-split w vs (second (list_all is_plain v) (list_all (λ x. list_all is_plain x) (w ∷ vs)) h))
+    split-here is_comma v 44 (join_with_byte 44 (w ∷ vs)) (none is_comma plain-no-comma v (left_true (list_all is_plain v) (list_all (λ x. list_all is_plain x) (w ∷ vs)) h)) refl
+    ∙ ap (λ x. v ∷ x) (joined-split w vs (right_true (list_all is_plain v) (list_all (λ x. list_all is_plain x) (w ∷ vs)) h))
 
 pub key-plain : (t : List ℕ) → is_label_key t ≡ true → list_all is_plain t ≡ true
 key-plain t h = by (list_any is_slash t) refl
   where
     pieces : (f b : List ℕ) → list_all is_plain f ≡ true → list_all is_plain b ≡ true → (x : ℕ) → is_slash x ≡ true → list_all is_plain (f ++ x ∷ b) ≡ true
-    pieces f b hf hb x hx = list_all-append is_plain f (x ∷ b) ∙ and-true (list_all is_plain f) (list_all is_plain (x ∷ b)) hf (and-true (is_plain x) (list_all is_plain b) (slash-plain x hx) hb)
+    pieces f b hf hb x hx = list_all-append is_plain f (x ∷ b) ∙ and_true (list_all is_plain f) (list_all is_plain (x ∷ b)) hf (and_true (is_plain x) (list_all is_plain b) (slash-plain x hx) hb)
 
     by : (v : Bool) → list_any is_slash t ≡ v → list_all is_plain t ≡ true
     by true e =
         let g : (is_subdomain (before_first is_slash t) && is_short_name (after_first is_slash t)) ≡ true = rw e at h in
         let l = some-place is_slash t e in
         let x = get_or t (position_or_len is_slash t) 0 in
-        let front = subdomain-plain (before_first is_slash t) (first (is_subdomain (before_first is_slash t)) (is_short_name (after_first is_slash t)) g) in
-        let back = short-plain (after_first is_slash t) (second (is_subdomain (before_first is_slash t)) (is_short_name (after_first is_slash t)) g) in
+        let front = subdomain-plain (before_first is_slash t) (left_true (is_subdomain (before_first is_slash t)) (is_short_name (after_first is_slash t)) g) in
+        let back = short-plain (after_first is_slash t) (right_true (is_subdomain (before_first is_slash t)) (is_short_name (after_first is_slash t)) g) in
         subst (λ z. list_all is_plain z ≡ true) (sym (split_at_first is_slash t 0 l)) (pieces (before_first is_slash t) (after_first is_slash t) front back x (passes_at_first is_slash t 0 l))
     by false e =
         let g : is_short_name t ≡ true = rw e at h in
@@ -245,13 +222,13 @@ not-true false h = refl
 
 pub begins-plain : (t : List ℕ) → list_all is_plain t ≡ true → begins t ≡ true
 begins-plain [] h = refl
-begins-plain (b ∷ t) h = not-true (is_blank b) (plain-no-blank b (first (is_plain b) (list_all is_plain t) h))
+begins-plain (b ∷ t) h = not-true (is_blank b) (plain-no-blank b (left_true (is_plain b) (list_all is_plain t) h))
 
 reverse-plain : (t : List ℕ) → list_all is_plain t ≡ true → list_all is_plain (reverse t) ≡ true
 reverse-plain [] h = refl
 reverse-plain (b ∷ t) h =
     ap (list_all is_plain) (reverse-append (b ∷ []) t) ∙ list_all-append is_plain (reverse t) (b ∷ [])
-    ∙ and-true (list_all is_plain (reverse t)) (is_plain b && true) (reverse-plain t (second (is_plain b) (list_all is_plain t) h)) (and-true (is_plain b) true (first (is_plain b) (list_all is_plain t) h) refl)
+    ∙ and_true (list_all is_plain (reverse t)) (is_plain b && true) (reverse-plain t (right_true (is_plain b) (list_all is_plain t) h)) (and_true (is_plain b) true (left_true (is_plain b) (list_all is_plain t) h) refl)
 
 pub trimmed-plain : (t : List ℕ) → list_all is_plain t ≡ true → trimmed t ≡ t
 trimmed-plain t h = trimmed-is t (begins-plain t h) (begins-plain (reverse t) (reverse-plain t h))

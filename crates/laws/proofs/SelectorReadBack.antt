@@ -3,6 +3,7 @@ use Rattle.std.proofs.Common.{◌≡◌, ℕ, ◌+◌, ◌<◌, ◌≤◌, List,
 use Rattle.std.proofs.lemmas.List.{drop_all}
 use Rattle.std.proofs.lemmas.Slice.Eq.{bytes_eq-Decides}
 use Rattle.std.specs.List.{list_all, list_any, before_first, after_first, join_with_byte, onto_first, position_or_len, slice_split}
+use Rattle.definitions.proofs.Truths.{and_true, left_true}
 use Rattle.definitions.specs.declared.selectors.Operator.{Operator}
 use Rattle.definitions.specs.declared.selectors.Operator.TheVariants.{In, NotIn, Exists, DoesNotExist}
 use Rattle.laws.specs.GrammarLaws.{ReadTextsAreWritten}
@@ -11,8 +12,6 @@ use Rattle.definitions.specs.Selectors.{Requirement, label_key, label_value, eac
 use Rattle.definitions.specs.SelectorTexts as texts
 use Rattle.definitions.specs.SelectorTexts.{is_blank, is_comma, is_equals, is_opening, trimmed, still_inside, parts_from, parts, before_last, compared_requirement, without_equals, set_operator, value_in, listed_values, in_requirement, plain_requirement, unblanked_requirement, requirement, selector_of_text}
 use Rattle.laws.proofs.SelectorBlanks.{only-blanks, shortened, trims}
-use Rattle.laws.proofs.SelectorForms.{first}
-use Rattle.laws.proofs.SelectorPlain.{and-true}
 use Rattle.laws.proofs.SelectorPieces.{required, put, one-list, key-is, written-key, written-value, same-byte, at-byte, cut-back, last-back, Joined, joined, values-written}
 
 -- a text that is written with this requirement, blanks before and after it
@@ -169,7 +168,7 @@ module _ (a c z : List ℕ) (r : Requirement) (h : AreBlanks a) (g : AreBlanks z
         after = z;
         is_before = h;
         is_key = k.0;
-        is_apart = and-true (is_blank x.0) (list_all is_blank s.before) x.1 s.is_before;
+        is_apart = and_true (is_blank x.0) (list_all is_blank s.before) x.1 s.is_before;
         is_some_apart = omega arith;
         is_word = word-back (trimmed rest) w.operator w.is_operator;
         is_between = s.is_after;
@@ -244,7 +243,7 @@ join-parts inside (b ∷ t) = by ((b == 44) && not inside) refl (join-parts fals
   where
     by : (v : Bool) → ((b == 44) && not inside) ≡ v → join_with_byte 44 (parts_from false t) ≡ t → join_with_byte 44 (parts_from (still_inside inside b) t) ≡ t
         → join_with_byte 44 (cond v ([] ∷ parts_from false t) (onto_first b (parts_from (still_inside inside b) t))) ≡ b ∷ t
-    by true e f g = join-after (parts_from false t) (some-parts false t) ∙ ap₂ (λ x y. x ∷ y) (sym (same-byte b 44 (first (b == 44) (not inside) e))) f
+    by true e f g = join-after (parts_from false t) (some-parts false t) ∙ ap₂ (λ x y. x ∷ y) (sym (same-byte b 44 (left_true (b == 44) (not inside) e))) f
     by false e f g = join-onto b (parts_from (still_inside inside b) t) ∙ ap (λ y. b ∷ y) g
 
 as-selector : (rs : List Requirement) (t : List ℕ) → Joined IsRequirementText t rs → IsSelectorText t rs

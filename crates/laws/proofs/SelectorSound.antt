@@ -6,6 +6,7 @@ use Rattle.std.proofs.lemmas.List.Folds.{list_all-append}
 use Rattle.serde_json.specs.Data.{Data, Items, no_items, item, Members, no_members, member}
 use Rattle.serde_json.specs.Find.{get}
 use Rattle.serde_json.specs.Written.{has_float}
+use Rattle.definitions.proofs.Truths.{and_true}
 use Rattle.definitions.specs.Reading.{fits, tidied}
 use Rattle.definitions.specs.declared.selectors.Operator.{Operator}
 use Rattle.definitions.specs.declared.selectors.Operator.TheVariants.{In, NotIn, Exists, DoesNotExist}
@@ -15,7 +16,6 @@ use Rattle.definitions.specs.SelectorTexts.{is_blank, is_comma, is_equals, is_op
 use Rattle.definitions.specs.SelectorValues.{Flaw, mistyped, unfit, selector_shape, requirements_in, text_in, items_in, label_requirements, operator_named, item_values, fitting, expression_requirement, expression_requirements, both, selector_of_value}
 use Rattle.definitions.specs.Values.{inner_of}
 use Rattle.definitions.specs.Selectors.{Requirement, label_key, label_value, each_read, only_if, put_first, requiring}
-use Rattle.laws.proofs.SelectorPlain.{and-true}
 
 abbrev IsSoundOr : Option Requirement → Type 0
 IsSoundOr None = Unit {0}
@@ -32,7 +32,7 @@ required k o vs f = by (is_label_key k) vs f refl
     by : (b : Bool) (vs : Option (List (List ℕ))) → Fit o vs → is_label_key k ≡ b → IsSoundOr (requiring (label_key k) o vs)
     by false vs f e = rw e tt
     by true None f e = rw e tt
-    by true (Some vs) f e = rw e (and-true (is_label_key k && list_all is_label_value vs) (is_some (fitting o vs)) (and-true (is_label_key k) (list_all is_label_value vs) e f.0) f.1)
+    by true (Some vs) f e = rw e (and_true (is_label_key k && list_all is_label_value vs) (is_some (fitting o vs)) (and_true (is_label_key k) (list_all is_label_value vs) e f.0) f.1)
 
 -- one value, or more
 abbrev Valued : Option (List (List ℕ)) → Type 0
@@ -61,7 +61,7 @@ valued-first t rest h = by (is_label_value t) rest h refl
     by : (b : Bool) (rest : Option (List (List ℕ))) → AllValued rest → is_label_value t ≡ b → Valued (put_first (label_value t) rest)
     by false rest h e = rw e tt
     by true None h e = rw e tt
-    by true (Some vs) h e = rw e (and-true (is_label_value t) (list_all is_label_value vs) e h)
+    by true (Some vs) h e = rw e (and_true (is_label_value t) (list_all is_label_value vs) e h)
 
 weaker : (vs : Option (List (List ℕ))) → Valued vs → AllValued vs
 weaker None h = tt
@@ -145,7 +145,7 @@ AreSoundOr (Some rs) = list_all is_sound rs ≡ true
 put-sound : (r : Option Requirement) (rs : Option (List Requirement)) → IsSoundOr r → AreSoundOr rs → AreSoundOr (put_first r rs)
 put-sound None rs h g = tt
 put-sound (Some r) None h g = tt
-put-sound (Some r) (Some rs) h g = and-true (is_sound r) (list_all is_sound rs) h g
+put-sound (Some r) (Some rs) h g = and_true (is_sound r) (list_all is_sound rs) h g
 
 each-sound : (ts : List (List ℕ)) → AreSoundOr (each_read requirement ts)
 each-sound [] = refl
@@ -192,7 +192,7 @@ expressions-sound (item d ds) =
 both-sound : (rs ss : Option (List Requirement)) → AreSoundOr rs → AreSoundOr ss → AreSoundOr (both rs ss)
 both-sound None ss h g = tt
 both-sound (Some rs) None h g = tt
-both-sound (Some rs) (Some ss) h g = list_all-append is_sound rs ss ∙ and-true (list_all is_sound rs) (list_all is_sound ss) h g
+both-sound (Some rs) (Some ss) h g = list_all-append is_sound rs ss ∙ and_true (list_all is_sound rs) (list_all is_sound ss) h g
 
 abbrev AreSoundOk : Result (List Requirement) Flaw → Type 0
 AreSoundOk (Ok rs) = list_all is_sound rs ≡ true

@@ -5,6 +5,7 @@ use Rattle.std.proofs.lemmas.List.{length-append, get_or_push, reverse-append}
 use Rattle.std.proofs.lemmas.List.Folds.{list_any-append}
 use Rattle.std.proofs.Math.Seq.{take-append_seam}
 use Rattle.std.specs.List.{list_all, list_any, before_first, after_first, onto_first, slice_split, join_with_byte}
+use Rattle.definitions.proofs.Truths.{and_true, left_true, not_both, right_true}
 use Rattle.definitions.specs.declared.selectors.Operator.{Operator}
 use Rattle.definitions.specs.declared.selectors.Operator.TheVariants.{In, NotIn, Exists, DoesNotExist}
 use Rattle.definitions.specs.Labels.{is_label_key, is_label_value}
@@ -12,8 +13,8 @@ use Rattle.laws.specs.SelectorForms.{is_sound, text_with, requirement_text, sele
 use Rattle.definitions.specs.SelectorTexts.{is_blank, is_comma, is_equals, is_opening, trimmed, still_inside, parts_from, parts, before_last, compared, compared_requirement, without_equals, set_operator, value_in, listed_values, in_requirement, plain_requirement, unblanked_requirement, requirement, selector_of_text}
 use Rattle.definitions.specs.SelectorValues.{fitting}
 use Rattle.definitions.specs.Selectors.{Requirement, label_key, label_value, each_read, only_if, put_first, requiring}
-use Rattle.laws.proofs.SelectorForms.{first, second, own-key, own-value}
-use Rattle.laws.proofs.SelectorPlain.{is_plain, and-true, none, plain-no-blank, plain-no-comma, plain-no-equals, plain-no-opening, plain-no-closing, plain-no-mark, cut-at, key-plain, value-plain, joined-split, begins, begins-plain, trimmed-is, trimmed-plain, ends-with, ends-in}
+use Rattle.laws.proofs.SelectorForms.{own-key, own-value}
+use Rattle.laws.proofs.SelectorPlain.{is_plain, none, plain-no-blank, plain-no-comma, plain-no-equals, plain-no-opening, plain-no-closing, plain-no-mark, cut-at, key-plain, value-plain, joined-split, begins, begins-plain, trimmed-is, trimmed-plain, ends-with, ends-in}
 
 -- ---- parts
 
@@ -51,8 +52,8 @@ passes-on : (inside : Bool) (t u : List ℕ) → closes inside t ≡ true → pa
 passes-on true [] u h = cc
 passes-on false [] u h = sym (some-parts false u)
 passes-on inside (b ∷ t) u h =
-    let e = no-not ((b == 44) && not inside) (first (not ((b == 44) && not inside)) (closes (still_inside inside b) t) h) in
-    let k = second (not ((b == 44) && not inside)) (closes (still_inside inside b) t) h in
+    let e = no-not ((b == 44) && not inside) (left_true (not ((b == 44) && not inside)) (closes (still_inside inside b) t) h) in
+    let k = right_true (not ((b == 44) && not inside)) (closes (still_inside inside b) t) h in
     rw e (ap (onto_first b) (passes-on (still_inside inside b) t u k) ∙ put-onto b t (parts_from false u))
 
 pub one-part : (t : List ℕ) → closes false t ≡ true → parts t ≡ t ∷ []
@@ -68,41 +69,37 @@ plain-outside b h = (plain-no-comma b h, plain-no-opening b h, plain-no-closing 
 closes-plain : (t u : List ℕ) → list_all is_plain t ≡ true → closes false (t ++ u) ≡ closes false u
 closes-plain [] u h = refl
 closes-plain (b ∷ t) u h =
-    let p = first (is_plain b) (list_all is_plain t) h in
+    let p = left_true (is_plain b) (list_all is_plain t) h in
     let c : (b == 44) ≡ false = plain-no-comma b p in
     let o : (b == 40) ≡ false = plain-no-opening b p in
-    rw (c, o) (closes-plain t u (second (is_plain b) (list_all is_plain t) h))
+    rw (c, o) (closes-plain t u (right_true (is_plain b) (list_all is_plain t) h))
 
 closes-inside : (t u : List ℕ) → list_all is_plain t ≡ true → closes true (t ++ u) ≡ closes true u
 closes-inside [] u h = refl
 closes-inside (b ∷ t) u h =
-    let p = first (is_plain b) (list_all is_plain t) h in
+    let p = left_true (is_plain b) (list_all is_plain t) h in
     let c : (b == 44) ≡ false = plain-no-comma b p in
     let o : (b == 40) ≡ false = plain-no-opening b p in
     let q : (b == 41) ≡ false = plain-no-closing b p in
-    rw (c, o, q) (closes-inside t u (second (is_plain b) (list_all is_plain t) h))
+    rw (c, o, q) (closes-inside t u (right_true (is_plain b) (list_all is_plain t) h))
 
 abbrev all_plain : List (List ℕ) → Bool
 all_plain vs = list_all (λ w. list_all is_plain w) vs
 
 closes-joined : (vs : List (List ℕ)) (u : List ℕ) → all_plain vs ≡ true → closes true (join_with_byte 44 vs ++ u) ≡ closes true u
 closes-joined [] u h = refl
-closes-joined (v ∷ []) u h = closes-inside v u (first (list_all is_plain v) true h)
+closes-joined (v ∷ []) u h = closes-inside v u (left_true (list_all is_plain v) true h)
 closes-joined (v ∷ w ∷ vs) u h =
     ap (closes true) (append_assoc v (44 ∷ join_with_byte 44 (w ∷ vs)) u)
-    ∙ closes-inside v (44 ∷ (join_with_byte 44 (w ∷ vs) ++ u)) (first (list_all is_plain v) (all_plain (w ∷ vs)) h)
-    ∙ closes-joined (w ∷ vs) u (second (list_all is_plain v) (all_plain (w ∷ vs)) h)
+    ∙ closes-inside v (44 ∷ (join_with_byte 44 (w ∷ vs) ++ u)) (left_true (list_all is_plain v) (all_plain (w ∷ vs)) h)
+    ∙ closes-joined (w ∷ vs) u (right_true (list_all is_plain v) (all_plain (w ∷ vs)) h)
 
 -- ---- ends
 
 at-plain : (t : List ℕ) (i : ℕ) → i < length t → list_all is_plain t ≡ true → is_plain (get_or t i 0) ≡ true
 at-plain [] i l h = absurd (omega (arith, l))
-at-plain (b ∷ t) zero l h = first (is_plain b) (list_all is_plain t) h
-at-plain (b ∷ t) (suc i) l h = at-plain t i (omega (arith, l)) (second (is_plain b) (list_all is_plain t) h)
-
-not-both : (u : Bool) → u ≡ true → u ≡ false → ⊥
-not-both true h k = cc
-not-both false h k = cc
+at-plain (b ∷ t) zero l h = left_true (is_plain b) (list_all is_plain t) h
+at-plain (b ∷ t) (suc i) l h = at-plain t i (omega (arith, l)) (right_true (is_plain b) (list_all is_plain t) h)
 
 some-length : (n : ℕ) → nat_lt 0 n ≡ true → 0 < n
 some-length n h = grind (arith, nat_tests)
@@ -112,9 +109,9 @@ no-last-mark t h = by (nat_lt 0 (length t) && (slice_index t (length t - 1) == 3
   where
     by : (v : Bool) → (nat_lt 0 (length t) && (slice_index t (length t - 1) == 33)) ≡ v → before_last 33 t ≡ None
     by true e =
-        let l = some-length (length t) (first (nat_lt 0 (length t)) (slice_index t (length t - 1) == 33) e) in
+        let l = some-length (length t) (left_true (nat_lt 0 (length t)) (slice_index t (length t - 1) == 33) e) in
         let p = at-plain t (length t - 1) (omega (arith, l)) h in
-        absurd (not-both (slice_index t (length t - 1) == 33) (second (nat_lt 0 (length t)) (slice_index t (length t - 1) == 33) e) (plain-no-mark (get_or t (length t - 1) 0) p))
+        absurd (not_both (slice_index t (length t - 1) == 33) (right_true (nat_lt 0 (length t)) (slice_index t (length t - 1) == 33) e) (plain-no-mark (get_or t (length t - 1) 0) p))
     by false e = rw e refl
 
 long-enough : (n m : ℕ) → n ≡ m + 1 → nat_lt 0 n ≡ true
@@ -130,7 +127,7 @@ last-here t b =
     let found : get_or (t ++ b ∷ []) (length (t ++ b ∷ []) - 1) 0 ≡ b = get_or_push t b 0 (length (t ++ b ∷ []) - 1) m in
     let here : (slice_index (t ++ b ∷ []) (length (t ++ b ∷ []) - 1) == b) ≡ true = ap (λ x. x == b) found ∙ same b in
     let front : take (length (t ++ b ∷ []) - 1) (t ++ b ∷ []) ≡ t = ap (λ k. take k (t ++ b ∷ [])) (sym m) ∙ take-append_seam t (b ∷ []) in
-    ap₂ (λ c x. only_if c x) (and-true (nat_lt 0 (length (t ++ b ∷ []))) (slice_index (t ++ b ∷ []) (length (t ++ b ∷ []) - 1) == b) (long-enough (length (t ++ b ∷ [])) (length t) n) here) front
+    ap₂ (λ c x. only_if c x) (and_true (nat_lt 0 (length (t ++ b ∷ []))) (slice_index (t ++ b ∷ []) (length (t ++ b ∷ []) - 1) == b) (long-enough (length (t ++ b ∷ [])) (length t) n) here) front
 
 -- ---- requirements
 
@@ -146,7 +143,7 @@ after-key : (k u : List ℕ) → is_label_key k ≡ true → begins (reverse (k 
 after-key [] u h e = absurd (no-key h)
 after-key (b ∷ k) u h e =
     let p = key-plain (b ∷ k) h in
-    ap unblanked_requirement (trimmed-is ((b ∷ k) ++ u) (begins-plain (b ∷ k) p) e) ∙ not-marked b (k ++ u) (first (is_plain b) (list_all is_plain k) p)
+    ap unblanked_requirement (trimmed-is ((b ∷ k) ++ u) (begins-plain (b ∷ k) p) e) ∙ not-marked b (k ++ u) (left_true (is_plain b) (list_all is_plain k) p)
 
 bare : (t : List ℕ) → list_any is_opening t ≡ false → list_any is_equals t ≡ false → plain_requirement t ≡ requiring (label_key t) Exists (Some [])
 bare t o e = rw (o, e) refl
@@ -175,7 +172,7 @@ compares t left right o e bl ar = rw (o, e) (ap₂ (λ l r. compared_requirement
 
 no-equals : (v : List ℕ) → list_all is_plain v ≡ true → without_equals v ≡ v
 no-equals [] h = refl
-no-equals (b ∷ v) h = rw (plain-no-equals b (first (is_plain b) (list_all is_plain v) h)) refl
+no-equals (b ∷ v) h = rw (plain-no-equals b (left_true (is_plain b) (list_all is_plain v) h)) refl
 
 one-value : (k v : List ℕ) (o : Operator) → is_label_key k ≡ true → is_label_value v ≡ true
     → requiring (label_key (trimmed k)) o (each_read label_value (trimmed v ∷ [])) ≡ Some (record { key = k; operator = o; values = v ∷ [] })
@@ -229,10 +226,10 @@ ends-after t v h k = ap begins (reverse-append t v) ∙ by (reverse v) h
     by (b ∷ r) e = e
 
 ends-joined : (v : List ℕ) (vs : List (List ℕ)) → all_plain (v ∷ vs) ≡ true → begins (reverse (join_with_byte 44 (v ∷ vs))) ≡ true
-ends-joined v [] h = begins-back v (first (list_all is_plain v) true h)
+ends-joined v [] h = begins-back v (left_true (list_all is_plain v) true h)
 ends-joined v (w ∷ vs) h =
     ap (λ x. begins (reverse x)) (sym (append_assoc v (44 ∷ []) (join_with_byte 44 (w ∷ vs))))
-    ∙ ends-after (v ++ 44 ∷ []) (join_with_byte 44 (w ∷ vs)) (ends-joined w vs (second (list_all is_plain v) (all_plain (w ∷ vs)) h)) (ends-with v 44 refl)
+    ∙ ends-after (v ++ 44 ∷ []) (join_with_byte 44 (w ∷ vs)) (ends-joined w vs (right_true (list_all is_plain v) (all_plain (w ∷ vs)) h)) (ends-with v 44 refl)
 
 begins-joined : (v : List ℕ) (u : List ℕ) → list_all is_plain v ≡ true → begins (v ++ 44 ∷ u) ≡ true
 begins-joined [] u h = refl
@@ -241,13 +238,13 @@ begins-joined (b ∷ v) u h = begins-plain (b ∷ v) h
 values-plain : (vs : List (List ℕ)) → list_all is_label_value vs ≡ true → all_plain vs ≡ true
 values-plain [] h = refl
 values-plain (v ∷ vs) h =
-    and-true (list_all is_plain v) (all_plain vs) (value-plain v (first (is_label_value v) (list_all is_label_value vs) h)) (values-plain vs (second (is_label_value v) (list_all is_label_value vs) h))
+    and_true (list_all is_plain v) (all_plain vs) (value-plain v (left_true (is_label_value v) (list_all is_label_value vs) h)) (values-plain vs (right_true (is_label_value v) (list_all is_label_value vs) h))
 
 values-read : (vs : List (List ℕ)) → list_all is_label_value vs ≡ true → each_read value_in vs ≡ Some vs
 values-read [] h = refl
 values-read (v ∷ vs) h =
-    let g = first (is_label_value v) (list_all is_label_value vs) h in
-    ap₂ put_first (ap label_value (trimmed-plain v (value-plain v g)) ∙ own-value v g) (values-read vs (second (is_label_value v) (list_all is_label_value vs) h))
+    let g = left_true (is_label_value v) (list_all is_label_value vs) h in
+    ap₂ put_first (ap label_value (trimmed-plain v (value-plain v g)) ∙ own-value v g) (values-read vs (right_true (is_label_value v) (list_all is_label_value vs) h))
 
 listed-if : (j : List ℕ) → trimmed j ≡ j → (length j == 0) ≡ false → listed_values j ≡ each_read value_in (slice_split is_comma j)
 listed-if j t l = rw (t, l) refl
@@ -257,7 +254,7 @@ listed-read v w vs h =
     let p = values-plain (v ∷ w ∷ vs) h in
     let u = join_with_byte 44 (w ∷ vs) in
     let j = join_with_byte 44 (v ∷ w ∷ vs) in
-    let b : begins j ≡ true = begins-joined v u (first (list_all is_plain v) (all_plain (w ∷ vs)) p) in
+    let b : begins j ≡ true = begins-joined v u (left_true (list_all is_plain v) (all_plain (w ∷ vs)) p) in
     listed-if j (trimmed-is j b (ends-joined v (w ∷ vs) p)) (cons-length (length j) (more-than-none v u))
     ∙ ap (each_read value_in) (joined-split v (w ∷ vs) p)
     ∙ values-read (v ∷ w ∷ vs) h
@@ -338,12 +335,12 @@ notin-listing k v w vs = append_assoc k (32 ∷ 110 ∷ 111 ∷ 116 ∷ 105 ∷ 
 
 text-of : (o : Operator) (k : List ℕ) (vs : List (List ℕ)) → is_label_key k ≡ true → list_all is_label_value vs ≡ true → is_some (fitting o vs) ≡ true → IsText (text_with o k vs) (record { key = k; operator = o; values = vs })
 text-of In k [] h g f = cc
-text-of In k (v ∷ []) h g f = text-of-equality k v h (first (is_label_value v) true g)
+text-of In k (v ∷ []) h g f = text-of-equality k v h (left_true (is_label_value v) true g)
 text-of In k (v ∷ w ∷ vs) h g f =
     subst (λ t. IsText t (record { key = k; operator = In; values = v ∷ w ∷ vs })) (in-listing k v w vs)
     (text-of-listing k (105 ∷ 110 ∷ 32 ∷ []) v w vs In h g refl word-in (λ u. refl))
 text-of NotIn k [] h g f = cc
-text-of NotIn k (v ∷ []) h g f = text-of-inequality k v h (first (is_label_value v) true g)
+text-of NotIn k (v ∷ []) h g f = text-of-inequality k v h (left_true (is_label_value v) true g)
 text-of NotIn k (v ∷ w ∷ vs) h g f =
     subst (λ t. IsText t (record { key = k; operator = NotIn; values = v ∷ w ∷ vs })) (notin-listing k v w vs)
     (text-of-listing k (110 ∷ 111 ∷ 116 ∷ 105 ∷ 110 ∷ 32 ∷ []) v w vs NotIn h g refl word-notin (λ u. refl))
@@ -356,17 +353,17 @@ sound-text : (r : Requirement) → is_sound r ≡ true → IsText (requirement_t
 sound-text r h =
     let kv = is_label_key r.key && list_all is_label_value r.values in
     let f = is_some (fitting r.operator r.values) in
-    text-of r.operator r.key r.values (first (is_label_key r.key) (list_all is_label_value r.values) (first kv f h)) (second (is_label_key r.key) (list_all is_label_value r.values) (first kv f h)) (second kv f h)
+    text-of r.operator r.key r.values (left_true (is_label_key r.key) (list_all is_label_value r.values) (left_true kv f h)) (right_true (is_label_key r.key) (list_all is_label_value r.values) (left_true kv f h)) (right_true kv f h)
 
 parts-read : (r : Requirement) (rs : List Requirement) → list_all is_sound (r ∷ rs) ≡ true → each_read requirement (parts (selector_text (r ∷ rs))) ≡ Some (r ∷ rs)
 parts-read r [] h =
-    let t = sound-text r (first (is_sound r) true h) in
+    let t = sound-text r (left_true (is_sound r) true h) in
     ap (each_read requirement) (one-part (requirement_text r) t.0) ∙ ap (λ x. put_first x (Some [])) t.1
 parts-read r (s ∷ rs) h =
-    let t = sound-text r (first (is_sound r) (list_all is_sound (s ∷ rs)) h) in
+    let t = sound-text r (left_true (is_sound r) (list_all is_sound (s ∷ rs)) h) in
     let u = selector_text (s ∷ rs) in
     ap (each_read requirement) (more-parts (requirement_text r) u t.0)
-    ∙ ap₂ put_first t.1 (parts-read s rs (second (is_sound r) (list_all is_sound (s ∷ rs)) h))
+    ∙ ap₂ put_first t.1 (parts-read s rs (right_true (is_sound r) (list_all is_sound (s ∷ rs)) h))
 
 pub said : (t : List ℕ) → 0 < length t → selector_of_text t ≡ each_read requirement (parts t)
 said [] l = absurd (no-length l)
@@ -379,9 +376,9 @@ longer : (t u : List ℕ) → 0 < length t → 0 < length (t ++ u)
 longer t u l = omega (arith, l, length-append t u)
 
 text-length : (r : Requirement) (rs : List Requirement) → list_all is_sound (r ∷ rs) ≡ true → 0 < length (selector_text (r ∷ rs))
-text-length r [] h = let t = sound-text r (first (is_sound r) true h) in t.2
+text-length r [] h = let t = sound-text r (left_true (is_sound r) true h) in t.2
 text-length r (s ∷ rs) h =
-    let t = sound-text r (first (is_sound r) (list_all is_sound (s ∷ rs)) h) in
+    let t = sound-text r (left_true (is_sound r) (list_all is_sound (s ∷ rs)) h) in
     longer (requirement_text r) (44 ∷ selector_text (s ∷ rs)) t.2
 
 pub text-read : (rs : List Requirement) → list_all is_sound rs ≡ true → selector_of_text (selector_text rs) ≡ Some rs
@@ -389,7 +386,7 @@ text-read [] h = refl
 text-read (r ∷ rs) h = said (selector_text (r ∷ rs)) (text-length r rs h) ∙ parts-read r rs h
 
 one-pair : (k v : List ℕ) → is_label_key k ≡ true → is_label_value v ≡ true → is_sound (record { key = k; operator = In; values = v ∷ [] }) ≡ true
-one-pair k v h g = and-true (is_label_key k && (is_label_value v && true)) true (and-true (is_label_key k) (is_label_value v && true) h (and-true (is_label_value v) true g refl)) refl
+one-pair k v h g = and_true (is_label_key k && (is_label_value v && true)) true (and_true (is_label_key k) (is_label_value v && true) h (and_true (is_label_value v) true g refl)) refl
 
 pub equality-read : (k v : List ℕ) → is_label_key k ≡ true → is_label_value v ≡ true → selector_of_text (k ++ (codes "=" ++ v)) ≡ Some (record { key = k; operator = In; values = v ∷ [] } ∷ [])
-equality-read k v h g = let r : Requirement = record { key = k; operator = In; values = v ∷ [] } in text-read (r ∷ []) (and-true (is_sound r) true (one-pair k v h g) refl)
+equality-read k v h g = let r : Requirement = record { key = k; operator = In; values = v ∷ [] } in text-read (r ∷ []) (and_true (is_sound r) true (one-pair k v h g) refl)

@@ -2,6 +2,7 @@
 use Rattle.std.proofs.Common.{◌≡◌, ℕ, ◌<◌, List, [], ◌∷◌, ◌++◌, Bool, true, false, true≢false, ◌==◌, Some, length, reverse, option_and_then, refl, sym, subst, ap, ap₂, ◌∙◌, arith, append_assoc, append-nil}
 use Rattle.std.proofs.lemmas.Bool.Decides.{nat_tests}
 use Rattle.std.specs.List.{list_all, list_any, before_first, after_first, slice_split}
+use Rattle.definitions.proofs.Truths.{left_true, right_true}
 use Rattle.definitions.specs.declared.selectors.Operator.{Operator}
 use Rattle.definitions.specs.declared.selectors.Operator.TheVariants.{In, NotIn, Exists, DoesNotExist}
 use Rattle.laws.specs.GrammarLaws.{WrittenTextsAreRead, TextsAreClear}
@@ -10,7 +11,7 @@ use Rattle.definitions.specs.Selectors.{Requirement, label_key, label_value, eac
 use Rattle.definitions.specs.SelectorTexts.{is_blank, is_comma, is_opening, trimmed, parts, before_last, set_operator, value_in, listed_values, plain_requirement, unblanked_requirement, requirement, selector_of_text}
 use Rattle.laws.proofs.SelectorBlanks.{is_soft, soft-no-comma, soft-no-opening, all-append, all-weaker, all-none, soft-plain, soft-blanks, trimmed-around, trimmed-plain-around, all-blank}
 use Rattle.laws.proofs.SelectorCompared.{IsRead, closes-soft, closes-only, closes-inner, is_inner, inner-soft, some-text, value-soft, value-trimmed, some-key, alone-read, negated-read, compared-read, begins-key, plain-key}
-use Rattle.laws.proofs.SelectorForms.{first, second, own-key, own-value}
+use Rattle.laws.proofs.SelectorForms.{own-key, own-value}
 use Rattle.laws.proofs.SelectorPlain.{is_plain, none, plain-no-blank, cut-at, key-plain, begins, ends-with, split-here, split-nowhere}
 use Rattle.laws.proofs.SelectorTextsRead.{closes, one-part, more-parts, last-here, lists, said}
 
@@ -104,8 +105,8 @@ module _ (t k : List ℕ) (o : Operator) (vs : List (List ℕ)) (w : IsListedTex
   cut-head : (g : List ℕ) → AreBlanks g → 0 < length g → (before_first is_blank (k ++ (g ++ (w.word ++ w.between))) ≡ k) × (trimmed (after_first is_blank (k ++ (g ++ (w.word ++ w.between)))) ≡ w.word)
   cut-head [] h l = absurd (omega (arith, l))
   cut-head (b ∷ g) h l =
-      let c = cut-at is_blank k b (g ++ (w.word ++ w.between)) (none is_blank plain-no-blank k (key-plain k w.is_key)) (first (is_blank b) (list_all is_blank g) h) in
-      (c.1, ap trimmed c.2 ∙ trimmed-plain-around g w.word w.between (second (is_blank b) (list_all is_blank g) h) w.is_between (word-is o w.word w.is_word).1)
+      let c = cut-at is_blank k b (g ++ (w.word ++ w.between)) (none is_blank plain-no-blank k (key-plain k w.is_key)) (left_true (is_blank b) (list_all is_blank g) h) in
+      (c.1, ap trimmed c.2 ∙ trimmed-plain-around g w.word w.between (right_true (is_blank b) (list_all is_blank g) h) w.is_between (word-is o w.word w.is_word).1)
 
   listed-reads : requirement t ≡ Some (record { key = k; operator = o; values = vs })
   listed-reads =

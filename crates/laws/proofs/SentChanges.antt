@@ -6,6 +6,7 @@ use Rattle.std.specs.List.{AllByRecursion}
 use Rattle.serde_json.specs.Data.{Data, null, boolean, number, string, array, object, put, depth}
 use Rattle.serde_json.specs.Find.{as_object}
 use Rattle.serde_json.specs.Written.{compact_text, has_float}
+use Rattle.definitions.proofs.Truths.{both_true}
 use Rattle.definitions.specs.declared.kinds.Kind.{Kind}
 use Rattle.definitions.specs.declared.schemas.Shape.TheVariants.{Object}
 use Rattle.definitions.specs.declared.schemas.Schema.TheVariants.{Root}
@@ -19,12 +20,11 @@ use Rattle.controllers.specs.Reflectors.{shown, shown_read, has_identity, revisi
 use Rattle.definitions.specs.Revisions.{revision_of}
 use Rattle.laws.specs.SentLaws.{IsKept, IsTold, IsShort, ChangesAreTold, whole}
 use Rattle.definitions.specs.Values.{members_of}
-use Rattle.laws.proofs.HeldMembers.{version-at_revision}
+use Rattle.laws.proofs.SetMetadata.{version-at_revision}
 use Rattle.definitions.proofs.KindOrder.{rank_tells}
 use Rattle.definitions.proofs.JsonMembers.{text_in-put_other, metadata_text-with}
 use Rattle.laws.proofs.Limited.{limited}
-use Rattle.definitions.proofs.NoFloatsRead.{both_true}
-use Rattle.laws.proofs.Played.{up_to-split}
+use Rattle.laws.proofs.AppliedEvents.{up_to-split}
 use Rattle.laws.proofs.ReadAgain.{opened}
 use Rattle.definitions.proofs.RevisionTexts.{revision_is}
 use Rattle.laws.proofs.SentObjects.{IsStored, IsHeld, filled_decimal, whole_stored}

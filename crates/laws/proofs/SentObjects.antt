@@ -5,6 +5,7 @@ use Rattle.std.proofs.lemmas.Fmt.{decimal_nonempty}
 use Rattle.std.specs.List.{list_all}
 use Rattle.serde_json.specs.Data.{Data, string, object, Members, put}
 use Rattle.serde_json.specs.Written.{compact_text}
+use Rattle.definitions.proofs.Truths.{both_true}
 use Rattle.definitions.specs.declared.kinds.Kind.{Kind}
 use Rattle.definitions.specs.declared.refusals.Field.{Field}
 use Rattle.definitions.specs.declared.refusals.Field.TheVariants as field
@@ -25,11 +26,10 @@ use Rattle.definitions.specs.Uids.{uid_text, cluster_word}
 use Rattle.definitions.specs.Values.{members_of, without}
 use Rattle.definitions.specs.Verbs.{Outcome, refused, refuse_field, stored, new_name, is_free, put_in_place, if_same, is_too_large, is_past_greatest}
 use Rattle.laws.proofs.Guards.{guard, guard_field}
-use Rattle.laws.proofs.HeldMembers.{at_most, version-at_revision, text-at_revision}
+use Rattle.laws.proofs.SetMetadata.{at_most, version-at_revision, text-at_revision}
 use Rattle.definitions.proofs.JsonMembers.{text_in, metadata_of-with}
-use Rattle.laws.proofs.MarkedObjects.{HasRoom, room_written}
+use Rattle.laws.proofs.DeletionTimestamps.{HasRoom, room_written}
 use Rattle.laws.proofs.NeatMembers.{Neat, Neat-put, Neat-without, IsFilled, One, one_text}
-use Rattle.definitions.proofs.NoFloatsRead.{both_true}
 use Rattle.definitions.specs.Reached.{IsParsed}
 use Rattle.laws.proofs.Parsed.{Both}
 use Rattle.laws.proofs.ParsedObjects.{at}
@@ -158,10 +158,6 @@ neat_new k r ns named moment meta space full now m =
 
 abbrev pub Stores : ℕ → Outcome → Type 0
 Stores r o = OfStored o (λ k d. IsStored k r d)
-
-pub either_false : (a b : Bool) → (a || b) ≡ false → b ≡ false
-either_false true b h = cc
-either_false false b h = h
 
 pub low_after : (r : ℕ) → is_past_greatest r ≡ false → r ≤ 9007199254740991
 low_after r h = at_most 9007199254740991 r h

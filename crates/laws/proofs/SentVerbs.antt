@@ -5,6 +5,7 @@ use Rattle.serde_json.specs.Data.{Data, string, array, object, Items, put}
 use Rattle.serde_json.specs.Events.{items_len}
 use Rattle.serde_json.specs.Find.{get}
 use Rattle.serde_json.proofs.Views.{get_member-put_other}
+use Rattle.definitions.proofs.Truths.{right_false}
 use Rattle.definitions.specs.declared.kinds.Kind.{Kind}
 use Rattle.definitions.specs.declared.policies.Policy.{Policy}
 use Rattle.definitions.specs.declared.refusals.Field.TheVariants as field
@@ -30,11 +31,11 @@ use Rattle.definitions.specs.ObjectRequests.{Request, get_object, list_objects, 
 use Rattle.definitions.proofs.VerbSteps.{by_fate, delete, create_read, update_read, replace_with, replace_changed, status_read, restate, patch, patch_read, status_put}
 use Rattle.laws.proofs.Cases.{of_create}
 use Rattle.laws.proofs.Guards.{there, either}
-use Rattle.laws.proofs.HeldMembers.{name-new_metadata, namespace-new_metadata, uid-new_metadata, name-in_place, namespace-in_place, uid-in_place, text-with_next_generation}
+use Rattle.laws.proofs.SetMetadata.{name-new_metadata, namespace-new_metadata, uid-new_metadata, name-in_place, namespace-in_place, uid-in_place, text-with_next_generation}
 use Rattle.definitions.proofs.JsonMembers.{apart, text_in, text_in-put_other, metadata_of-with}
 use Rattle.laws.proofs.JsonOrder.{IsOrdered}
 use Rattle.laws.proofs.LeftFinalizers.{one_finalizers, texts_held, texts_left}
-use Rattle.laws.proofs.MarkedObjects.{marked_fits, room_marked, with_finalizers}
+use Rattle.laws.proofs.DeletionTimestamps.{marked_fits, room_marked, with_finalizers}
 use Rattle.laws.proofs.NameBytes.{namespace_text, name_text}
 use Rattle.laws.proofs.NeatMembers.{Neat, Neat-put, IsFilled, One}
 use Rattle.definitions.specs.Reached.{IsParsed, IsAsked, IsTime}
@@ -44,7 +45,7 @@ use Rattle.laws.proofs.TextLengths.{put_twice}
 use Rattle.laws.proofs.VerbLaws.{kept_is, text-with_deletion}
 use Rattle.definitions.proofs.FirstStatus.{get-members_of}
 use Rattle.laws.proofs.WholeObjects.{AreWhole, may_first, neat_metadata, whole_in_place, whole_read, whole_said, whole_status, whole_with_said}
-use Rattle.laws.proofs.SentObjects.{IsStored, IsHeld, Says, stored_in, stored_at, whole_stored, created_valid, filled_new, neat_generation, neat_new, filled_long, Stores, low_after, either_false, behind, behind_field, by_if_same, by_put}
+use Rattle.laws.proofs.SentObjects.{IsStored, IsHeld, Says, stored_in, stored_at, whole_stored, created_valid, filled_new, neat_generation, neat_new, filled_long, Stores, low_after, behind, behind_field, by_if_same, by_put}
 
 filled_namespace : (ns : List ℕ) → is_namespace ns ≡ true → IsFilled ns
 filled_namespace [] h = cc
@@ -68,7 +69,7 @@ by_create kind ns d ms r moment space now a =
       namespace = namespace-new_metadata kind (r + 1) ns k.name moment (metadata_of o);
       uid = ap is_some (uid-new_metadata kind (r + 1) ns k.name moment (metadata_of o));
     } in
-    let low = low_after (r + 1) (either_false (nat_le most_objects (length ms)) (is_past_greatest (r + 1)) room) in
+    let low = low_after (r + 1) (right_false (nat_le most_objects (length ms)) (is_past_greatest (r + 1)) room) in
     stored_at k (r + 1) meta new (whole_status kind (first_status kind) (members_of o) (may_first kind) w)
     (neat_new kind (r + 1) ns k.name moment (metadata_of o) (filled_namespace ns space) (filled_new kind ns o ms r r none) (filled_long moment now.0) (neat_metadata kind o w))
     (new_members kind o p) (new_meta kind (r + 1) ns k.name moment (metadata_of o) (namespace_text ns space) (name_text k.name (created_valid kind ns o ms r r none)) now.2 (meta_of o p)) says low fits)

@@ -9,7 +9,7 @@ use Rattle.laws.specs.WindowLaws.{WatchesAreServed, ListsAreUndone, RevisionsAre
 use Rattle.definitions.specs.Windows.{changes_after as kept_after, changes_of, last_n, last_revision, all_but, floor, within}
 use Rattle.server_state.specs.Recorded.{above, events_recorded, undone, Window, IsWindowAfter}
 use Rattle.laws.proofs.Past.{writes-append}
-use Rattle.laws.proofs.KeptWrites.{last_n_above, changes_of_kept, all_undone}
+use Rattle.laws.proofs.RecordedChanges.{last_n_above, changes_of_kept, all_undone}
 
 within_at : {X : Type 0} (b c : Bool) (floor now r : ℕ) (x y : X) → nat_lt r floor ≡ b → nat_lt now r ≡ c → (floor ≤ r → r ≤ now → x ≡ y) → within floor now r x ≡ within floor now r y
 within_at true c floor now r x y l m same = rw l refl

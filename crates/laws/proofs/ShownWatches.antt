@@ -11,7 +11,7 @@ use Rattle.definitions.specs.Streams.{Line, event, Goes, IsStream}
 use Rattle.definitions.specs.Versions.{Watched, watched, watched_from}
 use Rattle.definitions.specs.WatchReplies.{lines_from, told_lines}
 use Rattle.laws.specs.WatchLaws.{AreBetween}
-use Rattle.laws.proofs.Played.{lie_between}
+use Rattle.laws.proofs.AppliedEvents.{lie_between}
 use Rattle.laws.proofs.StandingWatches.{given_stands, lines_stream}
 
 few_between : (cs : List Event) (a b : ℕ) → a ≤ b → AreBetween a b cs → length cs + a ≤ b

@@ -14,8 +14,8 @@ use Rattle.definitions.specs.Versions.{Watched, last_change, watched, watched_fr
 use Rattle.definitions.specs.WatchReplies.{lines_from}
 use Rattle.laws.specs.ServerLaws.{WatchesStand, WatchesGoOn}
 use Rattle.laws.proofs.Past.{writes-append}
-use Rattle.laws.proofs.Played.{list_played, goes_on, lie_between}
-use Rattle.laws.proofs.Streamed.{stream_played}
+use Rattle.laws.proofs.AppliedEvents.{list_applied, goes_on, lie_between}
+use Rattle.laws.proofs.Streamed.{stream_applied}
 
 -- ---- changes up to a revision
 
@@ -127,8 +127,8 @@ watches_stand size h v a n w is =
       s.0,
       s.1,
       stream,
-      ap (applied (list h v a)) (sym s.3) ∙ list_played h v a w.stands s.0,
-      stream_played h v a w.stands (lines_from a w) s.0 stream,
+      ap (applied (list h v a)) (sym s.3) ∙ list_applied h v a w.stands s.0,
+      stream_applied h v a w.stands (lines_from a w) s.0 stream,
       goes_on h v a w.stands (present h) s.0 s.1 ∙ ap (λ cs. cs ++ events h v w.stands (present h)) s.3,
     )
 

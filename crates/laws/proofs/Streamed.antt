@@ -7,24 +7,24 @@ use Rattle.definitions.specs.Keys.{Key, key_cmp}
 use Rattle.definitions.specs.History.{History, View, Members, up_to, in_view, after_all, list}
 use Rattle.definitions.proofs.PutLaws.{name_cmp_total, IsAbove, IsAscending, IsAscending-after_all, IsAscending-filter}
 use Rattle.definitions.specs.Events.{Event, events, applied}
-use Rattle.definitions.specs.Streams.{Line, event, bookmark, initial, initial_end, Goes, IsStream, IsInitialStream, play_line, applied_lines}
-use Rattle.laws.proofs.Played.{list_played}
+use Rattle.definitions.specs.Streams.{Line, event, bookmark, initial, initial_end, Goes, IsStream, IsInitialStream, apply_line, applied_lines}
+use Rattle.laws.proofs.AppliedEvents.{list_applied}
 
 -- the changes among the lines are the changes
-goes_played : (ls : List Line) (at b : ℕ) (cs : List Event) (ms : Members) → Goes at b cs ls → applied_lines ms ls ≡ applied ms cs
-goes_played [] at b [] ms h = refl
-goes_played [] at b (c ∷ cs) ms h = absurd h
-goes_played (event d ∷ ls) at b [] ms h = absurd h
-goes_played (event d ∷ ls) at b (c ∷ cs) ms h = ap (λ x. applied_lines (play_line ms (event x)) ls) h.0 ∙ goes_played ls c.revision b cs (play_line ms (event c)) h.1
-goes_played (bookmark r ∷ ls) at b [] ms h = goes_played ls r b [] ms h.2
-goes_played (bookmark r ∷ ls) at b (c ∷ cs) ms h = goes_played ls r b (c ∷ cs) ms h.3
-goes_played (initial n d ∷ ls) at b [] ms h = absurd h
-goes_played (initial n d ∷ ls) at b (c ∷ cs) ms h = absurd h
-goes_played (initial_end r ∷ ls) at b [] ms h = absurd h
-goes_played (initial_end r ∷ ls) at b (c ∷ cs) ms h = absurd h
+goes_applied : (ls : List Line) (at b : ℕ) (cs : List Event) (ms : Members) → Goes at b cs ls → applied_lines ms ls ≡ applied ms cs
+goes_applied [] at b [] ms h = refl
+goes_applied [] at b (c ∷ cs) ms h = absurd h
+goes_applied (event d ∷ ls) at b [] ms h = absurd h
+goes_applied (event d ∷ ls) at b (c ∷ cs) ms h = ap (λ x. applied_lines (apply_line ms (event x)) ls) h.0 ∙ goes_applied ls c.revision b cs (apply_line ms (event c)) h.1
+goes_applied (bookmark r ∷ ls) at b [] ms h = goes_applied ls r b [] ms h.2
+goes_applied (bookmark r ∷ ls) at b (c ∷ cs) ms h = goes_applied ls r b (c ∷ cs) ms h.3
+goes_applied (initial n d ∷ ls) at b [] ms h = absurd h
+goes_applied (initial n d ∷ ls) at b (c ∷ cs) ms h = absurd h
+goes_applied (initial_end r ∷ ls) at b [] ms h = absurd h
+goes_applied (initial_end r ∷ ls) at b (c ∷ cs) ms h = absurd h
 
-pub stream_played : (h : History) (v : View) (a b : ℕ) (ls : List Line) → a ≤ b → IsStream h v a b ls → applied_lines (list h v a) ls ≡ list h v b
-stream_played h v a b ls le s = goes_played ls a b (events h v a b) (list h v a) s ∙ list_played h v a b le
+pub stream_applied : (h : History) (v : View) (a b : ℕ) (ls : List Line) → a ≤ b → IsStream h v a b ls → applied_lines (list h v a) ls ≡ list h v b
+stream_applied h v a b ls le s = goes_applied ls a b (events h v a b) (list h v a) s ∙ list_applied h v a b le
 
 -- ---- entries that go in by rising key
 
@@ -47,6 +47,6 @@ all_put (e ∷ ms) es ls a =
 pub list_ascending : (h : History) (v : View) (a : ℕ) → IsAscending key_cmp (list h v a)
 list_ascending h v a = IsAscending-filter key_cmp (λ m. in_view v m.0 m.1) (after_all [] (up_to a h)) (IsAscending-after_all [] (up_to a h) tt)
 
-pub initial_stream_played : (h : History) (v : View) (a b : ℕ) (ls : List Line) → a ≤ b → IsInitialStream h v a b ls → applied_lines [] ls ≡ list h v b
-initial_stream_played h v a b ls le s =
-    ap (applied_lines []) s.1 ∙ all_put (list h v a) [] (initial_end a ∷ s.0) (list_ascending h v a) ∙ stream_played h v a b s.0 le s.2
+pub initial_stream_applied : (h : History) (v : View) (a b : ℕ) (ls : List Line) → a ≤ b → IsInitialStream h v a b ls → applied_lines [] ls ≡ list h v b
+initial_stream_applied h v a b ls le s =
+    ap (applied_lines []) s.1 ∙ all_put (list h v a) [] (initial_end a ∷ s.0) (list_ascending h v a) ∙ stream_applied h v a b s.0 le s.2

@@ -1,5 +1,5 @@
 -- The content of a string in a text in UTF-8 is in UTF-8.
-use Rattle.std.proofs.Common.{◌≡◌, ◌<◌, ◌+◌, ◌-◌, ◌*◌, ◌==◌, ◌&&◌, ◌||◌, ℕ, List, [], ◌∷◌, ◌++◌, length, get_or, Bool, true, false, cond, nat_lt, Option, Some, None, IfSome, option_and_then, refl, sym, subst, arith, append_assoc, append-nil, length-append}
+use Rattle.std.proofs.Common.{◌≡◌, ◌<◌, ◌+◌, ◌*◌, ◌==◌, ◌&&◌, ◌||◌, ℕ, List, [], ◌∷◌, ◌++◌, length, get_or, Bool, true, false, cond, nat_lt, Option, Some, None, IfSome, option_and_then, refl, sym, subst, arith, append_assoc, append-nil, length-append}
 use Rattle.std.proofs.Math.Seq.{take-append_seam, drop-append-add, get_or-append_seam}
 use Rattle.std.proofs.lemmas.Bool.{ltb-true}
 use Rattle.std.proofs.lemmas.Bool.Decides.{nat_tests}
@@ -8,7 +8,7 @@ use Rattle.std.specs.Char.{is_digit, digit_value}
 use Rattle.std.specs.Str.{IsUtf8}
 use lib.Utf8.{scalar, encode, low_scalar}
 use Rattle.json.specs.Text.{code_unit, short_escape, is_high_surrogate, is_low_surrogate, surrogate_pair, plain, after_backslash, after_u, after_high, prepend, content}
-use Rattle.definitions.proofs.NoFloatsRead.{both_true}
+use Rattle.definitions.proofs.Truths.{both_true}
 
 -- what stands before and after an ASCII byte
 pub after_byte : (done xs : List ℕ) (x : ℕ) → x < 128 → IsUtf8 (done ++ x ∷ xs) → IsUtf8 done × IsUtf8 xs

@@ -12,7 +12,7 @@ use Rattle.definitions.specs.Verbs.{accept, new_name, with_write, write_of}
 use Rattle.definitions.specs.ObjectRequests.{Request}
 use Rattle.laws.proofs.Cases.{of_accept}
 use Rattle.laws.proofs.Compacted.{same_writes}
-use Rattle.laws.proofs.HeldMembers.{uid-created}
+use Rattle.laws.proofs.SetMetadata.{uid-created}
 use Rattle.laws.proofs.Past.{last_of-append, whole, writes-append}
 use Rattle.definitions.proofs.PutLaws.{same_name}
 use Rattle.laws.proofs.Removals.{stand as stands_on}

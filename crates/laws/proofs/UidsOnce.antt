@@ -15,7 +15,7 @@ use Rattle.definitions.specs.Verbs.{accept, new_name, object_in, with_write, wri
 use Rattle.definitions.specs.ObjectRequests.{Request}
 use Rattle.laws.proofs.Cases.{of_accept, of_create}
 use Rattle.laws.proofs.EachWrite.{AllPut, put_write, there_put}
-use Rattle.laws.proofs.HeldMembers.{uid-created}
+use Rattle.laws.proofs.SetMetadata.{uid-created}
 use Rattle.laws.proofs.Limited.{limited}
 use Rattle.laws.proofs.Compacted.{same_writes}
 use Rattle.laws.proofs.Reaching.{by_reached}

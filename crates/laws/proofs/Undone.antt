@@ -7,7 +7,7 @@ use Rattle.serde_json.specs.Data.{Data}
 use Rattle.definitions.specs.Keys.{Key, key_cmp}
 use Rattle.definitions.specs.History.{Write, View, Members, found, in_view, viewed, seen, last_of, after_all, put_or_remove}
 use Rattle.definitions.proofs.PutLaws.{name_cmp_total, IsAbove, IsAbove-below, IsAscending, IsAscending-after_all, none_above, found-after_all}
-use Rattle.laws.proofs.Played.{one_name, insert_above, remove_above, put_in, put_out, removed, after_all-push}
+use Rattle.laws.proofs.AppliedEvents.{one_name, insert_above, remove_above, put_in, put_out, removed, after_all-push}
 
 reversed : (r : Ordering) → r ≡ ordering_reverse r → r ≡ Equal
 reversed Less h = cc

@@ -30,7 +30,7 @@ use Rattle.definitions.specs.Values.{members_of, inner_of, with_member}
 use Rattle.laws.proofs.Cases.{of_accept, of_create, of_update, of_patch, of_status}
 use Rattle.laws.proofs.Guards.{there}
 use Rattle.definitions.proofs.JsonMembers.{apart, text_in, text_in-put_other, metadata_of-with}
-use Rattle.laws.proofs.HeldMembers.{at_most, version-at_revision, text-at_revision, uid-created, moved, uid-in_place, creation-in_place, text-updated, text-with_next_generation}
+use Rattle.laws.proofs.SetMetadata.{at_most, version-at_revision, text-at_revision, uid-created, moved, uid-in_place, creation-in_place, text-updated, text-with_next_generation}
 use Rattle.laws.proofs.Past.{set, writes-append}
 use Rattle.definitions.proofs.FirstStatus.{get-members_of}
 use Rattle.definitions.proofs.PutLaws.{found-after_all, name_cmp_total}

@@ -5,8 +5,8 @@ use Rattle.definitions.specs.Events.{Event, events, applied}
 use Rattle.definitions.specs.Streams.{Line, IsStream, IsInitialStream, applied_lines}
 
 -- applying the events after a to the list at a gives the list at b
-abbrev pub ChangesArePlayed : Type 0
-ChangesArePlayed = (h : History) (v : View) (a b : ℕ) → a ≤ b → applied (list h v a) (events h v a b) ≡ list h v b
+abbrev pub ChangesAreApplied : Type 0
+ChangesAreApplied = (h : History) (v : View) (a b : ℕ) → a ≤ b → applied (list h v a) (events h v a b) ≡ list h v b
 
 -- the events after a up to c are those up to b and then those after b
 abbrev pub ChangesGoOn : Type 0
@@ -21,9 +21,9 @@ abbrev pub ChangesLieBetween : Type 0
 ChangesLieBetween = (h : History) (v : View) (a b : ℕ) → AreBetween a b (events h v a b)
 
 -- who has the list at a and applies a stream from a to b has the list at b
-abbrev pub StreamsArePlayed : Type 0
-StreamsArePlayed = (h : History) (v : View) (a b : ℕ) (ls : List Line) → a ≤ b → IsStream h v a b ls → applied_lines (list h v a) ls ≡ list h v b
+abbrev pub StreamsAreApplied : Type 0
+StreamsAreApplied = (h : History) (v : View) (a b : ℕ) (ls : List Line) → a ≤ b → IsStream h v a b ls → applied_lines (list h v a) ls ≡ list h v b
 
 -- who has nothing and applies an initial stream at a, then to b, has the list at b
-abbrev pub InitialStreamsArePlayed : Type 0
-InitialStreamsArePlayed = (h : History) (v : View) (a b : ℕ) (ls : List Line) → a ≤ b → IsInitialStream h v a b ls → applied_lines [] ls ≡ list h v b
+abbrev pub InitialStreamsAreApplied : Type 0
+InitialStreamsAreApplied = (h : History) (v : View) (a b : ℕ) (ls : List Line) → a ≤ b → IsInitialStream h v a b ls → applied_lines [] ls ≡ list h v b

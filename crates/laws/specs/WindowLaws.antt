@@ -24,8 +24,8 @@ abbrev pub WindowsCompact : Type 0
 WindowsCompact = (s : Window) (h : History) (r : ℕ) → IsWindowAfter s h → IsWindowAfter (compacted_to s r) (h ++ compaction r ∷ [])
 
 -- the writes that such a window keeps are no later than the present revision, so the next write comes after them all
-abbrev pub KeptWritesArePast : Type 0
-KeptWritesArePast = (s : Window) (h : History) → IsWindowAfter s h → last_revision 0 s.kept ≤ present h
+abbrev pub RecordedChangesArePast : Type 0
+RecordedChangesArePast = (s : Window) (h : History) → IsWindowAfter s h → last_revision 0 s.kept ≤ present h
 
 -- what a window that follows gives to a watch is what the history says
 abbrev pub WatchesAreServed : Type 0

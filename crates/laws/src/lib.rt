@@ -2,7 +2,6 @@
 #![tactic(auto)]
 
 pub mod awaited_laws;
-pub mod board_laws;
 pub mod check_laws;
 pub mod due_laws;
 pub mod expectation_laws;
@@ -26,3 +25,4 @@ pub mod uid_laws;
 pub mod version_laws;
 pub mod watch_laws;
 pub mod window_laws;
+pub mod work_queue_laws;

@@ -1,5 +1,5 @@
 //! Laws of windows.
-ghost use Rattle.laws.specs.WindowLaws.{WindowsOpen, WindowsRecord, WindowsStay, WindowsCompact, KeptWritesArePast, WatchesAreServed, ListsAreUndone, RevisionsAreServed, CompactionsChangeNothing, WideWindowsServeAll};
+ghost use Rattle.laws.specs.WindowLaws.{WindowsOpen, WindowsRecord, WindowsStay, WindowsCompact, RecordedChangesArePast, WatchesAreServed, ListsAreUndone, RevisionsAreServed, CompactionsChangeNothing, WideWindowsServeAll};
 
 /// A new window follows a history in which nothing has happened.
 pub fn windows_open()
@@ -22,8 +22,8 @@ pub fn windows_compact()
 {}
 
 /// What a window records is no later than the present revision, so each next write has a revision above all of it.
-pub fn kept_writes_are_past()
-    ensures { KeptWritesArePast }
+pub fn recorded_changes_are_past()
+    ensures { RecordedChangesArePast }
 {}
 
 /// A watch that is served from a window gets just the events since its revision: none is lost and

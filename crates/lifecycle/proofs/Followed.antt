@@ -5,10 +5,11 @@ use Rattle.serde_json.specs.Data.{Data, Items, no_items, item}
 use Rattle.serde_json.specs.View.{view, items_view}
 use Rattle.serde_json.specs.Written.{has_float, items_have_float}
 use Rattle.serde_json.specs.declared.value.Value.{Value}
+use Rattle.definitions.proofs.Truths.{left_false, right_false}
 use Rattle.definitions.specs.declared.policies.Policy.{Policy}
 use Rattle.definitions.specs.declared.policies.Policy.TheVariants.{Orphan, Foreground, Background}
 use Rattle.definitions.specs.Deletion.{is_of_policy, of_policy, others_then}
-use Rattle.definitions.proofs.NoFloatsRead.{first_false, second_false, both_false}
+use Rattle.definitions.proofs.NoFloatsRead.{both_false}
 use Rattle.lifecycle.specs.Finalizers.{followed}
 
 pub followed-none : (ds : Items) → followed ds no_items ≡ ds
@@ -40,7 +41,7 @@ unless_of_policy false d left p q = both_false _ _ p q
 pub others_then-no_float : (last ds : Items) → items_have_float last ≡ false → items_have_float ds ≡ false → items_have_float (others_then last ds) ≡ false
 others_then-no_float last no_items p q = p
 others_then-no_float last (item d ds) p q =
-    unless_of_policy (is_of_policy d) d (others_then last ds) (first_false (has_float d) _ q) (others_then-no_float last ds p (second_false (has_float d) _ q))
+    unless_of_policy (is_of_policy d) d (others_then last ds) (left_false (has_float d) _ q) (others_then-no_float last ds p (right_false (has_float d) _ q))
 
 pub of_policy-no_float : (p : Policy) → items_have_float (of_policy p) ≡ false
 of_policy-no_float Orphan = refl

@@ -2,8 +2,8 @@
 use Rattle.std.specs.Prelude.{◌≡◌, ◌⊎◌, option_map, Result, Ok, Err, string_bytes}
 use Rattle.definitions.specs.DeleteOptions.{Options}
 use Rattle.definitions.specs.declared.refusals.Part.{Part}
-use Rattle.meta.specs.declared.faults.Fault.{Fault}
-use Rattle.meta.specs.declared.faults.Fault.TheVariants as fault
+use Rattle.keys.specs.declared.fault.Fault.{Fault}
+use Rattle.keys.specs.declared.fault.Fault.TheVariants as fault
 use Rattle.lifecycle.specs.declared.options.DeleteOptions.{DeleteOptions}
 
 abbrev pub options_seen : DeleteOptions → Options

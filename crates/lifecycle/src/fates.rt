@@ -18,7 +18,8 @@ use crate::options::DeleteOptions;
 use definitions::kinds::Kind;
 use definitions::policies::Policy;
 use definitions::refusals::Mismatch;
-use meta::{Draft, Object};
+use drafts::Draft;
+use meta::Object;
 use serde_json::Value;
 use stamps::moments::Moment;
 use std::alloc::{AllocError, Global};
@@ -138,7 +139,7 @@ fn marked(
     requires no_float { items_have_float (items_view left.items) ≡ false }
     ensures { IfOk result (λ o. o.value ≡ being_deleted kind moment (items_view left.items) existing.now.value) }
 {
-    let mut draft = existing.try_copy()?.open(alloc)?;
+    let mut draft = Draft::new(alloc, existing.try_copy()?)?;
     set_deletion(alloc, &mut draft, kind, existing, moment)?;
     draft.set_items(alloc, "finalizers", left)?;
     let made = draft.close(alloc)?;

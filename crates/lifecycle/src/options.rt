@@ -9,7 +9,7 @@ ghost use Rattle.lifecycle.specs.Options.{ReadsOptions};
 use definitions::policies::{Policy, StatedPolicy};
 use definitions::refusals::Part;
 use definitions::schemas::{Schema, Shape};
-use meta::Fault;
+use keys::Fault;
 use meta::reading::{fits, is_body};
 use serde_json::Value;
 use std::alloc::{AllocError, Global};

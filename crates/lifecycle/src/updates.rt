@@ -2,10 +2,11 @@
 ghost use Rattle.std.specs.Prelude.{◌≡◌, IfOk};
 ghost use Rattle.definitions.specs.Replacements.{is_finalized};
 ghost use Rattle.lifecycle.specs.Updates.{after_update};
-ghost use Rattle.meta.specs.Keys.{key_of};
+ghost use Rattle.keys.specs.Keys.{key_of};
 ghost use Rattle.meta.specs.Writes.{write_of};
 
-use meta::{Key, Object, StoredObject, Write};
+use keys::Key;
+use meta::{Object, StoredObject, Write};
 use std::alloc::{AllocError, Global};
 
 /// Returns whether an update removes the stored object's last finalizer: it is being deleted, and the new object has no

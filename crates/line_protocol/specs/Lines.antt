@@ -12,7 +12,7 @@ use Rattle.definitions.specs.declared.refusals.Part.TheVariants as part
 use Rattle.definitions.specs.Refusals.{bad_request, success_body}
 use Rattle.definitions.specs.Revisions.{revision_of}
 use Rattle.definitions.specs.Streams.{text_of}
-use Rattle.definitions.specs.Targets.{watch, read_request}
+use Rattle.definitions.specs.Targets.{read_request}
 use Rattle.definitions.specs.Versions.{compacts}
 use Rattle.definitions.specs.Verbs.{refused, outcome_code, outcome_body}
 use Rattle.definitions.specs.Replies.{default_window, Session, start, Reply, outcome, shown, compacted, reply_for, compact_reply, history_from}

@@ -1,9 +1,5 @@
 pub mod ItemTexts
-pub mod KeyOrder
 pub mod LabelTexts
-pub mod MapViews
-pub mod PutAndTaken
-pub mod NoFloats
 pub mod StoredTexts
 pub mod Tidied
 pub mod Tidying

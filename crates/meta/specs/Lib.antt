@@ -1,10 +1,8 @@
-pub mod Drafts
-pub mod Faults
 pub mod Items
-pub mod Keys
 pub mod Labels
 pub mod Members
 pub mod Owners
 pub mod Pieces
+pub mod Refused
 pub mod Stored
 pub mod Writes

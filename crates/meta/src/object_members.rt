@@ -7,8 +7,8 @@ ghost use Rattle.serde_json.specs.Written.{has_float};
 ghost use Rattle.definitions.specs.Replacements.{as_held};
 ghost use Rattle.definitions.specs.Values.{members_of, without};
 
-use crate::members::{into_members, remove};
 use crate::objects::Object;
+use json_values::members::{into_members, remove};
 use serde_json::Value;
 use std::alloc::{AllocError, Global};
 

@@ -10,14 +10,14 @@ ghost use Rattle.definitions.specs.Metadata.{name, namespace, uid, version, is_b
 ghost use Rattle.definitions.specs.Reading.{reading};
 ghost use Rattle.definitions.specs.Replacements.{generation, next_generation};
 ghost use Rattle.definitions.specs.Verbs.{as_item};
-ghost use Rattle.meta.specs.Faults.{RefusesReading};
+ghost use Rattle.meta.specs.Refused.{RefusesReading};
 ghost use Rattle.meta.specs.Owners.{owner_of};
 
-use crate::faults::Fault;
 use crate::items::push_item_text;
 use crate::owners::{OwnerReference, owners_in};
 use crate::reading::read;
 use definitions::kinds::Kind;
+use keys::Fault;
 use serde_json::{Map, Value};
 use std::alloc::{AllocError, Global};
 use std::marker::Model;

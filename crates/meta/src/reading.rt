@@ -5,14 +5,14 @@ ghost use Rattle.serde_json.specs.Find.{as_object};
 ghost use Rattle.serde_json.specs.Written.{has_float};
 ghost use Rattle.serde_json.specs.View.{view, items_view, members_view};
 ghost use Rattle.definitions.specs.Reading.{fits, items_fit, members_fit, tidied, tidied_items, tidied_members, is_empty, is_absent, schema_of, item_of, with_spec, filled, is_body, reading};
-ghost use Rattle.meta.specs.Faults.{RefusesReading};
+ghost use Rattle.meta.specs.Refused.{RefusesReading};
 
-use crate::faults::Fault;
 use crate::schemas::member_at;
-use crate::values::{has_float, nests_within, with_object, with_text};
 use definitions::kinds::Kind;
 use definitions::refusals::Part;
 use definitions::schemas::{Member, Schema, Shape};
+use json_values::values::{has_float, nests_within, with_object, with_text};
+use keys::Fault;
 use serde_json::{Map, Value};
 use std::alloc::{AllocError, Global};
 use std::default::Emptied;

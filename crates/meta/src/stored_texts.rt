@@ -13,8 +13,8 @@ ghost use Rattle.meta.specs.Stored.{IsTree, tree_view};
 use crate::labels::{Label, label_text, labels_in};
 use crate::objects::Object;
 use crate::pieces::{Item, push_pieces};
-use crate::values::nests_within;
 use definitions::kinds::Kind;
+use json_values::values::nests_within;
 use serde_json::Value;
 use std::alloc::{AllocError, Global};
 use std::marker::Model;
@@ -68,12 +68,14 @@ impl StoredTexts {
         })
     }
 
+    /// Returns the kind.
     pub(crate) fn kind(&self) -> Kind
         ensures { result ≡ self.now.kind }
     {
         self.kind
     }
 
+    /// Returns the text.
     pub(crate) fn text(&self) -> &str
         ensures text { result.now ≡ compact_text self.now.value }
         ensures order { IsInOrder result.now self.now.value }
@@ -83,6 +85,7 @@ impl StoredTexts {
         self.text.as_str()
     }
 
+    /// Adds the text as an item of a list, which has no `apiVersion` and no `kind`. The error is running out of memory.
     pub(crate) fn push_item_text(&self, text: &mut String) -> Result<(), AllocError>
         ensures { OnOk result (string_bytes text.new
             ≡ string_bytes text.old ++ compact_text (as_item self.now.value)) }
@@ -93,6 +96,7 @@ impl StoredTexts {
         }
     }
 
+    /// Returns the value of a label.
     pub(crate) fn label(&self, name: &str) -> Option<&str>
         ensures { option_map (λ s. s.now) result ≡ label name.now self.now.value }
     {

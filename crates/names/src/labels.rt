@@ -6,6 +6,7 @@ ghost use Rattle.definitions.specs.Keys.{is_letter_or_digit, is_label, is_namesp
 /// The greatest length of a namespace's name, in bytes.
 const LONGEST: usize = 63;
 
+/// Returns whether a byte is a small letter or a digit.
 pub(crate) fn is_letter_or_digit(byte: u8) -> bool
     ensures { result ≡ is_letter_or_digit byte }
 {

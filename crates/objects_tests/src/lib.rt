@@ -2,8 +2,6 @@
 #![tactic(auto)]
 
 #[cfg(test)]
-mod fixtures;
-#[cfg(test)]
 mod lifecycle_tests;
 #[cfg(test)]
 mod meta_tests;

@@ -1,5 +1,4 @@
 //! Deletes and updates of what is being deleted, as the documentation of Kubernetes has them.
-use crate::fixtures::{key, object};
 use definitions::kinds::Kind;
 use definitions::policies::{Policy, StatedPolicy};
 use lifecycle::{DeleteFault, DeleteOptions, Fate, after_update, decide_delete};
@@ -8,6 +7,7 @@ use serde_json::Value;
 use stamps::moments::Moment;
 use std::alloc::Global;
 use std::test::Fail;
+use test_objects::{key, object};
 
 fn options(alloc: Global, text: &str) -> Result<DeleteOptions, Fail> {
     let value = Value::from_str(alloc, text)?;
@@ -19,7 +19,7 @@ fn options_are_read(rt: HostRuntime) -> Result<(), Fail> {
     let text =
         r#"{"kind":"DeleteOptions","apiVersion":"v1","gracePeriodSeconds":0,"preconditions":{"uid":"u","resourceVersion":"7"},"propagationPolicy":"Orphan","dryRun":null}"#;
     let read = options(rt.alloc(), text)?;
-    assert!(rt; read.policy == Some(Policy::Orphan));
+    assert!(rt; matches!(read.policy, Some(Policy::Orphan)));
     assert!(rt; read.uid.is_some_and(|uid| uid.as_str() == "u"));
     assert!(rt; read.version.is_some_and(|version| version.as_str() == "7"));
     Ok(())
@@ -28,7 +28,7 @@ fn options_are_read(rt: HostRuntime) -> Result<(), Fail> {
 #[test]
 fn a_query_names_a_policy(rt: HostRuntime) -> Result<(), Fail> {
     let named = DeleteOptions::from_query(StatedPolicy::Named(Policy::Foreground))?;
-    assert!(rt; named.policy == Some(Policy::Foreground));
+    assert!(rt; matches!(named.policy, Some(Policy::Foreground)));
     Ok(())
 }
 

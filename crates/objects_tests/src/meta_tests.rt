@@ -1,12 +1,15 @@
 //! Objects that are read, stored and written again.
-use crate::fixtures::{object, stored};
 use definitions::kinds::Kind;
-use meta::values::has_float;
-use meta::{Draft, Fault, Object, StoredObject, merge};
+use drafts::Draft;
+use json_values::merge;
+use json_values::values::has_float;
+use keys::Fault;
+use meta::{Object, StoredObject};
 use serde_json::{Map, Value};
 use std::alloc::{AllocError, Global};
 use std::mem::size_of;
 use std::test::Fail;
+use test_objects::{object, stored};
 
 /// A value's outcome as an object of a kind: its text, or the part that it is refused for.
 fn outcome(alloc: Global, kind: Kind, value: Value) -> Result<String, Fault> {
@@ -74,7 +77,7 @@ fn an_item_has_no_kind(rt: HostRuntime) -> Result<(), Fail> {
 
 /// An object at a version, without labels, and with the uid and the generation of another.
 fn rewritten(alloc: Global, object: Object, existing: &Object) -> Result<Object, AllocError> {
-    let mut draft: Draft = object.open(alloc)?;
+    let mut draft: Draft = Draft::new(alloc, object)?;
     draft.remove("labels");
     draft.set_text(alloc, "resourceVersion", "7")?;
     draft.keep(alloc, "uid", existing)?;

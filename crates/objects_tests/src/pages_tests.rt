@@ -1,9 +1,9 @@
 //! Tokens of pages, as Python's `base64` and `json` write them.
-use crate::fixtures::{key, stored};
 use definitions::kinds::Kind;
 use meta::Member;
 use pages::Token;
 use std::test::Fail;
+use test_objects::{key, stored};
 
 const TEXT: &str = "eyJuYW1lIjoiYiIsIm5hbWVzcGFjZSI6ImRlZmF1bHQiLCJydiI6IjYifQ";
 

@@ -1,9 +1,9 @@
 //! Statuses, byte for byte, as the API server writes them.
-use crate::fixtures::key;
 use definitions::kinds::Kind;
-use meta::Fault;
+use keys::Fault;
 use reply::{Reply, message, success_text};
 use std::test::Fail;
+use test_objects::key;
 
 #[test]
 fn a_deployment_that_is_not_found_has_its_group(rt: HostRuntime) -> Result<(), Fail> {

@@ -1,10 +1,10 @@
 //! Selectors that the documentation of Kubernetes shows, and what they match.
-use crate::fixtures::stored;
 use definitions::kinds::Kind;
 use selector::{Fault, Fields, Selector};
 use serde_json::Value;
 use std::alloc::Global;
 use std::test::Fail;
+use test_objects::stored;
 
 /// Whether a text matches labels.
 fn text_matches(alloc: Global, text: &str, labels: &Value) -> Result<bool, Fault> {

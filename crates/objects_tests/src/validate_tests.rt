@@ -1,11 +1,13 @@
 //! What the documentation of Kubernetes shows, and what it forbids, filled in and checked.
-use crate::fixtures::{key, object};
+use defaults::defaults;
 use definitions::kinds::Kind;
 use definitions::refusals::Field;
-use meta::{Fault, Object};
+use keys::Fault;
+use meta::Object;
 use std::alloc::Global;
 use std::test::Fail;
-use validate::{check_create, check_update, defaults};
+use test_objects::{key, object};
+use validate::{check_create, check_update};
 
 // The first example of "Deployments".
 #[test]

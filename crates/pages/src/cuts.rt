@@ -2,13 +2,14 @@
 ghost use Rattle.std.specs.Prelude.{◌≡◌, ◌≤◌, length, map, drop};
 ghost use Rattle.definitions.specs.Pages as pages;
 ghost use Rattle.definitions.specs.Pages.{AreInPlace, place_of, place_cmp, after_place};
-ghost use Rattle.meta.specs.Keys.{key_of};
+ghost use Rattle.keys.specs.Keys.{key_of};
 ghost use Rattle.meta.specs.Members.{member_of};
 ghost use Rattle.pages.specs.Seen.{token_of, asked_place, is_passed, list_after};
 ghost use Rattle.definitions.specs.PageTokens.{token_place};
 
 use crate::tokens::Token;
-use meta::{Key, Member};
+use keys::Key;
+use meta::Member;
 use std::cmp::Ordering;
 
 /// A part of a list: its objects, and how many come after them. If any do, the next page begins after the last one.

@@ -11,7 +11,7 @@ use crate::tokens::Token;
 use base64::DecodeAllocError;
 use base64::engine::general_purpose::URL_SAFE_NO_PAD;
 use definitions::refusals::Part;
-use meta::Fault;
+use keys::Fault;
 use serde_json::{Category, Value};
 use stamps::revisions::read_revision;
 use std::alloc::{AllocError, Global};

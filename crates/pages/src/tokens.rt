@@ -4,7 +4,8 @@ ghost use Rattle.std.specs.Prelude.{◌≡◌, IfOk, IfErr, string_bytes};
 use crate::reading::{members_of, value_of};
 use base64::engine::general_purpose::URL_SAFE_NO_PAD;
 use definitions::refusals::Part;
-use meta::{Fault, Member};
+use keys::Fault;
+use meta::Member;
 use serde_json::{Map, Value};
 use std::alloc::{AllocError, Global};
 
@@ -23,7 +24,7 @@ impl Token {
     ghost use Rattle.std.specs.Prelude.{◌≡◌, IfOk, IfErr, string_bytes};
     ghost use Rattle.definitions.specs.Pages.{place_of};
     ghost use Rattle.definitions.specs.PageTokens.{token_place, token_text, IsToken};
-    ghost use Rattle.meta.specs.Keys.{key_of};
+    ghost use Rattle.keys.specs.Keys.{key_of};
     ghost use Rattle.pages.specs.Seen.{token_of};
     ghost use Rattle.pages.specs.Refused.{RefusesToken};
 

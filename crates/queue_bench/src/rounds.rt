@@ -2,7 +2,7 @@
 use crate::line::Line;
 use controllers::controller::Controller;
 use definitions::kinds::Kind;
-use meta::keys::Key;
+use keys::Key;
 use std::alloc::{AllocError, Global};
 use work_keys::WorkKey;
 

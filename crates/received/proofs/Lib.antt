@@ -1,4 +1,4 @@
 pub mod Filling
 pub mod Told
 pub mod Needed
-pub mod Said
+pub mod ReadHeads

@@ -1,7 +1,7 @@
 -- What is asked, apart from running out of memory.
 use Rattle.std.specs.Prelude.{◌≡◌, Result, Ok, Err}
-use Rattle.meta.specs.declared.faults.Fault.{Fault}
-use Rattle.meta.specs.declared.faults.Fault.TheVariants as fault
+use Rattle.keys.specs.declared.fault.Fault.{Fault}
+use Rattle.keys.specs.declared.fault.Fault.TheVariants as fault
 use Rattle.asked.specs.declared.meaning.Asked.{Asked}
 use Rattle.request_heads.specs.declared.fault.ReadFault.{ReadFault}
 use Rattle.request_heads.specs.declared.fault.ReadFault.TheVariants as read

@@ -7,7 +7,7 @@ use Rattle.definitions.specs.Targets as targets
 use Rattle.connections.specs.Heads.{head_of}
 use Rattle.connections.specs.Checks.{Opening, checked}
 use Rattle.connections.specs.Connections.{longest_head, asked_with_body, asked_after, Asks}
-use Rattle.meta.specs.Faults.{refusal_of}
+use Rattle.keys.specs.Faults.{refusal_of}
 use Rattle.asked.specs.Asked.{asked_seen}
 use Rattle.request_heads.specs.declared.fault.ReadFault.{ReadFault}
 use Rattle.request_heads.specs.declared.fault.ReadFault.TheVariants as fault

@@ -1,12 +1,12 @@
 //! What is asked, apart from running out of memory.
 ghost use Rattle.std.specs.Prelude.{◌≡◌, IfOk};
-ghost use Rattle.meta.specs.declared.faults.Fault.TheVariants.{NoMemory};
+ghost use Rattle.keys.specs.declared.fault.Fault.TheVariants.{NoMemory};
 ghost use Rattle.received.specs.declared.received.Received.TheVariants as received;
 ghost use Rattle.received.specs.Answered.{Answers, Refuses};
 
 use crate::received::Received;
 use asked::Asked;
-use meta::Fault;
+use keys::Fault;
 use request_heads::ReadFault;
 
 /// Returns what is asked, or why it is refused; out of memory is no refusal of the request.

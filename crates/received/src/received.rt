@@ -1,6 +1,6 @@
 //! What a connection asks.
 use asked::Asked;
-use meta::Fault;
+use keys::Fault;
 
 /// What a peer asks over a connection.
 #[derive(Drop)]

@@ -13,8 +13,8 @@ use Rattle.definitions.specs.Frames.{Frame, frame_kind, bookmark_frame}
 use Rattle.definitions.specs.Streams.{Line, event, bookmark, initial, initial_end, Goes, frame_of}
 use Rattle.definitions.specs.Revisions.{greatest_revision}
 use Rattle.laws.specs.WatchLaws.{AreBetween}
-use Rattle.laws.proofs.Played.{list_played, goes_on, lie_between}
-use Rattle.controllers.specs.Reflectors.{Shown, Step, Run, run, step, shown, if_above, or_unreadable, put_step, remove_step, name_in, play_delta, play_deltas, going_on, mark_step}
+use Rattle.laws.proofs.AppliedEvents.{list_applied, goes_on, lie_between}
+use Rattle.controllers.specs.Reflectors.{Shown, Step, Run, run, step, shown, if_above, or_unreadable, put_step, remove_step, name_in, apply_delta, apply_deltas, going_on, mark_step}
 use Rattle.laws.specs.SentLaws.{whole, IsTold}
 use Rattle.reflector.proofs.Marks.{bookmark_step}
 
@@ -45,7 +45,7 @@ first_change h v at b c cs le e =
     let two = only_one at c.revision b (events h v at c.revision) (events h v c.revision b) c cs refl (sym (goes_on h v at c.revision b (omega arith) high) ∙ sym e) (lie_between h v at c.revision) (lie_between h v c.revision b) between.2 in (
       low,
       high,
-      sym (ap (applied (list h v at)) two.0) ∙ list_played h v at c.revision (omega arith),
+      sym (ap (applied (list h v at)) two.0) ∙ list_applied h v at c.revision (omega arith),
       sym two.1,
     )
 
@@ -68,7 +68,7 @@ none_before at r (x ∷ xs) ys (c ∷ cs) e p low =
 at_bookmark : (h : History) (v : View) (at r b : ℕ) (cs : List Event) → at ≤ r → r ≤ b → IsBefore r cs → cs ≡ events h v at b → (list h v at ≡ list h v r) × (cs ≡ events h v r b)
 at_bookmark h v at r b cs low high before e =
     let none = none_before at r (events h v at r) (events h v r b) cs (sym (goes_on h v at r b low high) ∙ sym e) (lie_between h v at r) before in (
-      sym (ap (applied (list h v at)) none) ∙ list_played h v at r low,
+      sym (ap (applied (list h v at)) none) ∙ list_applied h v at r low,
       e ∙ goes_on h v at r b low high ∙ ap (λ z. z ++ events h v r b) none,
     )
 
@@ -83,7 +83,7 @@ done_to ms kind n d = apply ms (record { kind = kind; revision = 0; key = n; obj
 
 change_step_at : (kind : ChangeKind) (k : Kind) (last r : ℕ) (n : Key) (d : Data)
     → (let o : Object = record { kind = k; value = d } in shown k d ≡ Some (record { object = o; revision = r }) → name_in o ≡ n → last < r
-    → (t : Step) × (step k last (record { kind = frame_kind kind; object = d }) ≡ Ok t) × (t.revision ≡ r) × ((ms : Members) → play_delta ms t.delta ≡ done_to ms kind n d))
+    → (t : Step) × (step k last (record { kind = frame_kind kind; object = d }) ≡ Ok t) × (t.revision ≡ r) × ((ms : Members) → apply_delta ms t.delta ≡ done_to ms kind n d))
 change_step_at Added k last r n d e names low =
     let s : Shown = record { object = record { kind = k; value = d }; revision = r } in
     (put_step s, ap (λ o. or_unreadable (option_map put_step o)) (above_is last s (shown k d) e low), refl, λ ms. ap (λ m. put_or_remove ms m (Some d)) names)
@@ -101,25 +101,25 @@ pub record Reaches (h : History) (v : View) (at b : ℕ) (later : List Frame) (t
   pub ended : t.ended ≡ None
   pub above : at ≤ t.revision
   pub below : t.revision ≤ b
-  pub plays : play_deltas (list h v at) t.deltas ≡ list h v t.revision
+  pub applies : apply_deltas (list h v at) t.deltas ≡ list h v t.revision
   pub last : later ≡ [] → list h v t.revision ≡ list h v b
 
 -- one step more
 stepped : (h : History) (v : View) (at r b : ℕ) (later : List Frame) (k : Kind) (e : Frame) (es : List Frame) (t : Step) → step k at e ≡ Ok t → t.revision ≡ r → at ≤ r
-    → play_delta (list h v at) t.delta ≡ list h v r → Reaches h v r b later (run k r es) → Reaches h v at b later (run k at (e ∷ es))
-stepped h v at r b later k e es t is to up plays more =
+    → apply_delta (list h v at) t.delta ≡ list h v r → Reaches h v r b later (run k r es) → Reaches h v at b later (run k at (e ∷ es))
+stepped h v at r b later k e es t is to up applies more =
     subst (λ o. Reaches h v at b later (going_on at (λ q. run k q es) o)) (sym is)
     (subst (λ q. Reaches h v at b later (record { deltas = t.delta ∷ (run k q es).deltas; revision = (run k q es).revision; ended = (run k q es).ended })) (sym to)
     (record {
       ended = more.ended;
       above = omega (arith, more.above);
       below = more.below;
-      plays = ap (λ ms. play_deltas ms (run k r es).deltas) plays ∙ more.plays;
+      applies = ap (λ ms. apply_deltas ms (run k r es).deltas) applies ∙ more.applies;
       last = more.last;
     }))
 
 nothing_left : (h : History) (v : View) (at b : ℕ) → at ≤ b → [] ≡ events h v at b → list h v at ≡ list h v b
-nothing_left h v at b le e = ap (applied (list h v at)) e ∙ list_played h v at b le
+nothing_left h v at b le e = ap (applied (list h v at)) e ∙ list_applied h v at b le
 
 none_more : (h : History) (k : Kind) (at b : ℕ) (cs : List Event) (ls : List Line) (later : List Frame) → at ≤ b → cs ≡ events h (whole k) at b → Goes at b cs ls → later ≡ map (frame_of k) ls → later ≡ []
     → list h (whole k) at ≡ list h (whole k) b
@@ -133,7 +133,7 @@ follows ls [] later h k at b cs le top e g told is = record {
   ended = refl;
   above = omega arith;
   below = le;
-  plays = refl;
+  applies = refl;
   last = none_more h k at b cs ls later le e g is;
 }
 follows [] (f ∷ es) later h k at b cs le top e g told is = cc

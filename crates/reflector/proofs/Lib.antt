@@ -1,7 +1,7 @@
 pub mod Bodies
 pub mod Cutting
 pub mod Followed
-pub mod Held
+pub mod Buffered
 pub mod Marks
 pub mod Repeats
 pub mod Runs

@@ -8,7 +8,7 @@ use Rattle.definitions.specs.declared.frames.FrameKind.TheVariants.{Added, Modif
 use Rattle.definitions.specs.Events.{Event, events}
 use Rattle.definitions.specs.Frames.{kind_text, frame_kind}
 use Rattle.definitions.specs.History.{History, present}
-use Rattle.controllers.specs.Reflectors.{with_list, all_fed, play_deltas}
+use Rattle.controllers.specs.Reflectors.{with_list, all_fed, apply_deltas}
 use Rattle.laws.specs.SentLaws.{whole, IsShort, listed_at}
 use Rattle.definitions.specs.Streams.{Line, event, bookmark, initial, initial_end, Goes, frame_of}
 use Rattle.laws.proofs.Limited.{limited}
@@ -77,4 +77,4 @@ pub list_served : ListsAndWatchesAreFollowed
 list_served h a b ls s ms body pieces more text served e =
     let l = listed_at h s.kind a in
     let on = cut_served h a b ls (with_list (Some l) s) pieces more (record { watches = refl; revision = refl; holds = refl }) served e in
-    (l, lists_read h s.kind a body served.happened text, on, ap (λ z. play_deltas z (all_fed (with_list (Some l) s) pieces).deltas) (lists_put h s.kind a served.happened) ∙ on.plays)
+    (l, lists_read h s.kind a body served.happened text, on, ap (λ z. apply_deltas z (all_fed (with_list (Some l) s) pieces).deltas) (lists_put h s.kind a served.happened) ∙ on.applies)

@@ -9,7 +9,7 @@ use Rattle.definitions.specs.Frames.{Frame, frame_text}
 use Rattle.controllers.specs.ReadFrames.{Read, reading, onto}
 use Rattle.definitions.specs.Streams.{Line, frame_of, text_of}
 use Rattle.definitions.specs.Events.{events as changes}
-use Rattle.controllers.specs.Reflectors.{Reflector, Fed, Run, run, ran, all_fed, play_deltas}
+use Rattle.controllers.specs.Reflectors.{Reflector, Fed, Run, run, ran, all_fed, apply_deltas}
 use Rattle.framing.specs.Decoders.{fed_after}
 use Rattle.laws.specs.SentLaws.{whole}
 use Rattle.reflector.specs.Laws.{IsReadBack, IsSent, IsAt, GoesOn}
@@ -51,7 +51,7 @@ begins k ls bytes more h e =
 -- what is taken in, where there was no fault
 taken : (h : History) (k : Kind) (a b : ℕ) (later : List Frame) (r : Read) (t : Run) → r.fault ≡ None → Reaches h (whole k) a b later t → GoesOn h k a b (ran t r (at_revision k a Watching []))
 taken h k a b later r t none reaches =
-    rw (reaches.ended, none) (record { ended = refl; watches = refl; above = reaches.above; below = reaches.below; plays = reaches.plays })
+    rw (reaches.ended, none) (record { ended = refl; watches = refl; above = reaches.above; below = reaches.below; applies = reaches.applies })
 
 nothing_after : (es later : List Frame) → es ++ later ≡ es → later ≡ []
 nothing_after [] later h = h
@@ -70,7 +70,7 @@ module _ (h : History) (k : Kind) (a b : ℕ) (ls : List Line) (pieces : List (L
       subst (GoesOn h k a b) (sym (no_cutting_at k a Watching pieces))
       (taken h k a b start.later (reading (flat pieces)) (run k a (reading (flat pieces)).events) start.fault (reaches more start))
 
-  pub whole_followed : flat pieces ≡ text_of k ls → GoesOn h k a b (all_fed s pieces) × (play_deltas (list h (whole k) a) (all_fed s pieces).deltas ≡ list h (whole k) b)
+  pub whole_followed : flat pieces ≡ text_of k ls → GoesOn h k a b (all_fed s pieces) × (apply_deltas (list h (whole k) a) (all_fed s pieces).deltas ≡ list h (whole k) b)
   whole_followed e =
       let ends : flat pieces ++ [] ≡ text_of k ls = append-nil (flat pieces) ∙ e in
       let start = begins k ls (flat pieces) [] sent.read ends in
@@ -78,7 +78,7 @@ module _ (h : History) (k : Kind) (a b : ℕ) (ls : List Line) (pieces : List (L
       let all : (reading (flat pieces)).events ≡ map (frame_of k) ls = ap (λ (r : Read). r.events) (ap reading e ∙ all_back k ls sent.read) in
       let none : start.later ≡ [] = nothing_after (reading (flat pieces)).events start.later (start.events ∙ sym all) in (
         cut_followed [] ends,
-        ap (λ (f : Fed). play_deltas (list h (whole k) a) f.deltas) (no_cutting_at k a Watching pieces) ∙ reach.plays ∙ reach.last none,
+        ap (λ (f : Fed). apply_deltas (list h (whole k) a) f.deltas) (no_cutting_at k a Watching pieces) ∙ reach.applies ∙ reach.last none,
       )
 
 module _ (h : History) (a b : ℕ) (ls : List Line) where
@@ -87,7 +87,7 @@ module _ (h : History) (a b : ℕ) (ls : List Line) where
   Cut k t = (pieces : List (List ℕ)) (more : List ℕ) → IsSent h k a b ls → flat pieces ++ more ≡ text_of k ls → GoesOn h k a b (all_fed t pieces)
 
   abbrev Whole : Kind → Reflector → Type 0
-  Whole k t = (pieces : List (List ℕ)) → IsSent h k a b ls → flat pieces ≡ text_of k ls → GoesOn h k a b (all_fed t pieces) × (play_deltas (list h (whole k) a) (all_fed t pieces).deltas ≡ list h (whole k) b)
+  Whole k t = (pieces : List (List ℕ)) → IsSent h k a b ls → flat pieces ≡ text_of k ls → GoesOn h k a b (all_fed t pieces) × (apply_deltas (list h (whole k) a) (all_fed t pieces).deltas ≡ list h (whole k) b)
 
   stands : (t : Reflector) → IsAt t a → at_revision t.kind a Watching [] ≡ t
   stands t at = λ i. record { kind = t.kind; revision = sym at.revision i; phase = sym at.watches i; buffered = sym at.holds i }

@@ -5,7 +5,7 @@ use Rattle.controllers.specs.ReadFrames.{reading}
 use Rattle.controllers.specs.Reflectors as reflectors
 use Rattle.controllers.specs.Reflectors.{replace, put, remove, mark, list_of, run, end_of, phase_after, held_after}
 use Rattle.controllers.specs.declared.reflectors.End.{End}
-use Rattle.meta.specs.Keys.{key_of}
+use Rattle.keys.specs.Keys.{key_of}
 use Rattle.reflector.specs.declared.deltas.Delta.{Delta}
 use Rattle.reflector.specs.declared.deltas.Delta.TheVariants as delta
 use Rattle.reflector.specs.declared.shown.Shown.{Shown}

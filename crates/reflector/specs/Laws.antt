@@ -8,7 +8,7 @@ use Rattle.definitions.specs.Events.{events}
 use Rattle.definitions.specs.Frames.{frame_text}
 use Rattle.definitions.specs.Streams.{Line, IsStream, frame_of, text_of}
 use Rattle.definitions.specs.Revisions.{greatest_revision}
-use Rattle.controllers.specs.Reflectors.{Reflector, Fed, Listed, list_of, list_delta, with_list, play_deltas, fed, all_fed}
+use Rattle.controllers.specs.Reflectors.{Reflector, Fed, Listed, list_of, list_delta, with_list, apply_deltas, fed, all_fed}
 use Rattle.definitions.specs.Reached.{IsReached}
 use Rattle.laws.specs.SentLaws.{whole, IsTold, IsListText}
 use Rattle.framing.specs.Texts.{ReadsAs, IsWithin}
@@ -41,7 +41,7 @@ pub record GoesOn (h : History) (k : Kind) (a b : ℕ) (f : Fed) : Type 0 where
   pub watches : f.after.phase ≡ Watching
   pub above : a ≤ f.after.revision
   pub below : f.after.revision ≤ b
-  pub plays : play_deltas (list h (whole k) a) f.deltas ≡ list h (whole k) f.after.revision
+  pub applies : apply_deltas (list h (whole k) a) f.deltas ≡ list h (whole k) f.after.revision
 
 -- whatever part of a stream has come, in whatever pieces, the deltas make of the list at a the list at the revision named
 abbrev pub CutStreamsAreFollowed : Type 0
@@ -53,7 +53,7 @@ CutStreamsAreFollowed =
 abbrev pub StreamsAreFollowed : Type 0
 StreamsAreFollowed =
     (h : History) (a b : ℕ) (ls : List Line) (s : Reflector) (pieces : List (List ℕ)) → IsAt s a → IsSent h s.kind a b ls → flat_map (λ p. p) pieces ≡ text_of s.kind ls
-    → GoesOn h s.kind a b (all_fed s pieces) × (play_deltas (list h (whole s.kind) a) (all_fed s pieces).deltas ≡ list h (whole s.kind) b)
+    → GoesOn h s.kind a b (all_fed s pieces) × (apply_deltas (list h (whole s.kind) a) (all_fed s pieces).deltas ≡ list h (whole s.kind) b)
 
 -- ---- what a server sends
 
@@ -80,7 +80,7 @@ CutServedStreamsAreFollowed =
 abbrev pub ServedStreamsAreFollowed : Type 0
 ServedStreamsAreFollowed =
     (h : History) (a b : ℕ) (ls : List Line) (s : Reflector) (pieces : List (List ℕ)) → IsAt s a → IsServed h s.kind a b ls → flat_map (λ p. p) pieces ≡ text_of s.kind ls
-    → GoesOn h s.kind a b (all_fed s pieces) × (play_deltas (list h (whole s.kind) a) (all_fed s pieces).deltas ≡ list h (whole s.kind) b)
+    → GoesOn h s.kind a b (all_fed s pieces) × (apply_deltas (list h (whole s.kind) a) (all_fed s pieces).deltas ≡ list h (whole s.kind) b)
 
 -- whoever asked a server: who takes in its list at a, and then whatever part of a watch from a has come, in whatever pieces,
 -- has the list at the revision named, whatever it had before
@@ -89,4 +89,4 @@ ListsAndWatchesAreFollowed =
     (h : History) (a b : ℕ) (ls : List Line) (s : Reflector) (ms : Members) (body : List ℕ) (pieces : List (List ℕ)) (more : List ℕ)
     → IsListText h s.kind a body → IsServed h s.kind a b ls → flat_map (λ p. p) pieces ++ more ≡ text_of s.kind ls
     → (l : Listed) × (list_of s.kind body ≡ Some l) × GoesOn h s.kind a b (all_fed (with_list (Some l) s) pieces)
-    × (let f = all_fed (with_list (Some l) s) pieces in play_deltas ms (list_delta l ∷ f.deltas) ≡ list h (whole s.kind) f.after.revision)
+    × (let f = all_fed (with_list (Some l) s) pieces in apply_deltas ms (list_delta l ∷ f.deltas) ≡ list h (whole s.kind) f.after.revision)

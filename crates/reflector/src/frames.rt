@@ -7,7 +7,8 @@ ghost use Rattle.framing.specs.Decoders.{event_of, events_of};
 ghost use Rattle.reflector.specs.Deltas.{shown_of, step_of, run_of, IsStep};
 
 use crate::deltas::Delta;
-use crate::shown::{Shown, key_of, revision, says, show};
+use crate::identities::key_of;
+use crate::shown::{Shown, revision, says, show};
 use controllers::reflectors::End;
 use definitions::frames::FrameKind;
 use framing::{Frame, Want};
@@ -59,7 +60,7 @@ fn remove_step(alloc: Global, kind: Kind, last: u64, value: Value) -> Result<Opt
 {
     match show_above(alloc, kind, last, value)? {
         Some(Shown { object, revision }) => {
-            let key = key_of(alloc, &object)?;
+            let key = key_of(alloc, object.object())?;
             Ok(Some(Step {
                 revision,
                 delta: Delta::Remove(revision, key),

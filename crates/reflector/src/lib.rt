@@ -6,10 +6,12 @@
 pub mod deltas;
 pub mod faults;
 pub(crate) mod frames;
+pub mod identities;
 pub(crate) mod lists;
 pub(crate) mod pieces;
 pub mod reflector_laws;
 pub mod reflectors;
+pub mod shared_objects;
 pub(crate) mod shown;
 
 pub use controllers::reflectors::{Ask, End};
@@ -17,3 +19,4 @@ pub use deltas::{Delta, Fed};
 pub use faults::ListFault;
 pub use framing::Want;
 pub use reflectors::Reflector;
+pub use shared_objects::SharedObject;

@@ -11,7 +11,7 @@ use Rattle.definitions.specs.Refusals.{conflict}
 use Rattle.definitions.specs.Replacements.{as_held}
 use Rattle.definitions.specs.Values.{members_of, inner_of}
 use Rattle.definitions.specs.Verbs.{Outcome, refused, refuse_if, if_same}
-use Rattle.meta.proofs.PutAndTaken.{get-members_of}
+use Rattle.json_values.proofs.PutAndTaken.{get-members_of}
 use Rattle.answers.specs.Naming.{mismatch}
 
 -- what is another is refused

@@ -8,7 +8,7 @@ ghost use Rattle.definitions.specs.Revisions.{greatest_revision};
 ghost use Rattle.definitions.specs.Verbs.{accept_at, replace_status};
 ghost use Rattle.definitions.specs.ObjectRequests.{update_status};
 ghost use Rattle.definitions.proofs.VerbSteps.{restate};
-ghost use Rattle.meta.specs.Keys.{key_of};
+ghost use Rattle.keys.specs.Keys.{key_of};
 ghost use Rattle.answers.specs.Serves.{Serves};
 
 use crate::existing::Existing;
@@ -18,7 +18,8 @@ use answers::names_given::{mismatch, names_path};
 use answers::placing::{put_in_place, unchanged};
 use definitions::kinds::Kind;
 use definitions::refusals::{Field, Part};
-use meta::{Fault, Key, Object, Write};
+use keys::{Fault, Key};
+use meta::{Object, Write};
 use reply::Reply;
 use serde_json::Value;
 use std::alloc::{AllocError, Global};

@@ -8,7 +8,7 @@ ghost use Rattle.definitions.specs.Values.{members_of};
 ghost use Rattle.definitions.specs.Verbs.{accept_at, replace};
 ghost use Rattle.definitions.specs.ObjectRequests.{update_object};
 ghost use Rattle.definitions.proofs.VerbSteps.{replace_with, replace_changed};
-ghost use Rattle.meta.specs.Keys.{key_of};
+ghost use Rattle.keys.specs.Keys.{key_of};
 ghost use Rattle.answers.specs.Serves.{Serves};
 
 use crate::existing::Existing;
@@ -17,7 +17,9 @@ use answers::generations::updated;
 use answers::names_given::{mismatch, names_path};
 use answers::placing::{replaced, unchanged};
 use definitions::refusals::Part;
-use meta::{Fault, Key, Object, StoredObject, Write};
+use drafts::Draft;
+use keys::{Fault, Key};
+use meta::{Object, StoredObject, Write};
 use reply::Reply;
 use serde_json::Value;
 use std::alloc::{AllocError, Global};
@@ -98,7 +100,7 @@ fn keep_metadata(alloc: Global, object: Object, existing: &Object) -> Result<Obj
     ensures value { IfOk result (λ o. o.value ≡ with_metadata (keeping kept (metadata_of existing.now.value) (metadata_of object.value)) object.value) }
     ensures kind { IfOk result (λ o. o.kind ≡ object.kind) }
 {
-    let mut draft = object.open(alloc)?;
+    let mut draft = Draft::new(alloc, object)?;
     draft.keep(alloc, "namespace", existing)?;
     draft.keep(alloc, "uid", existing)?;
     draft.keep(alloc, "creationTimestamp", existing)?;

@@ -1,10 +1,10 @@
 //! What people are told of a fault.
 ghost use Rattle.std.specs.Prelude.{◌≡◌, IfOk, string_bytes};
 ghost use Rattle.definitions.specs.Refusals.{message, quoted_name};
-ghost use Rattle.meta.specs.Faults.{refusal_of};
-ghost use Rattle.meta.specs.Keys.{key_of};
+ghost use Rattle.keys.specs.Faults.{refusal_of};
+ghost use Rattle.keys.specs.Keys.{key_of};
 
-use meta::{Fault, Key};
+use keys::{Fault, Key};
 use std::alloc::{AllocError, Global};
 
 /// Returns a resource and a name in quotes, as `configmaps "a"`. The error is running out of memory.

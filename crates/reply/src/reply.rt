@@ -1,7 +1,7 @@
 //! Replies.
 
 use crate::statuses::{code, text};
-use meta::Fault;
+use keys::Fault;
 use std::alloc::{AllocError, Global};
 
 /// What a client is sent: an HTTP status code, and a body.
@@ -17,7 +17,7 @@ impl Reply {
     ghost use Rattle.std.specs.Prelude.{◌≡◌, IfOk, string_bytes};
     ghost use Rattle.serde_json.specs.Written.{compact_text};
     ghost use Rattle.definitions.specs.Refusals.{code, status_body};
-    ghost use Rattle.meta.specs.Faults.{refusal_of};
+    ghost use Rattle.keys.specs.Faults.{refusal_of};
 
     /// Returns the reply that refuses a request. The error is running out of memory.
     pub fn refusal(alloc: Global, fault: &Fault) -> Result<Reply, AllocError>

@@ -5,12 +5,12 @@ ghost use Rattle.serde_json.specs.View.{view};
 ghost use Rattle.serde_json.specs.Written.{compact_text};
 ghost use Rattle.definitions.specs.Refusals.{code, told, details, status_body, success_body};
 ghost use Rattle.reply.specs.Bare.{bare_body};
-ghost use Rattle.meta.specs.Faults.{refusal_of};
-ghost use Rattle.meta.specs.Keys.{key_of};
+ghost use Rattle.keys.specs.Faults.{refusal_of};
+ghost use Rattle.keys.specs.Keys.{key_of};
 
 use crate::messages::message;
-use meta::values::with_member;
-use meta::{Fault, Key};
+use json_values::values::with_member;
+use keys::{Fault, Key};
 use serde_json::{Value, json};
 use std::alloc::{AllocError, Global};
 

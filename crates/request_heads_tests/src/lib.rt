@@ -4,6 +4,4 @@
 #[cfg(test)]
 mod reading_tests;
 #[cfg(test)]
-mod source;
-#[cfg(test)]
 mod value_tests;

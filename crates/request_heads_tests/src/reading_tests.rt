@@ -1,4 +1,3 @@
-use crate::source::Source;
 use chunked::Watched;
 use httparse::spans::EMPTY_HEADER_SPAN;
 use request_heads::reading::read_head;
@@ -6,6 +5,7 @@ use request_heads::{Found, ReadFault};
 use std::alloc::Global;
 use std::io::ErrorKind;
 use std::test::Fail;
+use test_devices::Source;
 
 /// A head, and the beginning of a body.
 const POST: &[u8] = b"POST /api/v1/pods HTTP/1.1\r\nHost: a\r\ncontent-length:  4 \r\n\r\n{}";

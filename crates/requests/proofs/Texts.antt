@@ -8,10 +8,10 @@ use Rattle.std.proofs.lemmas.Str.{is_utf8-from_IsUtf8, IsUtf8-from_is_utf8, IsUt
 use Rattle.std.proofs.lemmas.Bool.Decides.{nat_tests}
 use Rattle.serde_json.specs.Data.{Data}
 use Rattle.serde_json.specs.Read.{read}
+use Rattle.definitions.proofs.Truths.{both_true}
 use Rattle.definitions.specs.declared.refusals.Part.TheVariants as part
 use Rattle.definitions.specs.Moments.{is_digit}
 use Rattle.definitions.specs.Revisions.{revision_of}
-use Rattle.stamps.proofs.Forms.{both}
 use Rattle.definitions.specs.Refusals.{bad_request}
 use Rattle.definitions.specs.Targets.{decoded, body_of}
 
@@ -43,13 +43,13 @@ body_of-unread t h = ap (λ o. ok_or o (bad_request part.Body)) (by (is_utf8 t) 
 
 digit-ascii : (x : ℕ) → is_digit x ≡ true → x < 128
 digit-ascii x h =
-    let m : nat_le x 57 ≡ true = (both (nat_le 48 x) (nat_le x 57) h).1 in
+    let m : nat_le x 57 ≡ true = (both_true (nat_le 48 x) (nat_le x 57) h).1 in
     grind (arith, nat_tests)
 
 digits-ascii : (t : List ℕ) → list_all is_digit t ≡ true → IsAscii t
 digits-ascii [] h i = omega arith
-digits-ascii (x ∷ t) h zero = digit-ascii x (both (is_digit x) (list_all is_digit t) h).0
-digits-ascii (x ∷ t) h (suc i) = digits-ascii t (both (is_digit x) (list_all is_digit t) h).1 i
+digits-ascii (x ∷ t) h zero = digit-ascii x (both_true (is_digit x) (list_all is_digit t) h).0
+digits-ascii (x ∷ t) h (suc i) = digits-ascii t (both_true (is_digit x) (list_all is_digit t) h).1 i
 
 no_revision : (a b c d : Bool) (n : ℕ) → b ≡ false → (if a && b && c && d then Some n else None) ≡ None
 no_revision false b c d n e = refl

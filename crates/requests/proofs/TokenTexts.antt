@@ -5,8 +5,8 @@ use Rattle.definitions.specs.declared.refusals.Part.TheVariants as part
 use Rattle.definitions.specs.Collections.{going_on}
 use Rattle.definitions.specs.PageTokens.{Token, token_of}
 use Rattle.definitions.proofs.TokensRead.{read_is_token}
-use Rattle.meta.specs.declared.faults.Fault.{Fault}
-use Rattle.meta.specs.declared.faults.Fault.TheVariants as fault
+use Rattle.keys.specs.declared.fault.Fault.{Fault}
+use Rattle.keys.specs.declared.fault.Fault.TheVariants as fault
 use Rattle.pages.specs.Refused.{IsNoToken, RefusesToken}
 
 by : (text : List ℕ) (o : Option Token) → token_of text ≡ o → IsNoToken text → o ≡ None

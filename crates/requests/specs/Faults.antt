@@ -1,7 +1,7 @@
 -- Why a query is not read.
 use Rattle.definitions.specs.declared.refusals.Part.TheVariants as part
-use Rattle.meta.specs.declared.faults.Fault.{Fault}
-use Rattle.meta.specs.declared.faults.Fault.TheVariants as fault
+use Rattle.keys.specs.declared.fault.Fault.{Fault}
+use Rattle.keys.specs.declared.fault.Fault.TheVariants as fault
 use Rattle.requests.specs.declared.faults.MemberFault.{MemberFault}
 use Rattle.requests.specs.declared.faults.MemberFault.TheVariants as member
 use Rattle.requests.specs.declared.faults.QueryFault.{QueryFault}

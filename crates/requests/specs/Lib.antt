@@ -3,4 +3,5 @@ pub mod Collected
 pub mod Faults
 pub mod Lines
 pub mod Queried
+pub mod Requests
 pub mod Seen

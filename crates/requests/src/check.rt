@@ -9,7 +9,7 @@ ghost use Rattle.requests.specs.Seen.{checked_seen};
 
 use definitions::methods::Method;
 use definitions::refusals::Part;
-use meta::Fault;
+use keys::Fault;
 use routes::table::Routes;
 use routes::targets::Target;
 use std::alloc::{AllocError, Global};
@@ -27,7 +27,7 @@ pub enum CheckFault {
 }
 
 impl From<CheckFault> for Fault {
-    ghost use Rattle.meta.specs.Faults.{refusal_of};
+    ghost use Rattle.keys.specs.Faults.{refusal_of};
     ghost use Rattle.requests.specs.Seen.{check_refusal};
 
     ghost from_gives = { λ check f. refusal_of f ≡ check_refusal check };

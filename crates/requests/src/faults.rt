@@ -5,7 +5,7 @@ ghost use Rattle.requests.specs.declared.faults.MemberFault.TheVariants as membe
 ghost use Rattle.requests.specs.declared.faults.QueryFault.TheVariants as query;
 
 use definitions::refusals::Part;
-use meta::Fault;
+use keys::Fault;
 use std::alloc::AllocError;
 
 /// Why a query is not read.

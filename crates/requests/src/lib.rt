@@ -1,4 +1,4 @@
-//! The reading of requests up to their bodies: a replay's line, the checks of a target, its query, and a body's JSON.
+//! Requests by their verbs, and their reading up to the bodies: a replay's line, the checks of a target, its query, and a body's JSON.
 #![tactic(auto)]
 
 pub mod body;
@@ -10,4 +10,7 @@ pub mod line;
 pub mod list_options;
 pub(crate) mod members;
 pub mod query;
+pub mod request;
 pub mod watch_options;
+
+pub use request::Request;

@@ -13,7 +13,7 @@ ghost use Rattle.requests.specs.Queried.{Reads};
 use crate::faults::{MemberFault, QueryFault};
 use crate::members::{member, version};
 use definitions::versions::{At, Match};
-use meta::Fault;
+use keys::Fault;
 use pages::Token;
 use std::alloc::Global;
 use std::borrow::CowStr;

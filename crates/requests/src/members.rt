@@ -93,10 +93,11 @@ pub(crate) fn member<'q>(
     Ok(None)
 }
 
+/// Returns whether a value is `true`, `True`, as Python's client writes it, or `1`.
 pub(crate) fn is_true(value: &str) -> bool
     ensures { result ≡ is_asked (Some value.now) }
 {
-    value == "true" || value == "1"
+    value == "true" || value == "True" || value == "1"
 }
 
 /// Returns whether a member is there and true.

@@ -3,13 +3,14 @@
 ghost use Rattle.std.specs.Prelude.{◌≡◌, ◌++◌, OnOk, map, false};
 ghost use Rattle.chunked.specs.Bodies.{chunk_text};
 ghost use Rattle.definitions.specs.Frames.{frame_text, bookmark_frame, error_frame};
-ghost use Rattle.meta.specs.Faults.{refusal_of};
+ghost use Rattle.keys.specs.Faults.{refusal_of};
 ghost use Rattle.responses.specs.Frames.{change_frames, object_frames};
 ghost use Rattle.revisions.specs.Events.{event_seen};
 
 use chunked::push_chunk;
 use definitions::kinds::Kind;
-use meta::{Fault, StoredObject};
+use keys::Fault;
+use meta::StoredObject;
 use revisions::Event;
 use std::alloc::{AllocError, Global};
 

@@ -3,10 +3,10 @@ ghost use Rattle.std.specs.Prelude.{◌≡◌, IfOk};
 ghost use Rattle.connections.specs.Replies.{response_text, reply_text};
 ghost use Rattle.definitions.specs.Replies.{outcome};
 ghost use Rattle.definitions.specs.Verbs.{refused};
-ghost use Rattle.meta.specs.Faults.{refusal_of};
+ghost use Rattle.keys.specs.Faults.{refusal_of};
 
 use crate::heads::push_head;
-use meta::Fault;
+use keys::Fault;
 use reply::Reply;
 use std::alloc::{AllocError, Global};
 

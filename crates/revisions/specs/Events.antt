@@ -1,6 +1,6 @@
 -- An event, by its key and its object's data.
 use Rattle.definitions.specs.Events.{Event as Change}
-use Rattle.meta.specs.Keys.{key_of}
+use Rattle.keys.specs.Keys.{key_of}
 use Rattle.revisions.specs.declared.events.Event.{Event}
 
 abbrev pub event_seen : Event → Change

@@ -2,7 +2,7 @@
 ghost use Rattle.std.specs.Prelude.{◌≡◌, IfOk, map, option_map};
 ghost use Rattle.definitions.specs.History.{found};
 ghost use Rattle.definitions.specs.Events.{events};
-ghost use Rattle.meta.specs.Keys.{key_of};
+ghost use Rattle.keys.specs.Keys.{key_of};
 ghost use Rattle.selector.specs.Views.{view_of};
 ghost use Rattle.revisions.specs.Events.{event_seen};
 ghost use Rattle.revisions.specs.Journals.{history_of};
@@ -11,7 +11,7 @@ ghost use Rattle.revisions.specs.Seen.{seen};
 use crate::events::Event;
 use crate::making::{push_change, shown};
 use crate::past::{apply, state_at, up_to};
-use meta::keys::Key;
+use keys::Key;
 use meta::stored::StoredObject;
 use meta::writes::Write;
 use selector::View;

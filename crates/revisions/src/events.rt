@@ -1,7 +1,7 @@
 //! Events.
 
 use definitions::frames::ChangeKind;
-use meta::keys::Key;
+use keys::Key;
 use meta::stored::StoredObject;
 
 /// What a write did to an object that a view asks for.

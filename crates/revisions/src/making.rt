@@ -2,13 +2,14 @@
 ghost use Rattle.std.specs.Prelude.{◌≡◌, ◌++◌, IfOk, OnOk, map, option_map};
 ghost use Rattle.definitions.specs.History.{seen as shown};
 ghost use Rattle.definitions.specs.Events.{event_of, gone_at};
-ghost use Rattle.meta.specs.Keys.{key_of};
+ghost use Rattle.keys.specs.Keys.{key_of};
 ghost use Rattle.selector.specs.Views.{view_of};
 ghost use Rattle.revisions.specs.Events.{event_seen};
 
 use crate::events::Event;
 use definitions::frames::ChangeKind;
-use meta::keys::Key;
+use drafts::Draft;
+use keys::Key;
 use meta::objects::Object;
 use meta::stored::StoredObject;
 use selector::View;
@@ -79,7 +80,7 @@ fn at_revision(alloc: Global, revision: u64, object: Object) -> Result<Object, A
     ensures kind { IfOk result (λ o. o.kind ≡ object.kind) }
 {
     let digits = revision.to_string(alloc)?;
-    let mut draft = object.open(alloc)?;
+    let mut draft = Draft::new(alloc, object)?;
     draft.set_text(alloc, "resourceVersion", digits.as_str())?;
     let object = draft.close(alloc)?;
     Ok(object)

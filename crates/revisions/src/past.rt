@@ -1,12 +1,12 @@
 //! What was there after some writes.
 ghost use Rattle.std.specs.Prelude.{◌≡◌, IfOk, OnOk, ◌-◌, take, option_map};
-ghost use Rattle.meta.specs.Keys.{key_of};
+ghost use Rattle.keys.specs.Keys.{key_of};
 ghost use Rattle.meta.specs.Writes.{write_of};
 ghost use Rattle.definitions.specs.History.{members, after, put_or_remove};
 ghost use Rattle.revisions.specs.Journals.{history_of, put_at};
 ghost use Rattle.revisions.specs.Seen.{seen};
 
-use meta::keys::Key;
+use keys::Key;
 use meta::stored::StoredObject;
 use meta::writes::Write;
 use std::alloc::{AllocError, Global};

@@ -4,19 +4,16 @@ use Rattle.std.specs.Cmp.Lexicographic.{bytes_decides}
 use Rattle.std.specs.List.{list_all}
 use Rattle.matchit.specs.Seek.{same_text, or_else}
 use Rattle.routes.specs.Parts.{Part, word, found, after_word, after_any, ending}
+use Rattle.definitions.proofs.Truths.{right_true}
 use Rattle.definitions.specs.Targets.{after_words, is_filled}
 use Rattle.routes.proofs.Seeks.{found-none}
 use Rattle.routes.proofs.Walks.{Fits, taken}
-
-and-right : (u v : Bool) → (u && v) ≡ true → v ≡ true
-and-right true v h = h
-and-right false v h = cc
 
 abbrev pub IsFilled : List (List ℕ) → Type 0
 IsFilled ss = list_all is_filled ss ≡ true
 
 pub filled-tail : (s : List ℕ) (ss : List (List ℕ)) → IsFilled (s ∷ ss) → IsFilled ss
-filled-tail s ss h = and-right (is_filled s) (list_all is_filled ss) h
+filled-tail s ss h = right_true (is_filled s) (list_all is_filled ss) h
 
 pub same : (u v : List ℕ) → same_text u v ≡ true → u ≡ v
 same u v h = (bytes_decides u v).0 h

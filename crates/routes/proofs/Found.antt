@@ -8,6 +8,7 @@ use Rattle.matchit.specs.Router.{RouteOf}
 use Rattle.matchit.specs.Seek.{same_text, or_else}
 use Rattle.routes.specs.Parts.{Part, word, any, tokens, rows, found, after_word, after_any}
 use Rattle.routes.specs.Table.{table, route_text}
+use Rattle.definitions.proofs.Truths.{both_true}
 use Rattle.definitions.specs.Targets.{after_words, is_filled}
 use Rattle.definitions.proofs.PathForms.{Form, all_form, namespace_form, object_form, status_form, below, form_of, by_prefix}
 use Rattle.definitions.specs.declared.kinds.Group.{Group}
@@ -219,18 +220,14 @@ found-empty ((b ∷ s) ∷ ss) t g e =
     let f : list_all is_filled ss ≡ false = ap (λ v. v && list_all is_filled ss) (sym long) ∙ e in
     (λ i. or_else (found-empty ss (after_word (b ∷ s) t) (AreRoutes-word (b ∷ s) t g) f i) (found-empty ss (after_any t) (AreRoutes-any t g) f i))
 
-pub and-both : (u v : Bool) → (u && v) ≡ true → (u ≡ true) × (v ≡ true)
-and-both true v h = (refl, h)
-and-both false v h = cc
-
 abbrev is_plain : ℕ → Bool
 is_plain x = nat_lt x 256 && not (x == 47)
 
 plain-by : (w : List ℕ) → list_all is_plain w ≡ true → Plain w
 plain-by [] h = tt
 plain-by (x ∷ w) h =
-    let a = and-both (is_plain x) (list_all is_plain w) h in
-    let b = and-both (nat_lt x 256) (not (x == 47)) a.0 in
+    let a = both_true (is_plain x) (list_all is_plain w) h in
+    let b = both_true (nat_lt x 256) (not (x == 47)) a.0 in
     let l : nat_lt x 256 ≡ true = b.0 in
     let n : not (x == 47) ≡ true = b.1 in
     let small : x < 256 = grind (arith, nat_tests) in
@@ -246,8 +243,8 @@ pub route-by : (ps : List Part) → is_route ps ≡ true → IsRoute ps
 route-by [] h = tt
 route-by (word [] ∷ ps) h = cc
 route-by (word (x ∷ w) ∷ ps) h =
-    let a = and-both (is_filled (x ∷ w) && list_all is_plain (x ∷ w)) (is_route ps) h in
-    let b = and-both (is_filled (x ∷ w)) (list_all is_plain (x ∷ w)) a.0 in
+    let a = both_true (is_filled (x ∷ w) && list_all is_plain (x ∷ w)) (is_route ps) h in
+    let b = both_true (is_filled (x ∷ w)) (list_all is_plain (x ∷ w)) a.0 in
     (plain-by (x ∷ w) b.1, route-by ps a.1)
 route-by (any ∷ ps) h = route-by ps h
 
@@ -258,7 +255,7 @@ are_routes ((ps, k) ∷ t) = is_route ps && are_routes t
 routes-by : {K : Type 0} (t : List (List Part × K)) → are_routes t ≡ true → AreRoutes t
 routes-by [] h = tt
 routes-by ((ps, k) ∷ t) h =
-    let a = and-both (is_route ps) (are_routes t) h in
+    let a = both_true (is_route ps) (are_routes t) h in
     (route-by ps a.0, routes-by t a.1)
 
 pub routes-are : AreRoutes routes
@@ -303,7 +300,7 @@ below-told-core (w ∷ n ∷ p ∷ o ∷ []) =
     told-if Core (w ∷ n ∷ p ∷ o ∷ []) (same_text (codes "namespaces") w) (object_form Core n p o) (λ e. (refl, (same (codes "namespaces") w e, tt), refl))
 below-told-core (w ∷ n ∷ p ∷ o ∷ l ∷ []) =
     told-if Core (w ∷ n ∷ p ∷ o ∷ l ∷ []) (same_text (codes "namespaces") w && same_text (codes "status") l) (status_form Core n p o)
-    (λ e. let b = and-both (same_text (codes "namespaces") w) (same_text (codes "status") l) e in (refl, (same (codes "namespaces") w b.0, (same (codes "status") l b.1, tt)), refl))
+    (λ e. let b = both_true (same_text (codes "namespaces") w) (same_text (codes "status") l) e in (refl, (same (codes "namespaces") w b.0, (same (codes "status") l b.1, tt)), refl))
 below-told-core (w ∷ n ∷ p ∷ o ∷ l ∷ m ∷ r) = tt
 
 below-told-apps : (r : List (List ℕ)) → MatchOption (below Apps r) (Unit {0}) (Told Apps r)
@@ -316,7 +313,7 @@ below-told-apps (w ∷ n ∷ p ∷ o ∷ []) =
     told-if Apps (w ∷ n ∷ p ∷ o ∷ []) (same_text (codes "namespaces") w) (object_form Apps n p o) (λ e. (refl, (same (codes "namespaces") w e, tt), refl))
 below-told-apps (w ∷ n ∷ p ∷ o ∷ l ∷ []) =
     told-if Apps (w ∷ n ∷ p ∷ o ∷ l ∷ []) (same_text (codes "namespaces") w && same_text (codes "status") l) (status_form Apps n p o)
-    (λ e. let b = and-both (same_text (codes "namespaces") w) (same_text (codes "status") l) e in (refl, (same (codes "namespaces") w b.0, (same (codes "status") l b.1, tt)), refl))
+    (λ e. let b = both_true (same_text (codes "namespaces") w) (same_text (codes "status") l) e in (refl, (same (codes "namespaces") w b.0, (same (codes "status") l b.1, tt)), refl))
 below-told-apps (w ∷ n ∷ p ∷ o ∷ l ∷ m ∷ r) = tt
 
 -- the whole path fits the route, and its parameters are those of its form

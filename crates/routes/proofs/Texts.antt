@@ -9,6 +9,7 @@ use Rattle.matchit.specs.Router.{RouteOf}
 use Rattle.matchit.specs.Seek.{first}
 use Rattle.routes.specs.Parts.{Part, word, any, tokens, joined}
 use Rattle.routes.specs.Table.{table, route_text}
+use Rattle.definitions.proofs.Truths.{both_true}
 use Rattle.definitions.specs.Targets.{segments}
 use Rattle.routes.specs.Seen.{assembled, now}
 use Rattle.definitions.proofs.PathForms.{Form, form_of, route_of, all_form, namespace_form, object_form, status_form}
@@ -20,7 +21,7 @@ use Rattle.routes.specs.declared.entries.Entry.{Entry}
 use Rattle.routes.proofs.Plain.{AllPlain, AreBytes, whole, whole-split, plain-split}
 use Rattle.routes.proofs.Seeks.{finds, finds-other, finds-empty, IsRoute}
 use Rattle.routes.proofs.Walks.{taken, walks}
-use Rattle.routes.proofs.Found.{routes, routes-are, table-rows, found-form, form-fits, Fitting, row, row_of, group_of, layout_of, layout_parts, prefix, route_names, params_of, route-by, and-both}
+use Rattle.routes.proofs.Found.{routes, routes-are, table-rows, found-form, form-fits, Fitting, row, row_of, group_of, layout_of, layout_parts, prefix, route_names, params_of, route-by}
 
 -- ---- segments of a text are texts
 
@@ -59,9 +60,9 @@ taken-texts text (any ∷ ps) (s ∷ ss) (n ∷ ns) u a = (a.0, u.0, taken-texts
 small-at : (bs : List ℕ) → list_all (λ x. nat_lt x 128) bs ≡ true → (i : ℕ) → get_or bs i 0 < 128
 small-at [] h i = lit< tt
 small-at (x ∷ bs) h zero =
-    let l : nat_lt x 128 ≡ true = (and-both (nat_lt x 128) (list_all (λ x. nat_lt x 128) bs) h).0 in
+    let l : nat_lt x 128 ≡ true = (both_true (nat_lt x 128) (list_all (λ x. nat_lt x 128) bs) h).0 in
     grind (arith, nat_tests)
-small-at (x ∷ bs) h (suc i) = small-at bs (and-both (nat_lt x 128) (list_all (λ x. nat_lt x 128) bs) h).1 i
+small-at (x ∷ bs) h (suc i) = small-at bs (both_true (nat_lt x 128) (list_all (λ x. nat_lt x 128) bs) h).1 i
 
 ascii : (bs : List ℕ) → list_all (λ x. nat_lt x 128) bs ≡ true → IsUtf8 bs
 ascii bs h = IsUtf8-from_ascii bs (small-at bs h)

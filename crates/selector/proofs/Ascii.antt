@@ -1,27 +1,16 @@
 -- Keys and values of labels are ASCII, so they are text.
 use Rattle.std.proofs.Common.{◌≡◌, ℕ, ◌<◌, ◌≤◌, List, [], ◌∷◌, Bool, true, false, ◌&&◌, ◌||◌, ◌==◌, nat_lt, nat_le, length, refl, arith, get_or, slice_index, ◌-◌, subst, sym, None}
-use Rattle.selector.proofs.Cutting.{none-passes}
 use Rattle.std.proofs.lemmas.Bool.Decides.{nat_tests}
 use Rattle.std.proofs.lemmas.Str.{IsUtf8-from_ascii, IsUtf8-append, IsUtf8-nil}
 use Rattle.std.proofs.lemmas.Str.Ascii.{IsAscii-nil, IsAscii-cons}
 use Rattle.std.proofs.lemmas.List.Sums.{split_at_first, passes_at_first, fails_before_first}
 use Rattle.std.specs.List.{list_all, list_any, slice_split, onto_first, before_first, after_first, position_or_len}
 use Rattle.std.specs.Str.{IsAscii, IsUtf8}
+use Rattle.definitions.proofs.FirstPlaces.{some-place}
+use Rattle.definitions.proofs.Truths.{and_true, left_true, not_both, right_true}
 use Rattle.definitions.specs.Keys.{is_letter_or_digit, is_label, is_subdomain}
 use Rattle.definitions.specs.Labels.{is_name_byte, is_alphanumeric, is_short_name, is_label_value, is_label_key, is_slash}
 use Rattle.definitions.specs.Selectors.{label_key, label_value}
-
-pub and-left : (u v : Bool) → (u && v) ≡ true → u ≡ true
-and-left true v h = refl
-and-left false v h = h
-
-pub and-right : (u v : Bool) → (u && v) ≡ true → v ≡ true
-and-right true v h = h
-and-right false v h = cc
-
-both-values : (v : Bool) → v ≡ true → v ≡ false → ⊥
-both-values true h k = cc
-both-values false h k = cc
 
 name-small : (b : ℕ) → is_name_byte b ≡ true → b < 128
 name-small b h = grind (arith, nat_tests)
@@ -41,23 +30,9 @@ slash-small b h = grind (arith, nat_tests)
 no-length : (t : List ℕ) → 0 < length t → (length t == 0) ≡ true → ⊥
 no-length t l e = grind (arith, nat_tests)
 
-and-true : (u v : Bool) → u ≡ true → v ≡ true → (u && v) ≡ true
-and-true true v h k = k
-and-true false v h k = h
-
-some-place : (p : ℕ → Bool) (t : List ℕ) → list_any p t ≡ true → position_or_len p t < length t
-some-place p t h = by (nat_lt (position_or_len p t) (length t)) refl
-  where
-    by : (v : Bool) → nat_lt (position_or_len p t) (length t) ≡ v → position_or_len p t < length t
-    by true e = grind (arith, nat_tests)
-    by false e =
-        let far : length t ≤ position_or_len p t = grind (arith, nat_tests) in
-        let n : list_any p t ≡ false = none-passes p t (λ k l. fails_before_first p t k 0 (omega (arith, far, l))) in
-        absurd (both-values (list_any p t) h n)
-
 names-ascii : (t : List ℕ) → list_all is_name_byte t ≡ true → IsAscii t
 names-ascii [] h = IsAscii-nil
-names-ascii (b ∷ t) h = IsAscii-cons b t (name-small b (and-left (is_name_byte b) (list_all is_name_byte t) h)) (names-ascii t (and-right (is_name_byte b) (list_all is_name_byte t) h))
+names-ascii (b ∷ t) h = IsAscii-cons b t (name-small b (left_true (is_name_byte b) (list_all is_name_byte t) h)) (names-ascii t (right_true (is_name_byte b) (list_all is_name_byte t) h))
 
 short-ascii : (t : List ℕ) → is_short_name t ≡ true → IsAscii t
 short-ascii t h =
@@ -65,18 +40,18 @@ short-ascii t h =
     let names = list_all is_name_byte t in
     let begins = is_alphanumeric (slice_index t 0) in
     let ends = is_alphanumeric (slice_index t (length t - 1)) in
-    names-ascii t (and-right long names (and-left (long && names) begins (and-left (long && names && begins) ends h)))
+    names-ascii t (right_true long names (left_true (long && names) begins (left_true (long && names && begins) ends h)))
 
 parts-ascii : (t : List ℕ) → list_all (list_all is_domain_byte) (slice_split is_dot t) ≡ true → IsAscii t
 parts-ascii [] h = IsAscii-nil
 parts-ascii (b ∷ t) h = by (is_dot b) (λ g. parts-ascii t g) refl
   where
     onto : (c : ℕ) (ps : List (List ℕ)) → list_all (list_all is_domain_byte) (onto_first c ps) ≡ true → (is_domain_byte c ≡ true) × (list_all (list_all is_domain_byte) ps ≡ true)
-    onto c [] h = (and-left (is_domain_byte c) true (and-left (is_domain_byte c && true) true h), refl)
+    onto c [] h = (left_true (is_domain_byte c) true (left_true (is_domain_byte c && true) true h), refl)
     onto c (p ∷ ps) h =
-        let front = and-left (is_domain_byte c && list_all is_domain_byte p) (list_all (list_all is_domain_byte) ps) h in
-        let back = and-right (is_domain_byte c && list_all is_domain_byte p) (list_all (list_all is_domain_byte) ps) h in
-        (and-left (is_domain_byte c) (list_all is_domain_byte p) front, and-true (list_all is_domain_byte p) (list_all (list_all is_domain_byte) ps) (and-right (is_domain_byte c) (list_all is_domain_byte p) front) back)
+        let front = left_true (is_domain_byte c && list_all is_domain_byte p) (list_all (list_all is_domain_byte) ps) h in
+        let back = right_true (is_domain_byte c && list_all is_domain_byte p) (list_all (list_all is_domain_byte) ps) h in
+        (left_true (is_domain_byte c) (list_all is_domain_byte p) front, and_true (list_all is_domain_byte p) (list_all (list_all is_domain_byte) ps) (right_true (is_domain_byte c) (list_all is_domain_byte p) front) back)
 
     by : (v : Bool) → (list_all (list_all is_domain_byte) (slice_split is_dot t) ≡ true → IsAscii t) → is_dot b ≡ v → IsAscii (b ∷ t)
     by true more e =
@@ -94,15 +69,15 @@ label-bytes t h =
     let names = list_all is_domain_byte t in
     let begins = is_letter_or_digit (slice_index t 0) in
     let ends = is_letter_or_digit (slice_index t (length t - 1)) in
-    and-right long names (and-left (long && names) begins (and-left (long && names && begins) ends h))
+    right_true long names (left_true (long && names) begins (left_true (long && names && begins) ends h))
 
 labels-bytes : (ps : List (List ℕ)) → list_all is_label ps ≡ true → list_all (list_all is_domain_byte) ps ≡ true
 labels-bytes [] h = refl
 labels-bytes (p ∷ ps) h =
-    and-true (list_all is_domain_byte p) (list_all (list_all is_domain_byte) ps) (label-bytes p (and-left (is_label p) (list_all is_label ps) h)) (labels-bytes ps (and-right (is_label p) (list_all is_label ps) h))
+    and_true (list_all is_domain_byte p) (list_all (list_all is_domain_byte) ps) (label-bytes p (left_true (is_label p) (list_all is_label ps) h)) (labels-bytes ps (right_true (is_label p) (list_all is_label ps) h))
 
 subdomain-ascii : (t : List ℕ) → is_subdomain t ≡ true → IsAscii t
-subdomain-ascii t h = parts-ascii t (labels-bytes (slice_split is_dot t) (and-left (list_all is_label (slice_split is_dot t)) (nat_le (length t) 253) h))
+subdomain-ascii t h = parts-ascii t (labels-bytes (slice_split is_dot t) (left_true (list_all is_label (slice_split is_dot t)) (nat_le (length t) 253) h))
 
 key-ascii : (t : List ℕ) → is_label_key t ≡ true → IsUtf8 t
 key-ascii t h = by (list_any is_slash t) refl
@@ -114,8 +89,8 @@ key-ascii t h = by (list_any is_slash t) refl
         let x = get_or t (position_or_len is_slash t) 0 in
         let passes : is_slash x ≡ true = passes_at_first is_slash t 0 l in
         let small : x < 128 = slash-small x passes in
-        let front = IsUtf8-from_ascii (before_first is_slash t) (subdomain-ascii (before_first is_slash t) (and-left (is_subdomain (before_first is_slash t)) (is_short_name (after_first is_slash t)) g)) in
-        let back = short-ascii (after_first is_slash t) (and-right (is_subdomain (before_first is_slash t)) (is_short_name (after_first is_slash t)) g) in
+        let front = IsUtf8-from_ascii (before_first is_slash t) (subdomain-ascii (before_first is_slash t) (left_true (is_subdomain (before_first is_slash t)) (is_short_name (after_first is_slash t)) g)) in
+        let back = short-ascii (after_first is_slash t) (right_true (is_subdomain (before_first is_slash t)) (is_short_name (after_first is_slash t)) g) in
         subst IsUtf8 (sym (split_at_first is_slash t 0 l)) (IsUtf8-append (before_first is_slash t) (x ∷ after_first is_slash t) front (IsUtf8-from_ascii (x ∷ after_first is_slash t) (IsAscii-cons x (after_first is_slash t) small back)))
     by false e =
         let g : is_short_name t ≡ true = rw e at h in

@@ -14,8 +14,8 @@ use crate::requirements::Requirement;
 use crate::texts::single;
 use definitions::schemas::{Schema, Shape};
 use definitions::selectors::Operator;
+use json_values::values::has_float;
 use meta::reading::{fits, tidy};
-use meta::values::has_float;
 use serde_json::{Map, Value};
 use std::alloc::Global;
 

@@ -1,12 +1,12 @@
 //! Views.
 ghost use Rattle.std.specs.Prelude.{◌≡◌};
 ghost use Rattle.definitions.specs.History.{in_view};
-ghost use Rattle.meta.specs.Keys.{key_of};
+ghost use Rattle.keys.specs.Keys.{key_of};
 
 use crate::fields::Fields;
 use crate::selectors::Selector;
 use definitions::kinds::Kind;
-use meta::keys::Key;
+use keys::Key;
 use meta::stored::StoredObject;
 use std::alloc::Global;
 

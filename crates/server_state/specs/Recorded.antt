@@ -1,9 +1,9 @@
 -- A window as a server records it, and what it answers by the changes that it has.
-use Rattle.std.specs.Prelude.{◌≡◌, ℕ, ◌+◌, ◌-◌, List, [], ◌∷◌, ◌++◌, take, filter, flat_map, max, nat_lt, Result}
+use Rattle.std.specs.Prelude.{◌≡◌, ℕ, List, [], ◌∷◌, ◌++◌, take, filter, flat_map, max, nat_lt, Result}
 use Rattle.definitions.specs.declared.kinds.Kind.{Kind}
-use Rattle.definitions.specs.History.{History, write, compaction, View, Members, writes, present, list, put_or_remove, seen}
+use Rattle.definitions.specs.History.{History, View, Members, put_or_remove, seen}
 use Rattle.definitions.specs.Refusals.{Refusal}
-use Rattle.definitions.specs.Events.{Event, event_of, events}
+use Rattle.definitions.specs.Events.{Event, event_of}
 use Rattle.definitions.specs.Windows.{Change, last_n, all_but, last_revision, changes_of, floor, within}
 
 -- the last changes of a kind, as many as there is room for, and the revision from which they answer

@@ -1,13 +1,13 @@
 //! A server that keeps one change of each kind.
 use definitions::kinds::Kind;
 use desk::Server;
-use meta::Fault;
+use keys::Fault;
+use requests::Request;
 use selector::View;
 use serde_json::Value;
 use stamps::moments::Moment;
 use std::alloc::Global;
 use std::test::Fail;
-use verbs::Request;
 
 /// Creates a ConfigMap, and returns the code of the reply.
 fn create(alloc: Global, server: &mut Server, body: Value) -> Result<u16, Fault> {

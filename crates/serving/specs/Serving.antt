@@ -1,5 +1,5 @@
--- What a server says first, and what serving some connections makes of a handler.
-use Rattle.std.specs.Prelude.{◌≡◌, ◌≤◌, ℕ, zero, suc, List, ◌++◌, codes, Option, IfSome}
+-- What a server says first, and what serving some connections makes of its handlers.
+use Rattle.std.specs.Prelude.{◌≡◌, ◌≤◌, ℕ, zero, suc, ◌+◌, List, ◌∷◌, [], ◌++◌, codes, Option, IfSome}
 use Rattle.std.specs.Fmt.{decimal}
 
 -- the line that says where the server listens
@@ -14,3 +14,14 @@ Serves {S = S} step (suc n) first last = (middle : S) × Serves step n first mid
 -- some connections were handed on, no more than the limit if there is one
 abbrev pub ServesSome : {S : Type 0} → (S → S → Type 0) → Option ℕ → S → S → Type 0
 ServesSome step limit first last = (n : ℕ) × IfSome limit (λ most. n ≤ most) × Serves step n first last
+
+-- this many connections were handed on to the handlers of a row: so many to the first one, and the others to the rest
+abbrev pub ServesEach : {S : Type 0} → (S → S → Type 0) → ℕ → List S → List S → Type 0
+ServesEach step n [] [] = n ≡ 0
+ServesEach step n (first ∷ firsts) (last ∷ lasts) = (own : ℕ) × (others : ℕ) × (n ≡ own + others) × Serves step own first last × ServesEach step others firsts lasts
+ServesEach step n [] (last ∷ lasts) = ⊥
+ServesEach step n (first ∷ firsts) [] = ⊥
+
+-- some connections were handed on to the handlers of a row, over all no more than the limit if there is one
+abbrev pub ServesEachSome : {S : Type 0} → (S → S → Type 0) → Option ℕ → List S → List S → Type 0
+ServesEachSome step limit firsts lasts = (n : ℕ) × IfSome limit (λ most. n ≤ most) × ServesEach step n firsts lasts

@@ -1,8 +1,7 @@
-//! Listening, and accepting one connection after another.
-ghost use Rattle.std.specs.Prelude.{◌≡◌, IfSome, IfErr, OnOk, OnErr, Some, true, ℕ};
-ghost use Rattle.std.specs.Option.{is_some};
+//! Listening, and accepting one connection.
+ghost use Rattle.std.specs.Prelude.{◌≡◌, IfErr, OnOk, true, false, ℕ};
 ghost use Rattle.std.specs.Io.KnownBytes.{Appends};
-ghost use Rattle.serving.specs.Serving.{listening, Serves, ServesSome};
+ghost use Rattle.serving.specs.Serving.{listening};
 
 use crate::connection::{finish, hand_on, prepare};
 use crate::fault::{ServeFault, not_listening};
@@ -26,55 +25,12 @@ pub fn announce<W: Write>(writer: &mut W, port: u16) -> Result<(), ServeFault>
     Ok(())
 }
 
-/// Accepts one connection after another and hands each to the handler, until as many were handed on as the limit says;
-/// with no limit it does not end. A connection that cannot be accepted is passed over, after a pause, and does not count.
-pub fn accept_connections<C: Clock, H: Handler>(
-    listener: &TcpListener,
-    clock: &C,
-    limit: Option<u64>,
-    handler: &mut H,
-) -> Result<(), ServeFault>
-    ensures ended { OnOk result (is_some limit ≡ true) }
-    ensures ok { OnOk result (IfSome limit (λ most. Serves H.step most handler.old handler.new)) }
-    ensures err { OnErr result (ServesSome H.step limit handler.old handler.new) }
-    ensures fault { IfErr result (λ fault. fault ≡ ServeFault.Listen) }
-{
-    let mut served: u64 = 0;
-    for _ in 0..u64::MAX {
-        if limit == Some(served) {
-            return Ok(());
-        }
-        match listener.accept() {
-            Ok((stream, _)) => {
-                if prepare(&stream).is_ok() {
-                    hand_on(&stream, clock, handler);
-                    finish(&stream);
-                    served += 1;
-                }
-            }
-            Err(_) => thread::sleep(clock, Duration::from_millis(PAUSE_MILLISECONDS)),
-        }
-    }
-    Err(ServeFault::Listen)
-}
-
-/// Listens on a port of the loopback address, says which it is, and then accepts connections as `accept_connections`
-/// does. With port 0 the system takes a free one.
-pub fn serve<R, W, H>(
-    rt: &R,
-    port: u16,
-    limit: Option<u64>,
-    writer: &mut W,
-    handler: &mut H,
-) -> Result<(), ServeFault>
+/// Listens on a port of the loopback address and says which it is. With port 0 the system takes a free one.
+pub fn listen<R, W>(rt: &R, port: u16, writer: &mut W) -> Result<TcpListener, ServeFault>
 where
-    R: Net<Listener = TcpListener, Stream = TcpStream> + Clock,
+    R: Net<Listener = TcpListener, Stream = TcpStream>,
     W: Write,
-    H: Handler,
-    ensures said { OnOk result ((taken : ℕ) × Appends (W.contents writer.old) (W.contents writer.new) (listening taken)) }
-    ensures ended { OnOk result (is_some limit ≡ true) }
-    ensures ok { OnOk result (IfSome limit (λ most. Serves H.step most handler.old handler.new)) }
-    ensures err { OnErr result (ServesSome H.step limit handler.old handler.new) }
+    ensures { OnOk result ((taken : ℕ) × Appends (W.contents writer.old) (W.contents writer.new) (listening taken)) }
 {
     let listener = match TcpListener::bind(rt, (Ipv4Addr::LOCALHOST, port)) {
         Ok(listener) => listener,
@@ -85,5 +41,37 @@ where
         Err(error) => return Err(not_listening(&error)),
     };
     announce(writer, taken)?;
-    accept_connections(&listener, rt, limit, handler)
+    Ok(listener)
+}
+
+/// Returns the next connection that can be served. One that cannot be accepted is passed over, after a pause.
+fn accept<C: Clock>(listener: &TcpListener, clock: &C) -> Option<TcpStream> {
+    for _ in 0..u64::MAX {
+        match listener.accept() {
+            Ok((stream, _)) => {
+                if prepare(&stream).is_ok() {
+                    return Some(stream);
+                }
+            }
+            Err(_) => thread::sleep(clock, Duration::from_millis(PAUSE_MILLISECONDS)),
+        }
+    }
+    None
+}
+
+/// Accepts a connection, hands it to the handler and ends it. It returns whether one could be accepted.
+pub(crate) fn serve_next<C: Clock, H: Handler>(
+    listener: &TcpListener,
+    clock: &C,
+    handler: &mut H,
+) -> bool
+    ensures served { result ≡ true → H.step handler.old handler.new }
+    ensures none { result ≡ false → handler.new ≡ handler.old }
+{
+    let Some(stream) = accept(listener, clock) else {
+        return false;
+    };
+    hand_on(&stream, clock, handler);
+    finish(&stream);
+    true
 }

@@ -1,6 +1,6 @@
 ghost use Rattle.std.specs.Prelude.{⊤};
 
-use serving::{Handler, ServeFault, accept_connections, serve};
+use serving::{Handler, ServeFault, accept_alone, serve_alone};
 use stamps::moments::Moment;
 use std::io;
 use std::io::{Read, Write};
@@ -41,10 +41,7 @@ fn a_reply_comes_though_bytes_are_left_unread(rt: HostRuntime) -> Result<(), Fai
     let mut handler = Twice {
         moment: Moment::start(),
     };
-    assert_eq!(rt;
-        accept_connections(&listener, &rt, Some(1), &mut handler),
-        Ok(())
-    );
+    assert_eq!(rt; accept_alone(&listener, &rt, Some(1), &mut handler), Ok(()));
     let reply = io::read_to_string(rt.alloc(), stream)?;
     assert_eq!(rt; reply.as_str(), "aa");
     assert!(rt; handler.moment.as_str() > "2026-01-01T00:00:00Z");
@@ -62,10 +59,7 @@ fn each_connection_is_handed_on(rt: HostRuntime) -> Result<(), Fail> {
     let mut handler = Twice {
         moment: Moment::start(),
     };
-    assert_eq!(rt;
-        accept_connections(&listener, &rt, Some(2), &mut handler),
-        Ok(())
-    );
+    assert_eq!(rt; accept_alone(&listener, &rt, Some(2), &mut handler), Ok(()));
     assert_eq!(rt; io::read_to_string(rt.alloc(), first)?.as_str(), "aa");
     assert_eq!(rt; io::read_to_string(rt.alloc(), second)?.as_str(), "bb");
     Ok(())
@@ -77,13 +71,16 @@ fn the_port_is_said_and_a_taken_one_is_refused(rt: HostRuntime) -> Result<(), Fa
         moment: Moment::start(),
     };
     let mut said = Vec::new(rt.alloc());
-    assert_eq!(rt; serve(&rt, 0, Some(0), &mut said, &mut handler), Ok(()));
+    assert_eq!(rt;
+        serve_alone(&rt, 0, Some(0), &mut said, &mut handler),
+        Ok(())
+    );
     assert!(rt; said.as_slice().starts_with(b"listening 127.0.0.1:"));
     let (listener, _stream) = connected(&rt)?;
     let taken = listener.local_addr()?.port();
     said.clear();
     assert_eq!(rt;
-        serve(&rt, taken, Some(0), &mut said, &mut handler),
+        serve_alone(&rt, taken, Some(0), &mut said, &mut handler),
         Err(ServeFault::Listen)
     );
     assert!(rt; said.is_empty());

@@ -17,8 +17,8 @@ use Rattle.definitions.specs.Verbs.{refused, write_of, accept_at, accept, histor
 use Rattle.definitions.specs.ObjectRequests.{Request}
 use Rattle.definitions.specs.Versions.{Listed, list_for, compacts}
 use Rattle.definitions.specs.WatchReplies.{watch_lines}
-use Rattle.laws.proofs.HeldAnswers.{pages_held, lines_held}
-use Rattle.laws.proofs.HeldHistories.{opened_holds, accepted_holds, compaction_holds}
+use Rattle.laws.proofs.ServerAnswers.{pages_held, lines_held}
+use Rattle.laws.proofs.ServerHistories.{opened_holds, accepted_holds, compaction_holds}
 use Rattle.session.specs.SessionStates.{SessionState, accepted, reply_for, reply_to, server_from, server_or, state_after, compact_text}
 use Rattle.session.specs.Laws.{Follows, SessionsFollow}
 

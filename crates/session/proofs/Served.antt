@@ -9,9 +9,9 @@ use Rattle.definitions.specs.Verbs as verbs
 use Rattle.definitions.specs.Verbs.{Answer, Outcome, answered, refused, overflows}
 use Rattle.definitions.specs.ObjectRequests.{Request}
 use Rattle.desk.specs.Replies.{Lists}
-use Rattle.meta.specs.Faults.{refusal_of}
-use Rattle.meta.specs.declared.faults.Fault.{Fault}
-use Rattle.meta.specs.declared.faults.Fault.TheVariants as fault
+use Rattle.keys.specs.Faults.{refusal_of}
+use Rattle.keys.specs.declared.fault.Fault.{Fault}
+use Rattle.keys.specs.declared.fault.Fault.TheVariants as fault
 use Rattle.meta.specs.Writes.{write_of}
 use Rattle.meta.specs.declared.writes.Write.{Write}
 use Rattle.reply.specs.declared.reply.Reply.{Reply}

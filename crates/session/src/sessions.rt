@@ -4,9 +4,11 @@ use asked::{Asked, read_request};
 use definitions::methods::Method;
 use definitions::refusals::Part;
 use desk::Server;
+use keys::Fault;
 use line_service::LineService;
-use meta::{Fault, Write};
+use meta::Write;
 use reply::Reply;
+use requests::Request;
 use requests::line::{Line, read_line};
 use requests::list_options::ListOptions;
 use requests::watch_options::WatchOptions;
@@ -17,7 +19,6 @@ use selector::View;
 use stamps::moments::Moment;
 use std::alloc::{AllocError, Global};
 use std::marker::Model;
-use verbs::Request;
 
 /// A server and the moment that it is, over which lines are answered.
 #[derive(Drop)]
@@ -53,7 +54,7 @@ impl Session {
     ghost use Rattle.requests.specs.Collected.{list_seen, watch_seen};
     ghost use Rattle.selector.specs.Views.{view_of};
     ghost use Rattle.session.specs.SessionStates.{begun, accepted, reply_for, compact_text, server_from, server_or};
-    ghost use Rattle.verbs.specs.Requests.{request_of};
+    ghost use Rattle.requests.specs.Requests.{request_of};
 
     /// Returns a session over a server where nothing is there, at the start of 2026, that keeps the last `window` changes of
     /// each kind. The error is running out of memory.

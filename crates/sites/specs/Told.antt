@@ -2,8 +2,8 @@
 use Rattle.std.specs.Prelude.{Result, Ok, Err}
 use Rattle.definitions.specs.Verbs.{Answer, Outcome, answered, refused}
 use Rattle.desk.specs.Replies.{Says}
-use Rattle.meta.specs.Faults.{refusal_of}
-use Rattle.meta.specs.declared.faults.Fault.{Fault}
+use Rattle.keys.specs.Faults.{refusal_of}
+use Rattle.keys.specs.declared.fault.Fault.{Fault}
 use Rattle.reply.specs.declared.reply.Reply.{Reply}
 
 -- the result says an outcome that is so

@@ -6,18 +6,19 @@ ghost use Rattle.revisions.specs.Watches.{watched_of};
 ghost use Rattle.selector.specs.Views.{view_of};
 ghost use Rattle.sites.specs.Alone.{CallsAlone, ListsAlone, WatchesAlone, BeginsAlone};
 ghost use Rattle.sites.specs.Told.{Tells};
-ghost use Rattle.verbs.specs.Requests.{request_of};
+ghost use Rattle.requests.specs.Requests.{request_of};
 ghost use Rattle.watch_service.specs.Given.{Gives, GivesBegun};
 
 use desk::Server;
-use meta::{Fault, Member, StoredObject};
+use keys::Fault;
+use meta::{Member, StoredObject};
 use reply::Reply;
+use requests::Request;
 use requests::list_options::ListOptions;
 use revisions::Watched;
 use selector::View;
 use stamps::moments::Moment;
 use std::alloc::{AllocError, Global};
-use verbs::Request;
 use watch_service::Begun;
 
 /// Answers a request at a moment, after which what it writes is written.
@@ -78,8 +79,8 @@ fn copies_of(alloc: Global, members: &[Member<'_>]) -> Result<Vec<StoredObject>,
     Ok(copies)
 }
 
-/// Gives what is there of a view.
-pub(crate) fn begin(alloc: Global, server: &Server, view: &View) -> Result<Begun, Fault>
+/// Gives what is there of a view, for a watch that begins with it. The error is out of memory.
+pub fn begin(alloc: Global, server: &Server, view: &View) -> Result<Begun, Fault>
     ensures { GivesBegun (λ l. BeginsAlone server.now (view_of view.now) l server.now) result }
 {
     let revision = server.revision();

@@ -1,7 +1,7 @@
 //! What a connection asks of a server, whether one thread owns it or many share it, and the owner of one.
 #![tactic(auto)]
 
-mod alone;
+pub mod alone;
 pub mod site;
 pub mod solo;
 

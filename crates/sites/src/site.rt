@@ -7,15 +7,15 @@ ghost use Rattle.definitions.specs.Verbs.{Outcome};
 ghost use Rattle.requests.specs.Collected.{list_seen};
 ghost use Rattle.selector.specs.Views.{view_of};
 ghost use Rattle.sites.specs.Told.{Tells};
-ghost use Rattle.verbs.specs.Requests.{request_of};
+ghost use Rattle.requests.specs.Requests.{request_of};
 
-use meta::Fault;
+use keys::Fault;
 use reply::Reply;
+use requests::Request;
 use requests::list_options::ListOptions;
 use selector::View;
 use stamps::moments::Moment;
 use std::alloc::Global;
-use verbs::Request;
 use watch_service::WatchSource;
 
 /// A server as a connection asks it. Others may write between two calls, so that what a call answers is a relation between what

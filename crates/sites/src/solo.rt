@@ -2,15 +2,15 @@
 use crate::alone;
 use crate::site::Site;
 use desk::Server;
-use meta::Fault;
+use keys::Fault;
 use reply::Reply;
+use requests::Request;
 use requests::list_options::ListOptions;
 use revisions::Watched;
 use selector::View;
 use stamps::moments::Moment;
 use std::alloc::Global;
 use std::marker::Model;
-use verbs::Request;
 use watch_service::{Begun, WatchSource};
 
 /// A server that nobody else uses.

@@ -4,14 +4,14 @@ use Rattle.std.proofs.lemmas.Bool.Decides.{nat_tests}
 use Rattle.std.specs.List.{list_all}
 use Rattle.std.specs.Char.{digit_value}
 use Rattle.std.specs.Str.Parse.{AllDigits, IsNumeral, digits_value, without_leading_plus}
+use Rattle.definitions.proofs.Truths.{both_true}
 use Rattle.definitions.specs.Moments.{is_digit}
 use Rattle.definitions.specs.Revisions.{revision_of}
-use Rattle.stamps.proofs.Forms.{both}
 
 -- a digit's value
 digit-small : (x : ℕ) → is_digit x ≡ true → digit_value x < 10
 digit-small x h =
-    let b = both (nat_le 48 x) (nat_le x 57) h in
+    let b = both_true (nat_le 48 x) (nat_le x 57) h in
     let l : nat_le 48 x ≡ true = b.0 in
     let m : nat_le x 57 ≡ true = b.1 in
     grind (arith, nat_tests)
@@ -20,15 +20,15 @@ digit-small x h =
 pub all-digits : (t : List ℕ) → list_all is_digit t ≡ true → AllDigits 10 t
 all-digits [] h = tt
 all-digits (x ∷ t) h =
-    let b = both (is_digit x) (list_all is_digit t) h in
+    let b = both_true (is_digit x) (list_all is_digit t) h in
     (digit-small x b.0, all-digits t b.1)
 
 -- digits do not begin with a plus
 pub no-plus : (t : List ℕ) → list_all is_digit t ≡ true → without_leading_plus t ≡ t
 no-plus [] h = refl
 no-plus (x ∷ t) h =
-    let b = both (is_digit x) (list_all is_digit t) h in
-    let d = both (nat_le 48 x) (nat_le x 57) b.0 in
+    let b = both_true (is_digit x) (list_all is_digit t) h in
+    let d = both_true (nat_le 48 x) (nat_le x 57) b.0 in
     let l : nat_le 48 x ≡ true = d.0 in
     let n : (x == 43) ≡ false = grind (arith, nat_tests) in
     rw n refl

@@ -2,8 +2,6 @@
 #![tactic(auto)]
 
 #[cfg(test)]
-mod fixtures;
-#[cfg(test)]
 mod revisions_tests;
 #[cfg(test)]
 mod store_tests;

@@ -1,11 +1,11 @@
 //! A journal of three writes of one ConfigMap.
-use crate::fixtures::{key, stored};
 use definitions::kinds::Kind;
 use meta::{StoredObject, Write};
 use revisions::Journal;
 use selector::View;
 use std::alloc::{AllocError, Global};
 use std::test::Fail;
+use test_objects::{key, stored};
 
 /// The journal of two puts of an object and of its removal, at revisions 2 to 4.
 fn three_writes(alloc: Global, object: &StoredObject) -> Result<Journal, AllocError> {

@@ -1,11 +1,12 @@
 //! A store of two ConfigMaps.
-use crate::fixtures::{key, stored};
 use definitions::kinds::Kind;
-use meta::{Fault, Member, StoredObject, Write};
+use keys::Fault;
+use meta::{Member, StoredObject, Write};
 use selector::View;
 use std::alloc::{AllocError, Global};
 use std::test::Fail;
 use store::Store;
+use test_objects::{key, stored};
 
 /// A store with an object `b` and then `a`.
 fn with_two(alloc: Global, object: &StoredObject) -> Result<Store, Fault> {

@@ -1,11 +1,12 @@
 //! A window of one change that has recorded two: a create and a removal, at revisions 2 and 3.
 
-use crate::fixtures::{key, stored};
 use definitions::kinds::Kind;
-use meta::{Fault, StoredObject};
+use keys::Fault;
+use meta::StoredObject;
 use selector::View;
 use std::alloc::{AllocError, Global};
 use std::test::Fail;
+use test_objects::{key, stored};
 use watch_cache::{Cache, Change};
 
 fn two_changes(alloc: Global, object: &StoredObject) -> Result<Cache, AllocError> {

@@ -23,10 +23,10 @@ use Rattle.definitions.specs.Pages.{Place, is_after, after_place}
 use Rattle.definitions.specs.SelectorFields.{FieldRequirement, fields_meet}
 use Rattle.definitions.specs.Selectors.{Requirement, meets_all}
 use Rattle.definitions.specs.declared.kinds.Kind.{Kind}
-use Rattle.meta.specs.Keys.{key_of}
-use Rattle.meta.specs.declared.keys.Key.{Key}
+use Rattle.keys.specs.Keys.{key_of}
+use Rattle.keys.specs.declared.key.Key.{Key}
 use Rattle.meta.specs.declared.stored.StoredObject.{StoredObject}
-use Rattle.meta.proofs.KeyOrder.{key_cmp-name_cmp}
+use Rattle.keys.proofs.KeyOrder.{key_cmp-name_cmp}
 use Rattle.store.specs.AskedKeys.{first_name, first_asked, first_past, first_after, start_name, earlier, later}
 use Rattle.store.specs.Seen.{members_seen}
 use Rattle.store.proofs.SeenMaps.{key_cmp}

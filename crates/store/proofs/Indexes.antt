@@ -6,12 +6,12 @@ use Rattle.std.specs.Map.{lookup}
 use Rattle.serde_json.specs.Data.{Data}
 use Rattle.definitions.specs.Keys.{key_cmp as name_cmp}
 use Rattle.definitions.specs.History.{found}
-use Rattle.meta.specs.Keys.{key_of}
-use Rattle.meta.specs.contracts.keys.KeyOrd.TheImpl.Laws.{matches_eq-law}
-use Rattle.meta.specs.contracts.keys.KeyPartialEq.TheImpl as key_eq
-use Rattle.meta.specs.declared.keys.Key.{Key}
+use Rattle.keys.specs.Keys.{key_of}
+use Rattle.keys.specs.contracts.key.KeyOrd.TheImpl.Laws.{matches_eq-law}
+use Rattle.keys.specs.contracts.key.KeyPartialEq.TheImpl as key_eq
+use Rattle.keys.specs.declared.key.Key.{Key}
 use Rattle.meta.specs.declared.stored.StoredObject.{StoredObject}
-use Rattle.meta.proofs.KeyOrder.{key_cmp-name_cmp}
+use Rattle.keys.proofs.KeyOrder.{key_cmp-name_cmp}
 use Rattle.store.specs.Seen.{members_seen, Index, IsIndexOf}
 use Rattle.store.proofs.SeenMaps.{key_cmp, seen-lookup}
 

@@ -11,9 +11,9 @@ use Rattle.serde_json.specs.Data.{Data}
 use Rattle.definitions.specs.Keys.{Key as Name}
 use Rattle.definitions.specs.History.{View, Members, viewed, in_view}
 use Rattle.definitions.specs.Pages.{Place, is_after, after_place, page_of, remaining}
-use Rattle.meta.specs.Keys.{key_of}
+use Rattle.keys.specs.Keys.{key_of}
 use Rattle.meta.specs.Members.{member_of}
-use Rattle.meta.specs.declared.keys.Key.{Key}
+use Rattle.keys.specs.declared.key.Key.{Key}
 use Rattle.meta.specs.declared.stored.StoredObject.{StoredObject}
 use Rattle.store.specs.Chunks.{IsFirst, Tells, IsPage}
 use Rattle.store.specs.Seen.{members_seen}

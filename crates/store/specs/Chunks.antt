@@ -3,9 +3,9 @@ use Rattle.std.specs.Prelude.{◌≡◌, ◌≤◌, ◌<◌, ◌==◌, ◌++◌,
 use Rattle.definitions.specs.History.{View, Members}
 use Rattle.definitions.specs.Lists.{is_selective}
 use Rattle.definitions.specs.Pages.{Place, place_of, page_of, remaining}
-use Rattle.meta.specs.Keys.{key_of}
+use Rattle.keys.specs.Keys.{key_of}
 use Rattle.meta.specs.Members.{member_of}
-use Rattle.meta.specs.declared.keys.Key.{Key}
+use Rattle.keys.specs.declared.key.Key.{Key}
 use Rattle.store.specs.declared.chunks.Chunk.{Chunk}
 
 -- the place of a key, where one is given

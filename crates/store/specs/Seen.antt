@@ -6,9 +6,9 @@ use Rattle.std.specs.declared.hash.FoldHasher.{FoldHasher}
 use Rattle.definitions.specs.History.{Members, found}
 use Rattle.definitions.specs.Revisions.{greatest_revision}
 use Rattle.definitions.specs.Verbs.{most_objects}
-use Rattle.meta.specs.Keys.{key_of}
-use Rattle.meta.specs.contracts.keys.KeyPartialEq.TheImpl as key_eq
-use Rattle.meta.specs.declared.keys.Key.{Key}
+use Rattle.keys.specs.Keys.{key_of}
+use Rattle.keys.specs.contracts.key.KeyPartialEq.TheImpl as key_eq
+use Rattle.keys.specs.declared.key.Key.{Key}
 use Rattle.meta.specs.declared.stored.StoredObject.{StoredObject}
 
 -- keys and objects as names and data

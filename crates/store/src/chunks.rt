@@ -8,7 +8,7 @@ ghost use Rattle.selector.specs.Views.{view_of};
 ghost use Rattle.store.specs.Chunks.{IsFirst, Tells};
 ghost use Rattle.store.specs.Seen.{members_seen};
 
-use meta::keys::Key;
+use keys::Key;
 use meta::lent_members::Member;
 use meta::stored::StoredObject;
 use selector::View;

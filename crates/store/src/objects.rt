@@ -2,11 +2,11 @@
 ghost use Rattle.std.specs.Prelude.{◌≡◌, ◌+◌, ◌≤◌, ◌&&◌, not, IfOk, OnOk, OnErr, Some, is_some, length, option_map, if◌then◌else◌};
 ghost use Rattle.std.specs.BTreeMap.{insert_entry};
 ghost use Rattle.definitions.specs.History.{after, found};
-ghost use Rattle.meta.specs.Keys.{key_of};
+ghost use Rattle.keys.specs.Keys.{key_of};
 ghost use Rattle.meta.specs.Writes.{write_of};
 ghost use Rattle.store.specs.Seen.{members_seen, IsIndexOf};
 
-use meta::keys::Key;
+use keys::Key;
 use meta::stored::StoredObject;
 use meta::writes::Write;
 use std::alloc::AllocError;

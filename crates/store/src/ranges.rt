@@ -4,14 +4,14 @@ ghost use Rattle.definitions.specs.History.{viewed};
 ghost use Rattle.definitions.specs.Kinds.{kind_after};
 ghost use Rattle.definitions.specs.Lists.{is_selective};
 ghost use Rattle.definitions.specs.Pages.{place_of, after_place};
-ghost use Rattle.meta.specs.Keys.{key_of};
+ghost use Rattle.keys.specs.Keys.{key_of};
 ghost use Rattle.selector.specs.Views.{view_of};
 ghost use Rattle.store.specs.AskedKeys.{first_name, first_asked, first_past, first_after, start_name, earlier, later};
 ghost use Rattle.store.specs.Chunks.{after_key};
 ghost use Rattle.store.specs.Seen.{members_seen};
 
 use definitions::kinds::Kind;
-use meta::keys::Key;
+use keys::Key;
 use meta::stored::StoredObject;
 use selector::View;
 use std::alloc::{AllocError, Global};

@@ -3,8 +3,7 @@ use crate::chunks::{Chunk, first_members, remaining};
 use crate::limits::{GREATEST_REVISION, MOST_OBJECTS};
 use crate::objects::take;
 use crate::ranges::asked;
-use meta::faults::Fault;
-use meta::keys::Key;
+use keys::{Fault, Key};
 use meta::lent_members::Member;
 use meta::stored::StoredObject;
 use meta::writes::Write;
@@ -41,10 +40,10 @@ impl Model for Store {
 
 impl Store {
     ghost use Rattle.std.specs.Prelude.{◌≡◌, ◌≤◌, ◌⊎◌, true, false, IfOk, OnOk, OnErr, IfErr, length, map, option_map};
-    ghost use Rattle.meta.specs.Keys.{key_of};
+    ghost use Rattle.keys.specs.Keys.{key_of};
     ghost use Rattle.meta.specs.Members.{member_of};
     ghost use Rattle.meta.specs.Writes.{write_of};
-    ghost use Rattle.meta.specs.declared.faults.Fault.TheVariants as fault;
+    ghost use Rattle.keys.specs.declared.fault.Fault.TheVariants as fault;
     ghost use Rattle.selector.specs.Views.{view_of};
     ghost use Rattle.definitions.specs.History.{found, viewed};
     ghost use Rattle.definitions.specs.Revisions.{greatest_revision};

@@ -1,4 +1,2 @@
-pub mod Changed
 pub mod Digits
-pub mod NoFloats
 pub mod Printed

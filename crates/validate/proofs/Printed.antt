@@ -6,6 +6,7 @@ use Rattle.std.proofs.lemmas.Slice.Eq.{bytes_eq-Decides}
 use Rattle.std.specs.Int.{from_be_bytes, to_be_bytes, w128, byte_at, bytes_high_first}
 use Rattle.std.specs.List.{All}
 use Rattle.std.specs.Str.{bytes_eq}
+use Rattle.definitions.proofs.Truths.{both_true}
 use Rattle.definitions.specs.Uids.{uid_text, uid_revision}
 use Rattle.definitions.proofs.Uids.{existing}
 use Rattle.stamps.proofs.Hexadecimal.{uid_number, uid-text}
@@ -40,14 +41,10 @@ low_again r h =
 abbrev pub is_own : List ℕ → Bool
 is_own t = bytes_eq t (uid_text 0 (uid_revision t)) && nat_lt (uid_revision t) (2 ^ 62)
 
-both : (u v : Bool) → (u && v) ≡ true → (u ≡ true) × (v ≡ true)
-both true v h = (refl, h)
-both false v h = cc
-
 -- what is_own says
 own : (t : List ℕ) → is_own t ≡ true → (t ≡ uid_text 0 (uid_revision t)) × (uid_revision t < 2 ^ 62)
 own t h =
-    let b = both (bytes_eq t (uid_text 0 (uid_revision t))) (nat_lt (uid_revision t) (2 ^ 62)) h in
+    let b = both_true (bytes_eq t (uid_text 0 (uid_revision t))) (nat_lt (uid_revision t) (2 ^ 62)) h in
     let second : nat_lt (uid_revision t) (2 ^ 62) ≡ true = b.1 in
     ((bytes_eq-Decides t (uid_text 0 (uid_revision t))).0 b.0, grind (arith, nat_tests))
 
@@ -71,7 +68,7 @@ is_other t x is h = not_own t (is_own t) refl (λ o.
     let r = uid_revision t in
     let same : x ≡ to_be_bytes w128 (uid_number 0 r) = some-inj x (to_be_bytes w128 (uid_number 0 r)) (is ∙ ap parsed p.0 ∙ sym (parsed_again r p.1)) in
     let low : low_bits x ≡ r = ap low_bits same ∙ low_again r p.1 in
-    let yes : bytes_eq t (uid_text 0 (low_bits x)) ≡ true = ap (λ n. bytes_eq t (uid_text 0 n)) low ∙ (both (bytes_eq t (uid_text 0 r)) (nat_lt r (2 ^ 62)) o).0 in
+    let yes : bytes_eq t (uid_text 0 (low_bits x)) ≡ true = ap (λ n. bytes_eq t (uid_text 0 n)) low ∙ (both_true (bytes_eq t (uid_text 0 r)) (nat_lt r (2 ^ 62)) o).0 in
     cc)
 
 pub is_unread : (t : List ℕ) → (((x : List ℕ) × (parsed t ≡ Some x)) → ⊥) → None ≡ cond (is_own t) (Some (uid_revision t)) None

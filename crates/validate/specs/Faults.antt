@@ -2,9 +2,9 @@
 use Rattle.std.specs.Prelude.{◌≡◌, Option, Some}
 use Rattle.definitions.specs.declared.refusals.Field.{Field}
 use Rattle.definitions.specs.Keys.{Key}
-use Rattle.meta.specs.declared.faults.Fault.{Fault}
-use Rattle.meta.specs.declared.faults.Fault.TheVariants as fault
-use Rattle.meta.specs.Keys.{key_of}
+use Rattle.keys.specs.declared.fault.Fault.{Fault}
+use Rattle.keys.specs.declared.fault.Fault.TheVariants as fault
+use Rattle.keys.specs.Keys.{key_of}
 
 -- the fault names the object and the field that was found, and is else running out of memory
 abbrev pub RefusesField : Key → Option Field → Fault → Type 0

@@ -2,8 +2,8 @@
 ghost use Rattle.std.specs.Prelude.{◌≡◌, IfOk, IfErr, None, true};
 ghost use Rattle.definitions.specs.declared.kinds.Kind.TheVariants.{ReplicaSet, Deployment};
 ghost use Rattle.definitions.specs.Checks.{checks, checks_of, create_fault, update_fault, adds_no_finalizer, first_fault, is_selector_kept};
-ghost use Rattle.meta.specs.Keys.{key_of};
-ghost use Rattle.meta.specs.declared.faults.Fault.TheVariants.{NoMemory};
+ghost use Rattle.keys.specs.Keys.{key_of};
+ghost use Rattle.keys.specs.declared.fault.Fault.TheVariants.{NoMemory};
 ghost use Rattle.validate.specs.Faults.{RefusesField};
 
 use crate::counts::{are_replicas_valid, is_history_limit_valid, is_status_valid};
@@ -16,7 +16,8 @@ use crate::strategies::is_strategy_valid;
 use crate::templates::is_template;
 use definitions::kinds::Kind;
 use definitions::refusals::Field;
-use meta::{Fault, Key, Object};
+use keys::{Fault, Key};
+use meta::Object;
 use std::alloc::Global;
 
 fn replica_set_fault(alloc: Global, object: &Object, is_kept: bool) -> Result<Option<Field>, Fault>

@@ -29,6 +29,7 @@ fn is_not_negative(found: &Value) -> bool
     }
 }
 
+/// Returns whether `spec.replicas`, where it is there, is not negative.
 pub(crate) fn are_replicas_valid(object: &Object) -> bool
     ensures { result ≡ are_replicas_valid object.now.value }
 {
@@ -38,6 +39,7 @@ pub(crate) fn are_replicas_valid(object: &Object) -> bool
     }
 }
 
+/// Returns whether `spec.revisionHistoryLimit`, where it is there, is not negative.
 pub(crate) fn is_history_limit_valid(object: &Object) -> bool
     ensures { result ≡ is_history_limit_valid object.now.value }
 {

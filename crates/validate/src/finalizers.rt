@@ -34,6 +34,7 @@ fn all_are_finalizers(items: &[Value]) -> bool
     true
 }
 
+/// Returns whether each finalizer is a name that a finalizer may have.
 pub(crate) fn are_finalizers_valid(object: &Object) -> bool
     ensures { result ≡ are_finalizers_valid object.now.value }
 {

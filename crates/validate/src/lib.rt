@@ -1,5 +1,4 @@
-//! What an object has to be before it is stored: what is filled in where it is absent, and the checks, whose first fault
-//! refuses the request.
+//! What an object has to be before it is stored: checks, whose first fault refuses the request.
 #![tactic(auto)]
 
 pub mod checks;
@@ -10,11 +9,9 @@ mod object_names;
 mod owners;
 mod parts;
 mod selectors;
-pub mod spec_defaults;
 mod strategies;
 mod templates;
 mod uids;
 
 pub use checks::{check_create, check_update};
 pub use counts::is_status_valid;
-pub use spec_defaults::defaults;

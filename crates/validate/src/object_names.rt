@@ -6,6 +6,7 @@ ghost use Rattle.definitions.specs.Checks.{generates, is_generating_byte, is_gen
 use meta::Object;
 use names::is_subdomain;
 
+/// Returns whether the object has a name that objects may have, or asks for one to be made.
 pub(crate) fn is_name_valid(object: &Object) -> bool
     ensures { result ≡ is_name_valid object.now.value }
 {

@@ -81,6 +81,7 @@ fn references(object: &Object) -> Option<&Vec<Value>>
     object.metadata_member("ownerReferences")?.as_array()
 }
 
+/// Returns whether the owner references are sound: each whole and none to a future uid, at most one of them a controller.
 pub(crate) fn are_owners_valid(object: &Object, present: u64) -> bool
     ensures { result ≡ are_owners_valid present object.now.value }
 {

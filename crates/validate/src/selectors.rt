@@ -3,10 +3,11 @@ ghost use Rattle.std.specs.Prelude.{◌≡◌, IfOk, IfErr, List, Some, codes, l
 ghost use Rattle.definitions.specs.Checks.{in_spec, is_selector_kept, requirements, text_of};
 ghost use Rattle.definitions.specs.SelectorValues.{passes};
 ghost use Rattle.definitions.specs.Selectors.{Requirement};
-ghost use Rattle.meta.specs.declared.faults.Fault.TheVariants.{NoMemory};
+ghost use Rattle.keys.specs.declared.fault.Fault.TheVariants.{NoMemory};
 
 use crate::parts::in_spec;
-use meta::{Fault, Object};
+use keys::Fault;
+use meta::Object;
 use selector::Selector;
 use std::alloc::{AllocError, Global};
 

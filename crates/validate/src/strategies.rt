@@ -168,6 +168,7 @@ fn is_strategy(strategy: &Value) -> bool
     }
 }
 
+/// Returns whether `spec.strategy` is one that Deployments have.
 pub(crate) fn is_strategy_valid(object: &Object) -> bool
     ensures { result ≡ is_strategy_valid object.now.value }
 {

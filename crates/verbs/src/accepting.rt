@@ -2,17 +2,18 @@
 ghost use Rattle.std.specs.Prelude.{◌≡◌, List, ℕ};
 ghost use Rattle.definitions.specs.Verbs.{accept_at};
 ghost use Rattle.answers.specs.Serves.{Serves};
-ghost use Rattle.verbs.specs.Requests.{request_of};
+ghost use Rattle.requests.specs.Requests.{request_of};
 
-use crate::delete::delete;
 use crate::read::{get, list};
-use crate::requests::Request;
 use creates::create::create;
-use meta::{Fault, Write};
+use deletes::delete::delete;
+use keys::Fault;
+use meta::Write;
 use replacements::patch::patch;
 use replacements::status::update_status;
 use replacements::update::update;
 use reply::Reply;
+use requests::Request;
 use stamps::moments::Moment;
 use std::alloc::Global;
 use store::Store;

@@ -2,9 +2,6 @@
 #![tactic(auto)]
 
 pub mod accepting;
-mod delete;
 mod read;
-pub mod requests;
 
 pub use crate::accepting::accept;
-pub use crate::requests::Request;

@@ -2,12 +2,13 @@
 ghost use Rattle.std.specs.Prelude.{◌≡◌, ℕ, List};
 ghost use Rattle.definitions.specs.Verbs.{accept_at};
 ghost use Rattle.definitions.specs.ObjectRequests.{get_object, list_objects};
-ghost use Rattle.meta.specs.Keys.{key_of};
+ghost use Rattle.keys.specs.Keys.{key_of};
 ghost use Rattle.selector.specs.Views.{view_of};
 ghost use Rattle.answers.specs.Serves.{Serves};
 
 use answers::list_texts::page_text;
-use meta::{Fault, Key, Write};
+use keys::{Fault, Key};
+use meta::Write;
 use reply::Reply;
 use selector::View;
 use std::alloc::Global;

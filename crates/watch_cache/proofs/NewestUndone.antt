@@ -2,7 +2,7 @@
 use Rattle.std.proofs.Common.{◌≡◌, ◌≤◌, ◌<◌, ℕ, ◌+◌, List, [], ◌∷◌, ◌++◌, map, take, drop, length, length-take-le, Some, refl, ap, ◌∙◌, arith}
 use Rattle.std.specs.Prelude.{option_map, slice_get}
 use Rattle.std.proofs.lemmas.List.{drop-append-le, length-map}
-use Rattle.meta.specs.Keys.{key_of}
+use Rattle.keys.specs.Keys.{key_of}
 use Rattle.definitions.specs.History.{View, Members, put_or_remove, seen}
 use Rattle.definitions.specs.Windows.{Change as Kept}
 use Rattle.server_state.specs.Recorded.{undone}

@@ -1,6 +1,7 @@
 //! Changes.
 
-use meta::{Key, StoredObject};
+use keys::Key;
+use meta::StoredObject;
 
 /// What a write did under its key: its revision, the object before it and the object after it.
 #[derive(Drop)]

@@ -3,8 +3,8 @@ use Rattle.std.specs.Prelude.{◌≡◌, map, Result, Ok, Err}
 use Rattle.definitions.specs.History.{Members}
 use Rattle.definitions.specs.Refusals.{Refusal}
 use Rattle.definitions.specs.Versions.{Listed, listed_as}
-use Rattle.meta.specs.Faults.{refusal_of}
-use Rattle.meta.specs.declared.faults.Fault.{Fault}
+use Rattle.keys.specs.Faults.{refusal_of}
+use Rattle.keys.specs.declared.fault.Fault.{Fault}
 use Rattle.watch_service.specs.declared.begun.Begun.{Begun}
 
 -- what is given, or why it is refused, is so

@@ -3,9 +3,9 @@ use Rattle.std.specs.Prelude.{◌≡◌, ◌⊎◌, ℕ, Bool, Option, Result, O
 use Rattle.definitions.specs.History.{View}
 use Rattle.definitions.specs.Refusals.{Refusal}
 use Rattle.definitions.specs.Versions.{Listed}
-use Rattle.meta.specs.Faults.{refusal_of}
-use Rattle.meta.specs.declared.faults.Fault.{Fault}
-use Rattle.meta.specs.declared.faults.Fault.TheVariants as fault
+use Rattle.keys.specs.Faults.{refusal_of}
+use Rattle.keys.specs.declared.fault.Fault.{Fault}
+use Rattle.keys.specs.declared.fault.Fault.TheVariants as fault
 use Rattle.watch_service.specs.declared.opening.Opened.{Opened}
 use Rattle.watch_service.specs.Watches.{Look, Opening, Opens, opening_text}
 

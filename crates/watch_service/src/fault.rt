@@ -1,5 +1,5 @@
 //! Why a watch is not served to its end.
-use meta::Fault;
+use keys::Fault;
 use std::alloc::{AllocError, AllocFailed};
 
 /// Why a watch that has begun is left before its end.

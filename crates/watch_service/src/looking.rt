@@ -10,7 +10,7 @@ use crate::frames::{show, tell};
 use crate::source::WatchSource;
 use crate::standing::Standing;
 use chunked::Watched as Device;
-use meta::Fault;
+use keys::Fault;
 use selector::View;
 use std::alloc::Global;
 use std::io::Write;

@@ -1,4 +1,4 @@
 pub mod SeenMaps
 pub mod SeenSets
-pub mod SeenTasks
+pub mod SeenWorkKeys
 pub mod WorkKeyOrder

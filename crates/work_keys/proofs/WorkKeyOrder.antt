@@ -3,10 +3,10 @@ use Rattle.std.proofs.Common.{◌≡◌, nat_cmp, rules, Ordering}
 use Rattle.controllers.specs.contracts.controller.ControllerOrd.TheImpl as controller_ord
 use Rattle.controllers.specs.declared.controller.Controller.{Controller}
 use Rattle.controllers.specs.WorkQueues.{work_key_cmp as task_cmp, turn}
-use Rattle.meta.proofs.KeyOrder.{key_cmp-name_cmp}
+use Rattle.keys.proofs.KeyOrder.{key_cmp-name_cmp}
 use Rattle.work_keys.specs.contracts.work_key.WorkKeyOrd.TheImpl as work_key_ord
 use Rattle.work_keys.specs.declared.work_key.WorkKey.{WorkKey}
-use Rattle.work_keys.specs.Tasks.{work_key_of}
+use Rattle.work_keys.specs.WorkKeys.{work_key_of}
 
 -- controllers go by their turns
 pub controller_cmp-turn : (a b : Controller) → (controller_ord.ghosts).cmp a b ≡ nat_cmp (turn a) (turn b)

@@ -5,7 +5,7 @@ use Rattle.std.specs.FinMap as map_of
 use Rattle.std.specs.FinSet as set
 use Rattle.controllers.specs.WorkQueues.{WorkKeys, work_key_cmp}
 use Rattle.work_keys.specs.declared.work_key.WorkKey.{WorkKey}
-use Rattle.work_keys.specs.Tasks.{work_key_of}
+use Rattle.work_keys.specs.WorkKeys.{work_key_of}
 
 -- the entries, each key and value seen
 abbrev pub seen_entries : {K N X Y : Type 0} → (K → N) → (X → Y) → List (K × X) → List (N × Y)
@@ -18,9 +18,9 @@ abbrev pub seen_set : {K N : Type 0} (R : N → N → Ordering) → (K → N) �
 seen_set R say ks = set.from_list (map say ks)
 
 -- the work keys, as the definitions have them
-abbrev pub tasks_of : List WorkKey → WorkKeys
-tasks_of ks = seen_set work_key_cmp work_key_of ks
+abbrev pub work_keys_of : List WorkKey → WorkKeys
+work_keys_of ks = seen_set work_key_cmp work_key_of ks
 
 -- what stands at work keys, by key
-abbrev pub by_task : {X Y : Type 0} → (X → Y) → List (WorkKey × X) → map_of.FinMap work_key_cmp Y
-by_task h es = seen_map work_key_cmp work_key_of h es
+abbrev pub by_work_key : {X Y : Type 0} → (X → Y) → List (WorkKey × X) → map_of.FinMap work_key_cmp Y
+by_work_key h es = seen_map work_key_cmp work_key_of h es

@@ -1,9 +1,9 @@
 //! Work keys.
 ghost use Rattle.std.specs.Prelude.{◌≡◌, IfOk};
-ghost use Rattle.work_keys.specs.Tasks.{work_key_of};
+ghost use Rattle.work_keys.specs.WorkKeys.{work_key_of};
 
 use controllers::controller::Controller;
-use meta::keys::Key;
+use keys::Key;
 use std::alloc::AllocError;
 
 /// A work key: the controller that is to look, and the object that it is to look at. They are ordered by controller, then key.

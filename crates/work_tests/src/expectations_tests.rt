@@ -1,7 +1,7 @@
 //! Creations and deletions that are waited for.
 use crate::fixtures::key;
 use expectations::Table;
-use meta::Key;
+use keys::Key;
 use std::alloc::{AllocError, Global};
 
 #[test]

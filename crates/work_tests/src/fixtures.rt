@@ -1,7 +1,7 @@
 //! Keys for the tests.
 use controllers::controller::Controller;
 use definitions::kinds::Kind;
-use meta::Key;
+use keys::Key;
 use std::alloc::{AllocError, Global};
 use work_keys::WorkKey;
 

@@ -2,7 +2,7 @@
 ghost use Rattle.std.specs.Prelude.{◌≡◌, IfOk, OnOk, OnErr, length, option_map, ◌+◌, ◌<◌, ◌≤◌, ◌∷◌, ◌++◌, [], Some, IsSome};
 ghost use Rattle.std.specs.VecDeque.{deque_len, deque_capacity};
 ghost use Rattle.controllers.specs.WorkQueues.{idle, added, got, handed, done, shut};
-ghost use Rattle.work_keys.specs.Tasks.{work_key_of};
+ghost use Rattle.work_keys.specs.WorkKeys.{work_key_of};
 
 use std::alloc::{AllocError, Global};
 use std::collections::{BTreeSet, VecDeque};

@@ -18,7 +18,6 @@ use Rattle.definitions.specs.Texts.Kinds.{api_version, kind_text, has_status}
 use Rattle.definitions.specs.Texts.Keys.{Key}
 use Rattle.definitions.specs.State.History as history
 use Rattle.definitions.specs.State.History.{History, Write, write, View, viewed, members, found, present}
-use Rattle.definitions.specs.Requests.DeleteOptions.{Options}
 use Rattle.definitions.specs.Requests.ObjectRequests.{Request, get_object, list_objects, create_object, update_object, update_status, patch_object, delete_object}
 use Rattle.definitions.specs.Answers.Deletion.{Fate, remove, mark, keep, decided, removal_of, kept_code}
 use Rattle.definitions.specs.Objects.Metadata.{metadata_of, at_revision, name, namespace, uid, version, is_other, differs}

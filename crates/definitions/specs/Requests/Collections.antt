@@ -88,9 +88,9 @@ abbrev pub watch_from : Option ℕ → Option ℕ
 watch_from (Some (suc r)) = Some (suc r)
 watch_from version = None
 
--- whether a member is there, and is `true` or `1`
+-- whether a member is there, and is `true`, `True` or `1`
 abbrev pub is_asked : Option (List ℕ) → Bool
-is_asked value = bytes_eq (or_empty value) (codes "true") || bytes_eq (or_empty value) (codes "1")
+is_asked value = bytes_eq (or_empty value) (codes "true") || bytes_eq (or_empty value) (codes "True") || bytes_eq (or_empty value) (codes "1")
 
 -- the options of a watch; it may not name how its revision is to be matched, and limits and tokens are ignored
 abbrev pub watch_options : Pairs → Result WatchOptions Part

@@ -48,12 +48,12 @@ IsInitialStream h v a b ls = (more : List Line) × (ls ≡ added_lines (list h v
 
 -- ---- what they make of the list
 
-abbrev pub play_line : Members → Line → Members
-play_line ms (event c) = apply ms c
-play_line ms (initial n d) = put_or_remove ms n (Some d)
-play_line ms l = ms
+abbrev pub apply_line : Members → Line → Members
+apply_line ms (event c) = apply ms c
+apply_line ms (initial n d) = put_or_remove ms n (Some d)
+apply_line ms l = ms
 
 -- lines applied one after another
 abbrev pub applied_lines : Members → List Line → Members
 applied_lines ms [] = ms
-applied_lines ms (l ∷ ls) = applied_lines (play_line ms l) ls
+applied_lines ms (l ∷ ls) = applied_lines (apply_line ms l) ls

@@ -1,5 +1,5 @@
 use Rattle.std.proofs.Common.{Ok, Err}
-use Rattle.verbs.specs.Requests.{request_of}
+use Rattle.requests.specs.Requests.{request_of}
 use Rattle.api.proofs.Written.{told_then}
 use Rattle.api.proofs.answering.do_request.Goals as goal
 

@@ -6,7 +6,7 @@ use Rattle.definitions.specs.Metadata.{at_revision, metadata_of}
 use Rattle.definitions.specs.NewObjects.{created, new_metadata, with_first_status}
 use Rattle.definitions.proofs.VerbSteps.{create_read}
 use Rattle.definitions.proofs.FirstStatus.{metadata_of-first}
-use Rattle.meta.specs.Keys.{key_of}
+use Rattle.keys.specs.Keys.{key_of}
 use Rattle.answers.specs.Serves.{Serves}
 use Rattle.validate.specs.Faults.{RefusesField}
 use Rattle.creates.proofs.Creates.{create-placed, create-refused}

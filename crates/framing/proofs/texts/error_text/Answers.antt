@@ -1,7 +1,7 @@
 use Rattle.std.proofs.Common.{ap, ◌∙◌, subst}
 use Rattle.std.specs.Prelude.{string_bytes}
 use Rattle.serde_json.specs.Written.{has_float}
-use Rattle.meta.specs.Faults.{refusal_of}
+use Rattle.keys.specs.Faults.{refusal_of}
 use Rattle.definitions.specs.Frames.{Frame, frame_text}
 use Rattle.definitions.specs.declared.frames.FrameKind.TheVariants.{Error}
 use Rattle.framing.specs.Texts.{IsWithin, ReadsAs}

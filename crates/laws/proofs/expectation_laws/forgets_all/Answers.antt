@@ -5,7 +5,7 @@ use Rattle.std.specs.FinMap as map
 use Rattle.std.specs.FinMap.{get-retain_keys}
 use Rattle.definitions.specs.Keys.{is_same_key}
 use Rattle.controllers.specs.Expectations.{is_met}
-use Rattle.controllers.proofs.TaskOrder.{name_total}
+use Rattle.controllers.proofs.WorkKeyOrder.{name_total}
 use Rattle.controllers.proofs.Expected.{keys_tied}
 use Rattle.laws.proofs.expectation_laws.forgets_all.Goals as goal
 

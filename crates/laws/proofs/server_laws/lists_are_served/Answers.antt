@@ -1,4 +1,4 @@
-use Rattle.laws.proofs.HeldAnswers.{lists_answered}
+use Rattle.laws.proofs.ServerAnswers.{lists_answered}
 use Rattle.laws.proofs.server_laws.lists_are_served.Goals as goal
 
 pub returns : goal.returns

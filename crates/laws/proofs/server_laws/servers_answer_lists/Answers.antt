@@ -1,4 +1,4 @@
-use Rattle.laws.proofs.HeldAnswers.{pages_held}
+use Rattle.laws.proofs.ServerAnswers.{pages_held}
 use Rattle.laws.proofs.server_laws.servers_answer_lists.Goals as goal
 
 pub returns : goal.returns

@@ -1,4 +1,4 @@
-use Rattle.laws.proofs.HeldHistories.{compaction_holds}
+use Rattle.laws.proofs.ServerHistories.{compaction_holds}
 use Rattle.laws.proofs.server_laws.servers_compact.Goals as goal
 
 pub returns : goal.returns

@@ -1,4 +1,4 @@
-use Rattle.laws.proofs.HeldHistories.{entries_hold}
+use Rattle.laws.proofs.ServerHistories.{entries_hold}
 use Rattle.laws.proofs.server_laws.servers_follow.Goals as goal
 
 pub returns : goal.returns

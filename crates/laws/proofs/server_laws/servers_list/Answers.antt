@@ -1,4 +1,4 @@
-use Rattle.laws.proofs.HeldAnswers.{lists_held}
+use Rattle.laws.proofs.ServerAnswers.{lists_held}
 use Rattle.laws.proofs.server_laws.servers_list.Goals as goal
 
 pub returns : goal.returns

@@ -1,4 +1,4 @@
-use Rattle.laws.proofs.HeldHistories.{opened_holds}
+use Rattle.laws.proofs.ServerHistories.{opened_holds}
 use Rattle.laws.proofs.server_laws.servers_open.Goals as goal
 
 pub returns : goal.returns

@@ -1,4 +1,4 @@
-use Rattle.laws.proofs.HeldAnswers.{lines_held}
+use Rattle.laws.proofs.ServerAnswers.{lines_held}
 use Rattle.laws.proofs.server_laws.servers_show.Goals as goal
 
 pub returns : goal.returns

@@ -1,4 +1,4 @@
-use Rattle.laws.proofs.HeldAnswers.{watches_held}
+use Rattle.laws.proofs.ServerAnswers.{watches_held}
 use Rattle.laws.proofs.server_laws.servers_watch.Goals as goal
 
 pub returns : goal.returns

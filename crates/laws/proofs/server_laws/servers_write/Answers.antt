@@ -1,4 +1,4 @@
-use Rattle.laws.proofs.HeldHistories.{written_holds}
+use Rattle.laws.proofs.ServerHistories.{written_holds}
 use Rattle.laws.proofs.server_laws.servers_write.Goals as goal
 
 pub returns : goal.returns

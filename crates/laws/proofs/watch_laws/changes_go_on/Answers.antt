@@ -1,4 +1,4 @@
-use Rattle.laws.proofs.Played.{goes_on}
+use Rattle.laws.proofs.AppliedEvents.{goes_on}
 use Rattle.laws.proofs.watch_laws.changes_go_on.Goals as goal
 
 pub returns : goal.returns

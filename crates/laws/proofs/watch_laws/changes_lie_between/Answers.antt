@@ -1,4 +1,4 @@
-use Rattle.laws.proofs.Played.{lie_between}
+use Rattle.laws.proofs.AppliedEvents.{lie_between}
 use Rattle.laws.proofs.watch_laws.changes_lie_between.Goals as goal
 
 pub returns : goal.returns

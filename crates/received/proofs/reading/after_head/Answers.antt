@@ -4,7 +4,7 @@ use Rattle.connections.specs.Heads.{head_of}
 use Rattle.connections.specs.Checks.{checked}
 use Rattle.head_checks.specs.Openings.{Opens, opening_seen}
 use Rattle.received.specs.Receiving.{Tells}
-use Rattle.received.proofs.Said.{refused_tells, result_tells}
+use Rattle.received.proofs.ReadHeads.{refused_tells, result_tells}
 use Rattle.received.proofs.reading.after_head.Goals as goal
 
 pub returns-in_err-head-clause-tells : goal.returns-in_err-head-clause-tells

@@ -1,6 +1,6 @@
 use Rattle.chunked.specs.Devices.{device_of}
 use Rattle.head_checks.specs.Openings.{opening_seen}
-use Rattle.received.proofs.Said.{body_tells}
+use Rattle.received.proofs.ReadHeads.{body_tells}
 use Rattle.received.proofs.reading.after_opening.Goals as goal
 
 pub returns-then-opening-follows-clause-tells : goal.returns-then-opening-follows-clause-tells

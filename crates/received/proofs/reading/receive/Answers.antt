@@ -2,7 +2,7 @@ use Rattle.std.proofs.Common.{◌≡◌, ◌≤◌, length, [], ap, sym, ◌∙�
 use Rattle.chunked.specs.Devices.{device_of, has_failed}
 use Rattle.connections.specs.Connections.{longest_head}
 use Rattle.definitions.specs.declared.refusals.Part.TheVariants as part
-use Rattle.meta.specs.declared.faults.Fault.TheVariants as refusal
+use Rattle.keys.specs.declared.fault.Fault.TheVariants as refusal
 use Rattle.request_heads.proofs.Wholes.{found_asks}
 use Rattle.request_heads.specs.Reading.{IsFound, Reads}
 use Rattle.request_heads.specs.declared.found.Found.TheVariants as found

@@ -1,7 +1,7 @@
 use Rattle.std.proofs.Common.{inr, sym, subst}
 use Rattle.definitions.specs.Replacements.{with_status_in}
 use Rattle.definitions.proofs.VerbSteps.{restate}
-use Rattle.meta.specs.Keys.{key_of}
+use Rattle.keys.specs.Keys.{key_of}
 use Rattle.answers.specs.Serves.{Serves}
 use Rattle.replacements.proofs.Replacing.{if_same-other, if_same-same}
 use Rattle.replacements.proofs.status.restate_with.Goals as goal

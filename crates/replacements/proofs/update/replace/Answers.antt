@@ -1,6 +1,6 @@
 use Rattle.std.proofs.Common.{subst}
 use Rattle.definitions.specs.Verbs.{replace}
-use Rattle.meta.specs.Keys.{key_of}
+use Rattle.keys.specs.Keys.{key_of}
 use Rattle.answers.specs.Serves.{Serves}
 use Rattle.replacements.proofs.update.replace.Goals as goal
 

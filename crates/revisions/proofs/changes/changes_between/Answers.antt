@@ -2,7 +2,7 @@ use Rattle.std.proofs.Common.{◌≡◌, ◌<◌, ◌+◌, ◌-◌, [], ◌++◌
 use Rattle.std.proofs.lemmas.List.{take-map, drop-map, drop_all, length-map, get_or-map}
 use Rattle.meta.specs.Writes.{write_of}
 use Rattle.std.specs.Prelude.{option_map}
-use Rattle.meta.specs.Keys.{key_of}
+use Rattle.keys.specs.Keys.{key_of}
 use Rattle.definitions.specs.History as history
 use Rattle.definitions.specs.History.{after_all}
 use Rattle.definitions.specs.Events.{changes_after}

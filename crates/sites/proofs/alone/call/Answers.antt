@@ -1,4 +1,4 @@
-use Rattle.verbs.specs.Requests.{request_of}
+use Rattle.requests.specs.Requests.{request_of}
 use Rattle.sites.proofs.Owned.{call_answered}
 use Rattle.sites.proofs.alone.call.Goals as goal
 

@@ -1,4 +1,4 @@
-use Rattle.std.proofs.Common.{◌≡◌, ℕ, length, true, codes, refl, rules, arith}
+use Rattle.std.proofs.Common.{◌≡◌, length, true, codes, refl, rules, arith}
 use Rattle.definitions.specs.Moments.{has_form}
 use Rattle.stamps.proofs.Forms.{digits-at, has_form-length}
 use Rattle.stamps.proofs.moments.is_moment.Goals as goal

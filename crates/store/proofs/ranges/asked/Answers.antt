@@ -1,6 +1,6 @@
 use Rattle.std.proofs.Common.{◌≡◌, ◌∙◌, sym, ap, subst, option_map}
 use Rattle.definitions.specs.History.{viewed}
-use Rattle.meta.specs.Keys.{key_of}
+use Rattle.keys.specs.Keys.{key_of}
 use Rattle.selector.specs.Views.{view_of}
 use Rattle.store.specs.AskedKeys.{start_name, earlier}
 use Rattle.store.specs.Chunks.{after_key}

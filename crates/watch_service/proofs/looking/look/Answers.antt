@@ -1,7 +1,7 @@
 use Rattle.std.proofs.Common.{Option, Err}
 use Rattle.chunked.specs.Bodies.{chunk_text}
 use Rattle.definitions.specs.Frames.{frame_text, error_frame}
-use Rattle.meta.specs.Faults.{refusal_of}
+use Rattle.keys.specs.Faults.{refusal_of}
 use Rattle.watch_service.specs.declared.standing.Standing.{Standing}
 use Rattle.watch_service.proofs.Going.{writes_nil}
 use Rattle.watch_service.proofs.looking.look.Goals as goal

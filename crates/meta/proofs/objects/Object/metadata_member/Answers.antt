@@ -1,6 +1,6 @@
 use Rattle.std.proofs.Common.{sym, subst}
 use Rattle.serde_json.specs.View.{view}
-use Rattle.meta.proofs.NoFloats.{no_float, metadata-no_float, found-no_float}
+use Rattle.json_values.proofs.NoFloats.{no_float, metadata-no_float, found-no_float}
 use Rattle.meta.proofs.objects.Object.metadata_member.Goals as goal
 
 pub returns-clause-no_float : goal.returns-clause-no_float

@@ -1,7 +1,7 @@
 use Rattle.std.proofs.Common.{◌∙◌}
 use Rattle.session.specs.SessionStates.{accepted}
 use Rattle.session.proofs.Served.{served-server, served-room, served-text}
-use Rattle.verbs.specs.Requests.{request_of}
+use Rattle.requests.specs.Requests.{request_of}
 use Rattle.session.proofs.sessions.Session.accept.Goals as goal
 
 pub take-requires : goal.take-requires

@@ -1,7 +1,7 @@
 use Rattle.std.proofs.Common.{◌∙◌, ap, option_map}
 use Rattle.definitions.specs.History.{found}
 use Rattle.server_state.specs.Snapshots.{Snapshot}
-use Rattle.meta.specs.Keys.{key_of}
+use Rattle.keys.specs.Keys.{key_of}
 use Rattle.meta.specs.declared.stored.StoredObject.{StoredObject}
 use Rattle.store.proofs.SeenMaps.{option_map-copied}
 use Rattle.store.proofs.stores.Store.get.Goals as goal

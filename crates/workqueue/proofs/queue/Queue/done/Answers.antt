@@ -1,9 +1,9 @@
 use Rattle.std.proofs.Common.{ap, sym, ◌∙◌, map}
 use Rattle.std.specs.Ordering.{is_eq}
 use Rattle.controllers.specs.WorkQueues.{done}
-use Rattle.work_keys.specs.Tasks.{work_key_of}
+use Rattle.work_keys.specs.WorkKeys.{work_key_of}
 use Rattle.workqueue.specs.Seen.{work_of}
-use Rattle.work_keys.proofs.SeenTasks.{same_task, remove-tasks}
+use Rattle.work_keys.proofs.SeenWorkKeys.{same_task, remove-tasks}
 use Rattle.workqueue.proofs.Steps.{done_absent, done_again, done_clean, pushed-seen}
 use Rattle.workqueue.proofs.queue.Queue.done.Goals as goal
 

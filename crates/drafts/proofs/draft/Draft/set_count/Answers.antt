@@ -1,0 +1,11 @@
+use Rattle.std.proofs.Common.{ap}
+use Rattle.serde_json.specs.View.{view}
+use Rattle.serde_json.specs.Written.{has_float}
+use Rattle.json_values.proofs.NoFloats.{after_put-no_float}
+use Rattle.drafts.proofs.draft.Draft.set_count.Goals as goal
+
+pub invariant_of-self : goal.invariant_of-self
+invariant_of-self c = (
+  c.self.invariant.0,
+  after_put-no_float c.put.result _ (view c.in_ok-value.value) c.self.inside.metadata.entries c.put.new.map.entries c.put.ensures.ok c.put.ensures.err (ap has_float c.in_ok-value.ensures) c.self.invariant.1,
+)

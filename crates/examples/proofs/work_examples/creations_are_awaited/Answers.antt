@@ -1,0 +1,5 @@
+use Rattle.examples.proofs.WorkWorked.{creations_awaited}
+use Rattle.examples.proofs.work_examples.creations_are_awaited.Goals as goal
+
+pub returns : goal.returns
+returns c = creations_awaited

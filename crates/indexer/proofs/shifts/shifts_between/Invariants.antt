@@ -1,0 +1,13 @@
+use Rattle.std.proofs.Common.{◌≡◌, ◌++◌, map, filter}
+use Rattle.serde_json.specs.Data.{Data}
+use Rattle.definitions.specs.Keys.{Key as Name}
+use Rattle.controllers.specs.Shifts.{is_change, shift_at}
+use Rattle.indexer.specs.Seen.{members_seen}
+use Rattle.indexer.specs.Shifted.{shift_of}
+use Rattle.indexer.proofs.shifts.shifts_between.Given as goal
+
+-- what was found and what is still to be found is all
+abbrev pub invariant-loop-key : goal.invariant-loop-key
+invariant-loop-key l =
+    map shift_of l.shifts.items ++ filter is_change (map (λ (e : Name × Data). shift_at (members_seen l.old.entries) (members_seen l.new.entries) e.0) (members_seen l.key-iterator))
+    ≡ filter is_change (map (λ (e : Name × Data). shift_at (members_seen l.old.entries) (members_seen l.new.entries) e.0) (members_seen l.initial.key-iterator))

@@ -1,0 +1,12 @@
+//! Indexed copies: the objects of a kind, as deltas make them, by key, by namespace and by owner, with the revision at which
+//! they are the server's.
+#![tactic(auto)]
+
+pub(crate) mod applying;
+pub mod indexed;
+pub mod seen;
+pub mod shifts;
+
+pub use indexed::Indexed;
+pub use reflector::SharedObject;
+pub use shifts::Shift;

@@ -1,0 +1,31 @@
+//! An indexed copy is looked at.
+
+use crate::indexed::Indexed;
+use keys::Key;
+use meta::Object;
+use std::alloc::{AllocError, Global};
+use turns::{Entry, Seen};
+
+impl Seen for Indexed {
+    ghost snapshot = { λ i. i };
+
+    fn get(&self, key: &Key) -> Option<&Object> {
+        self.get(key)
+    }
+
+    fn list(&self, alloc: Global) -> Result<Vec<Entry<'_>>, AllocError> {
+        self.list(alloc)
+    }
+
+    fn by_namespace(&self, alloc: Global, namespace: &str) -> Result<Vec<Entry<'_>>, AllocError> {
+        self.by_namespace(alloc, namespace)
+    }
+
+    fn by_owner(&self, alloc: Global, uid: &str) -> Result<Vec<Entry<'_>>, AllocError> {
+        self.by_owner(alloc, uid)
+    }
+
+    fn revision(&self) -> u64 {
+        self.revision()
+    }
+}

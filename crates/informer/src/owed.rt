@@ -1,0 +1,259 @@
+//! The work keys that a change owes.
+ghost use Rattle.std.specs.Prelude.{◌≡◌, ◌++◌, IfOk, map, flat_map, option_and_then, option_map};
+ghost use Rattle.definitions.specs.Metadata.{uid};
+ghost use Rattle.keys.specs.Keys.{key_of};
+ghost use Rattle.controllers.specs.OwnerReferences.{controller_keys, owner_keys};
+ghost use Rattle.controllers.specs.OwedKeys.{keys_of, changed, one_of, own_key, adopters, deployments_of_pod, dependents, sets_to_look, deployments_to_look, items_to_look, itself, dependents_left, is_going};
+ghost use Rattle.informer.specs.Owed.{change_of};
+ghost use Rattle.turns.specs.Hands.{looks_of};
+ghost use Rattle.work_keys.specs.WorkKeys.{work_key_of};
+
+use crate::looking::{adopters, dependents_in};
+use crate::owing::{add_all, in_order};
+use crate::rollouts::{deployments_of_pod, push_all};
+use controllers::controller::Controller;
+use keys::Key;
+use meta::{Kind, Object};
+use owners::references::{controller_keys, namespace_of, owner_keys};
+use std::alloc::{AllocError, Global};
+use std::collections::BTreeSet;
+use turns::{Looks, Seen};
+use work_keys::WorkKey;
+
+/// Returns keys, and then others.
+fn joined(mut keys: Vec<Key>, more: Vec<Key>) -> Result<Vec<Key>, AllocError>
+    ensures { IfOk result (λ v. map key_of v.items ≡ map key_of keys.items ++ map key_of more.items) }
+{
+    push_all(&mut keys, more)?;
+    Ok(keys)
+}
+
+/// Returns the keys of the controllers of a kind that an object names, if it is there.
+fn controller_keys_in(
+    alloc: Global,
+    kind: Kind,
+    object: Option<&Object>,
+) -> Result<Vec<Key>, AllocError>
+    ensures { IfOk result (λ v. map key_of v.items
+        ≡ flat_map (controller_keys kind) (one_of (option_map (λ o. o.now.value) object.entry))) }
+{
+    match object {
+        Some(object) => controller_keys(alloc, kind, object),
+        None => Ok(Vec::new(alloc)),
+    }
+}
+
+/// Returns the keys of the owners that an object names, if it is there.
+fn owner_keys_in(alloc: Global, object: Option<&Object>) -> Result<Vec<Key>, AllocError>
+    ensures { IfOk result (λ v. map key_of v.items ≡ flat_map owner_keys (one_of (option_map (λ o. o.now.value) object.entry))) }
+{
+    match object {
+        Some(object) => owner_keys(alloc, object),
+        None => Ok(Vec::new(alloc)),
+    }
+}
+
+/// Returns the keys of the ReplicaSets that may adopt an object, if it is there.
+fn adopters_in<S: Seen>(
+    alloc: Global,
+    sets: &S,
+    object: Option<&Object>,
+) -> Result<Vec<Key>, AllocError>
+    ensures { IfOk result (λ v. map key_of v.items
+        ≡ flat_map (adopters (S.snapshot sets.now).members) (one_of (option_map (λ o. o.now.value) object.entry))) }
+{
+    match object {
+        Some(object) => adopters(alloc, sets, object),
+        None => Ok(Vec::new(alloc)),
+    }
+}
+
+/// Returns the keys of the Deployments over a Pod, if it is there.
+fn deployments_in<S: Seen>(
+    alloc: Global,
+    sets: &S,
+    pod: Option<&Object>,
+) -> Result<Vec<Key>, AllocError>
+    ensures { IfOk result (λ v. map key_of v.items
+        ≡ flat_map (deployments_of_pod (S.snapshot sets.now).members) (one_of (option_map (λ o. o.now.value) pod.entry))) }
+{
+    match pod {
+        Some(pod) => deployments_of_pod(alloc, sets, pod),
+        None => Ok(Vec::new(alloc)),
+    }
+}
+
+/// Returns the key of an object of the kind.
+fn own_key(alloc: Global, kind: Kind, object: &Object) -> Result<Key, AllocError>
+    ensures { IfOk result (λ k. key_of k ≡ own_key kind object.now.value) }
+{
+    Ok(Key {
+        kind,
+        namespace: String::from_str(alloc, namespace_of(object))?,
+        name: String::from_str(alloc, object.name().unwrap_or(""))?,
+    })
+}
+
+/// Returns the key of an object, if it is there.
+fn own_keys(alloc: Global, kind: Kind, object: Option<&Object>) -> Result<Vec<Key>, AllocError>
+    ensures { IfOk result (λ v. map key_of v.items ≡ one_of (option_map (own_key kind) (option_map (λ o. o.now.value) object.entry))) }
+{
+    let mut keys = Vec::new(alloc);
+    if let Some(object) = object {
+        keys.push(own_key(alloc, kind, object)?)?;
+    }
+    Ok(keys)
+}
+
+/// Returns the keys of the ReplicaSets that are to be looked at.
+fn sets_to_look<S: Seen>(
+    alloc: Global,
+    kind: Kind,
+    old: Option<&Object>,
+    new: Option<&Object>,
+    looks: &Looks<S>,
+) -> Result<Vec<Key>, AllocError>
+    ensures { IfOk result (λ v. map key_of v.items ≡ sets_to_look (looks_of S.snapshot looks.now)
+        (change_of kind old.entry new.entry)) }
+{
+    match kind {
+        Kind::ConfigMap => Ok(Vec::new(alloc)),
+        Kind::Pod => {
+            let before = controller_keys_in(alloc, Kind::ReplicaSet, old)?;
+            let both = joined(before, controller_keys_in(alloc, Kind::ReplicaSet, new)?)?;
+            joined(both, adopters_in(alloc, &looks.replica_sets, new)?)
+        }
+        Kind::ReplicaSet => own_keys(alloc, kind, new.or(old)),
+        Kind::Deployment => Ok(Vec::new(alloc)),
+    }
+}
+
+/// Returns the keys of the Deployments that are to be looked at.
+fn deployments_to_look<S: Seen>(
+    alloc: Global,
+    kind: Kind,
+    old: Option<&Object>,
+    new: Option<&Object>,
+    looks: &Looks<S>,
+) -> Result<Vec<Key>, AllocError>
+    ensures { IfOk result (λ v. map key_of v.items ≡ deployments_to_look (looks_of S.snapshot looks.now)
+        (change_of kind old.entry new.entry)) }
+{
+    match kind {
+        Kind::ConfigMap => Ok(Vec::new(alloc)),
+        Kind::Pod => deployments_in(alloc, &looks.replica_sets, old),
+        Kind::ReplicaSet => joined(
+            controller_keys_in(alloc, Kind::Deployment, old)?,
+            controller_keys_in(alloc, Kind::Deployment, new)?,
+        ),
+        Kind::Deployment => own_keys(alloc, kind, new.or(old)),
+    }
+}
+
+/// Returns the keys of all objects with an owner of this uid.
+fn dependents<S: Seen>(alloc: Global, uid: &str, looks: &Looks<S>) -> Result<Vec<Key>, AllocError>
+    ensures { IfOk result (λ v. map key_of v.items ≡ dependents (looks_of S.snapshot looks.now)
+        uid.now) }
+{
+    let config_maps = dependents_in(alloc, &looks.config_maps, uid)?;
+    let pods = dependents_in(alloc, &looks.pods, uid)?;
+    let replica_sets = dependents_in(alloc, &looks.replica_sets, uid)?;
+    let deployments = dependents_in(alloc, &looks.deployments, uid)?;
+    let apps = joined(replica_sets, deployments)?;
+    let later = joined(pods, apps)?;
+    joined(config_maps, later)
+}
+
+/// Returns the keys of all objects with an owner of this uid, if there is one.
+fn dependents_of<S: Seen>(
+    alloc: Global,
+    uid: Option<&str>,
+    looks: &Looks<S>,
+) -> Result<Vec<Key>, AllocError>
+    ensures { IfOk result (λ v. map key_of v.items ≡ flat_map (dependents (looks_of S.snapshot looks.now))
+        (one_of (option_map (λ s. s.now) uid.entry))) }
+{
+    match uid {
+        Some(uid) => dependents(alloc, uid, looks),
+        None => Ok(Vec::new(alloc)),
+    }
+}
+
+/// Returns whether an object is gone, or is being deleted.
+fn is_going(object: Option<&Object>) -> bool
+    ensures { result ≡ is_going (option_map (λ o. o.now.value) object.entry) }
+{
+    match object {
+        Some(object) => object.is_being_deleted(),
+        None => true,
+    }
+}
+
+/// Returns the uid of an object, if it is there.
+fn uid_in<'a>(object: Option<&'a Object>) -> Option<&'a str>
+    ensures { option_map (λ s. s.now) result ≡ option_and_then uid (option_map (λ o. o.now.value) object.entry) }
+{
+    match object {
+        Some(object) => object.uid(),
+        None => None,
+    }
+}
+
+/// Returns the keys of the dependents of an object that is gone, or is being deleted.
+fn dependents_left<S: Seen>(
+    alloc: Global,
+    kind: Kind,
+    old: Option<&Object>,
+    new: Option<&Object>,
+    looks: &Looks<S>,
+) -> Result<Vec<Key>, AllocError>
+    ensures { IfOk result (λ v. map key_of v.items ≡ dependents_left (looks_of S.snapshot looks.now)
+        (change_of kind old.entry new.entry)) }
+{
+    if is_going(new) {
+        return dependents_of(alloc, uid_in(new.or(old)), looks);
+    }
+    Ok(Vec::new(alloc))
+}
+
+/// Returns the keys of the objects that the collector is to look at.
+fn items_to_look<S: Seen>(
+    alloc: Global,
+    kind: Kind,
+    old: Option<&Object>,
+    new: Option<&Object>,
+    looks: &Looks<S>,
+) -> Result<Vec<Key>, AllocError>
+    ensures { IfOk result (λ v. map key_of v.items ≡ items_to_look (looks_of S.snapshot looks.now)
+        (change_of kind old.entry new.entry)) }
+{
+    let itself = own_keys(alloc, kind, new)?;
+    let before = owner_keys_in(alloc, old)?;
+    let owners = joined(before, owner_keys_in(alloc, new)?)?;
+    let left = dependents_left(alloc, kind, old, new, looks)?;
+    joined(itself, joined(owners, left)?)
+}
+
+/// Returns the work keys that a change of an object of a kind owes, each once: those of the ReplicaSet controller, then those
+/// of the Deployment controller, then those of the collector, each in the order of keys. The error is running out of memory.
+#[tactic(auto, using(crate::proofs::SeenTasks::with_keys_joined))]
+pub fn keys_of<S: Seen>(
+    alloc: Global,
+    kind: Kind,
+    old: Option<&Object>,
+    new: Option<&Object>,
+    looks: &Looks<S>,
+) -> Result<Vec<WorkKey>, AllocError>
+    ensures { IfOk result (λ v. map work_key_of v.items ≡ keys_of
+        (change_of kind old.entry new.entry)
+        (looks_of S.snapshot looks.now)) }
+{
+    let sets = sets_to_look(alloc, kind, old, new, looks)?;
+    let deployments = deployments_to_look(alloc, kind, old, new, looks)?;
+    let items = items_to_look(alloc, kind, old, new, looks)?;
+    let mut owed = BTreeSet::new(alloc);
+    add_all(&mut owed, Controller::ReplicaSet, sets)?;
+    add_all(&mut owed, Controller::Deployment, deployments)?;
+    add_all(&mut owed, Controller::Collector, items)?;
+    in_order(alloc, owed)
+}

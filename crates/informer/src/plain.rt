@@ -1,0 +1,75 @@
+//! An informer with one map.
+use crate::publishing::apply_all;
+use indexer::{Indexed, Shift};
+use reflector::Delta;
+use std::alloc::{AllocError, AllocFailed, Global};
+use std::marker::Model;
+
+/// A map that is published, and the deltas that wait to be.
+#[derive(Drop)]
+pub struct PlainInformer {
+    map: Indexed,
+    waiting: Vec<Delta>,
+    alloc: Global,
+}
+
+impl Model for PlainInformer {
+    ghost use Rattle.controllers.specs.Informers.{Informer};
+    ghost use Rattle.controllers.specs.InformerCodes.{coded_informer};
+    ghost use Rattle.reflector.specs.Deltas.{deltas_of};
+
+    ghost Value = { Informer };
+
+    ghost coded = { coded_informer };
+
+    ghost view = { λ i. record { published = i.map; pending = deltas_of i.waiting.items } };
+}
+
+impl PlainInformer {
+    ghost use Rattle.std.specs.Prelude.{◌≡◌, IfOk, IfErr, OnOk, OnErr, map};
+    ghost use Rattle.controllers.specs.Informers.{begun, appended, after_publish};
+    ghost use Rattle.controllers.specs.Shifts.{all_shifts};
+    ghost use Rattle.reflector.specs.Deltas.{delta_of};
+    ghost use Rattle.indexer.specs.Shifted.{shift_of};
+
+    /// Returns an informer that has published nothing yet: an empty map at revision 0.
+    pub fn new(alloc: Global) -> PlainInformer
+        ensures { result ≡ begun }
+    {
+        PlainInformer {
+            map: Indexed::new(alloc),
+            waiting: Vec::new(alloc),
+            alloc,
+        }
+    }
+
+    /// Appends a delta, which waits for the next publish. The error is running out of memory: it has the delta, and nothing
+    /// else changes.
+    pub fn append(&mut self, delta: Delta) -> Result<(), AllocFailed<Delta>>
+        ensures ok { OnOk result (self.new ≡ appended self.old (delta_of delta)) }
+        ensures err { OnErr result (self.new ≡ self.old) }
+        ensures returned { IfErr result (λ e. e.value ≡ delta) }
+    {
+        self.waiting.push(delta)
+    }
+
+    /// Publishes the deltas that wait, all of them, and returns what they change, delta by delta. The error is running out of
+    /// memory: none is published, and all wait.
+    pub fn publish(&mut self) -> Result<Vec<Shift>, AllocError>
+        ensures ok { OnOk result (self.new ≡ after_publish self.old) }
+        ensures shifts { IfOk result (λ v. map shift_of v.items ≡ all_shifts self.old.published.members self.old.pending) }
+        ensures err { OnErr result (self.new ≡ self.old) }
+    {
+        let applied = apply_all(self.alloc, &self.map, self.waiting.as_slice())?;
+        self.map = applied.objects;
+        self.waiting.clear();
+        Ok(applied.shifts)
+    }
+
+    /// Returns a reference to the published map. It takes no memory.
+    pub fn look(&self) -> &Indexed
+        ensures { result.now ≡ self.now.published }
+    {
+        &self.map
+    }
+}

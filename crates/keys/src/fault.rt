@@ -1,0 +1,56 @@
+//! Why a request is not done.
+ghost use Rattle.std.specs.Prelude.{◌≡◌};
+ghost use Rattle.keys.specs.declared.fault.Fault.TheVariants.{NoMemory};
+
+use crate::key::Key;
+use definitions::refusals::{Field, Mismatch, Part};
+use std::alloc::{AllocError, AllocFailed};
+
+/// Why a request is not done.
+#[derive(Debug, Drop)]
+pub enum Fault {
+    /// A part of the request cannot be read.
+    BadRequest(Part),
+    /// No object is under the key.
+    NotFound(Key),
+    /// The path names nothing that is served.
+    NoSuchPath,
+    /// The path does not serve the method.
+    MethodNotAllowed,
+    /// An object is under the key already.
+    AlreadyExists(Key),
+    /// The object under the key is not the one that the request named.
+    Conflict(Key, Mismatch),
+    /// The revision asked for is below the floor, the least that is still served.
+    Expired { asked: u64, floor: u64 },
+    /// The request does not say how long its body is.
+    LengthRequired,
+    /// The body, or the object to be stored, is longer than it may be.
+    TooLarge,
+    /// The body is of a media type that is not read.
+    UnsupportedMediaType,
+    /// A field of the object is not valid.
+    Invalid(Key, Field),
+    /// Memory was wanted and refused.
+    NoMemory,
+    /// The revision asked for is above the present one.
+    TooNew { asked: u64, present: u64 },
+    /// There are as many objects as there may be, or the greatest revision is reached.
+    StorageFull,
+}
+
+impl From<AllocError> for Fault {
+    ghost from_gives = { λ _ e. e ≡ NoMemory };
+
+    fn from(_: AllocError) -> Fault {
+        Fault::NoMemory
+    }
+}
+
+impl<T: Drop> From<AllocFailed<T>> for Fault {
+    ghost from_gives = { λ _ e. e ≡ NoMemory };
+
+    fn from(_: AllocFailed<T>) -> Fault {
+        Fault::NoMemory
+    }
+}

@@ -1,0 +1,28 @@
+//! Keys of objects.
+ghost use Rattle.std.specs.Prelude.{◌≡◌, IfOk};
+ghost use Rattle.keys.specs.Keys.{key_of};
+
+use definitions::kinds::Kind;
+use std::alloc::AllocError;
+
+/// What one object at a time is called: its kind, its namespace and its name. Keys go by kind, then namespace, then
+/// name, the texts in byte order.
+#[derive(Debug, PartialEq, Eq, PartialOrd, Ord, Hash, Drop)]
+pub struct Key {
+    pub kind: Kind,
+    pub namespace: String,
+    pub name: String,
+}
+
+impl Key {
+    /// Returns a copy of the key. The error is running out of memory.
+    pub fn try_copy(&self) -> Result<Key, AllocError>
+        ensures { IfOk result (λ k. key_of k ≡ key_of self.now) }
+    {
+        Ok(Key {
+            kind: self.kind,
+            namespace: self.namespace.clone()?,
+            name: self.name.clone()?,
+        })
+    }
+}

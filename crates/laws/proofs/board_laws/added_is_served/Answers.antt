@@ -1,6 +1,0 @@
-use Rattle.controllers.specs.WorkQueues.{idle, added, after_all}
-use Rattle.laws.proofs.BoardRuns.{wanted_is_served, added-wanted}
-use Rattle.laws.proofs.board_laws.added_is_served.Goals as goal
-
-pub returns : goal.returns
-returns c = λ before cs k e. wanted_is_served k (added k (after_all idle before)) cs (added-wanted k (after_all idle before) e)

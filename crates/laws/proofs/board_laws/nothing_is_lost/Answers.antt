@@ -1,5 +1,0 @@
-use Rattle.laws.proofs.BoardRuns.{sound, wanted_is_somewhere}
-use Rattle.laws.proofs.board_laws.nothing_is_lost.Goals as goal
-
-pub returns : goal.returns
-returns c = λ cs k d. wanted_is_somewhere _ _ _ ((sound cs).1 k) d

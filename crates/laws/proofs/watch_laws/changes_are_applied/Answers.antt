@@ -1,0 +1,5 @@
+use Rattle.laws.proofs.AppliedEvents.{list_applied}
+use Rattle.laws.proofs.watch_laws.changes_are_applied.Goals as goal
+
+pub returns : goal.returns
+returns c = list_applied

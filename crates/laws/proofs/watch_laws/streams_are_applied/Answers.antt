@@ -1,0 +1,5 @@
+use Rattle.laws.proofs.Streamed.{stream_applied}
+use Rattle.laws.proofs.watch_laws.streams_are_applied.Goals as goal
+
+pub returns : goal.returns
+returns c = stream_applied

@@ -1,5 +1,0 @@
-use Rattle.laws.proofs.PastWindows.{kept_past}
-use Rattle.laws.proofs.window_laws.kept_writes_are_past.Goals as goal
-
-pub returns : goal.returns
-returns c = kept_past

@@ -1,0 +1,9 @@
+use Rattle.std.proofs.Common.{◌≡◌, ◌++◌, map, filter}
+use Rattle.definitions.specs.Metadata.{owners}
+use Rattle.meta.specs.Owners.{owner_of}
+use Rattle.controllers.specs.OwnerReferences.{controls_as}
+use Rattle.owners.proofs.references.controllers.Given as goal
+
+-- those found and those still to be found are all
+abbrev pub invariant-loop-owner : goal.invariant-loop-owner
+invariant-loop-owner l = map owner_of l.found.items ++ filter (controls_as l.kind) (map owner_of l.owner-iterator.rest.items) ≡ filter (controls_as l.kind) (owners l.object.value)

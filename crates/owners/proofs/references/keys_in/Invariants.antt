@@ -1,0 +1,9 @@
+use Rattle.std.proofs.Common.{◌≡◌, ◌++◌, map, filter_map}
+use Rattle.keys.specs.Keys.{key_of}
+use Rattle.meta.specs.Owners.{owner_of}
+use Rattle.controllers.specs.OwnerReferences.{owner_key}
+use Rattle.owners.proofs.references.keys_in.Given as goal
+
+-- those found and those still to be found are all
+abbrev pub invariant-loop-owner : goal.invariant-loop-owner
+invariant-loop-owner l = map key_of l.keys.items ++ filter_map (owner_key l.namespace) (map owner_of l.owner-iterator.rest.items) ≡ filter_map (owner_key l.namespace) (map owner_of l.fn.owners.items)

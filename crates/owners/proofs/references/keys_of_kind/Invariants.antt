@@ -1,0 +1,12 @@
+use Rattle.std.proofs.Common.{◌≡◌, ◌++◌, map, filter_map}
+use Rattle.definitions.specs.Metadata.{Owner}
+use Rattle.keys.specs.Keys.{key_of}
+use Rattle.meta.specs.Owners.{owner_of}
+use Rattle.controllers.specs.OwnerReferences.{key_named}
+use Rattle.owners.proofs.references.keys_of_kind.Given as goal
+
+-- those found and those still to be found are all
+abbrev pub invariant-loop-owner : goal.invariant-loop-owner
+invariant-loop-owner l =
+    map key_of l.keys.items ++ filter_map (λ (o : Owner). key_named l.namespace l.kind o.name) (map owner_of l.owner-iterator.rest.items)
+    ≡ filter_map (λ (o : Owner). key_named l.namespace l.kind o.name) (map owner_of l.fn.owners.items)

@@ -1,0 +1,25 @@
+//! Requests.
+use definitions::kinds::Kind;
+use keys::Key;
+use lifecycle::DeleteOptions;
+use selector::View;
+use serde_json::Value;
+
+/// A request, by its verb (Kubernetes API Concepts, API verbs). A body is JSON that was not yet read as an object.
+#[derive(Drop)]
+pub enum Request {
+    /// The object under a key.
+    Get(Key),
+    /// The objects of a view.
+    List(View),
+    /// A new object of a kind in a namespace.
+    Create(Kind, String, Value),
+    /// An object in the place of the one under a key.
+    Update(Key, Value),
+    /// A status for the object under a key.
+    UpdateStatus(Key, Value),
+    /// A merge patch of the object under a key.
+    Patch(Key, Value),
+    /// The object under a key removed, or being deleted from then on, by these options.
+    Delete(Key, DeleteOptions),
+}

@@ -1,0 +1,47 @@
+-- A server that is what a history gives answers as the history does.
+use Rattle.std.proofs.Common.{◌≡◌, ◌⊎◌, inl, inr, ℕ, List, [], sym, ap, ◌∙◌, subst, Result, Ok, Err}
+use Rattle.definitions.specs.Collections.{ListOptions}
+use Rattle.definitions.specs.History.{History, present, View, viewed}
+use Rattle.definitions.specs.Lists.{list_outcome}
+use Rattle.definitions.specs.ObjectRequests.{Request}
+use Rattle.definitions.specs.Refusals.{Refusal, no_memory}
+use Rattle.definitions.specs.Verbs.{accept, accept_at}
+use Rattle.definitions.specs.Versions.{Listed, listed_as, watched_from}
+use Rattle.keys.specs.declared.fault.Fault.{Fault}
+use Rattle.laws.proofs.ServerAnswers.{pages_held, watches_held}
+use Rattle.laws.proofs.ServerHistories.{opened_holds, entries_hold, accepted_holds}
+use Rattle.server_state.specs.Servers.{Server, opened_server, after_entries, list_served, watch_by, IsServerAfter}
+use Rattle.sites.specs.Alone.{BeginsAlone}
+use Rattle.watch_service.specs.Given.{GivesBegun}
+use Rattle.watch_service.specs.declared.begun.Begun.{Begun}
+use Rattle.shared_desk.specs.Told.{IsThere}
+
+abbrev pub IsAfter : ℕ → History → Server → Type 0
+IsAfter size h s = s ≡ after_entries (opened_server size) h
+
+pub follows : (size : ℕ) (h : History) (s : Server) → IsAfter size h s → IsServerAfter size s h
+follows size h s is = subst (λ (z : Server). IsServerAfter size z h) (sym is) (entries_hold size (opened_server size) [] h (opened_holds size))
+
+pub same_answer : (size : ℕ) (h : History) (s : Server) (q : Request) (moment : List ℕ) → IsAfter size h s → accept_at q s.snapshot.members s.snapshot.revision moment ≡ accept q h moment
+same_answer size h s q moment is = (accepted_holds size s h q moment (follows size h s is)).0
+
+pub same_list : (size : ℕ) (h : History) (s : Server) (v : View) (o : ListOptions) → IsAfter size h s → list_served s v o ≡ list_outcome size h v o
+same_list size h s v o is = pages_held size s h v o (follows size h s is)
+
+pub same_watch : (size : ℕ) (h : History) (s : Server) (v : View) (a n : ℕ) → IsAfter size h s → watch_by s v a n ≡ watched_from size h v a n
+same_watch size h s v a n is = watches_held size s h v a n (follows size h s is)
+
+pub same_present : (size : ℕ) (h : History) (s : Server) → IsAfter size h s → s.snapshot.revision ≡ present h
+same_present size h s is = ap (λ z. z.revision) (follows size h s is).0
+
+-- what is there is what the history left there
+there : (size : ℕ) (h : History) (s : Server) (v : View) (l : Result Listed Refusal) → IsAfter size h s → BeginsAlone s v l s → IsThere h v l
+there size h s v l is begins = by begins.0
+  where
+    by : ((l ≡ Ok (listed_as s.snapshot.revision (viewed v s.snapshot.members))) ⊎ (l ≡ Err no_memory)) → IsThere h v l
+    by (inl same) = inl (same ∙ ap (λ z. Ok (listed_as z.revision (viewed v z.members))) (follows size h s is).0)
+    by (inr none) = inr none
+
+pub begun_there : (size : ℕ) (h : History) (s : Server) (v : View) (r : Result Begun Fault) → IsAfter size h s → GivesBegun (λ l. BeginsAlone s v l s) r → GivesBegun (IsThere h v) r
+begun_there size h s v (Ok b) is g = (g.0, g.1, there size h s v _ is g.2)
+begun_there size h s v (Err e) is g = there size h s v _ is g

@@ -1,0 +1,7 @@
+pub mod Answered
+pub mod Entering
+pub mod Coming
+pub mod Compacted
+pub mod Stepping
+pub mod Seated
+pub mod Wrote

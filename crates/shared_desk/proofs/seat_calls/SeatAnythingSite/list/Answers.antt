@@ -1,0 +1,17 @@
+use Rattle.std.proofs.Common.{◌≡◌, refl, Ok, Err}
+use Rattle.requests.specs.Collected.{list_seen}
+use Rattle.selector.specs.Views.{view_of}
+use Rattle.shared_desk.specs.Askings.{IsAny}
+use Rattle.shared_desk.specs.Desks.{known}
+use Rattle.shared_desk.proofs.Seated.{listed}
+use Rattle.shared_desk.proofs.seat_calls.SeatAnythingSite.list.Goals as goal
+
+pub returns-in-Ok : goal.returns-in-Ok
+returns-in-Ok g c =
+    let seat = c.args.self.now in
+    record { lists = listed IsAny ((seat.desk.now ≡ seat.desk.now) × (seat.listener ≡ seat.listener)) (refl, refl) seat.desk.now.window (known seat.pass) (known c.list.new.pass) (view_of c.args.view.now) (list_seen c.args.options.now) (Ok c.in-Ok.reply) seat.sits.1 c.in-Ok.ensures.list }
+
+pub returns-in-Err : goal.returns-in-Err
+returns-in-Err g c =
+    let seat = c.args.self.now in
+    record { lists = listed IsAny ((seat.desk.now ≡ seat.desk.now) × (seat.listener ≡ seat.listener)) (refl, refl) seat.desk.now.window (known seat.pass) (known c.list.new.pass) (view_of c.args.view.now) (list_seen c.args.options.now) (Err c.in-Err.fault) seat.sits.1 c.in-Err.ensures.list }

@@ -1,0 +1,29 @@
+-- What is told of a call.
+use Rattle.std.specs.Prelude.{◌≡◌, ◌⊎◌, ◌∷◌, ◌++◌, [], ℕ, Option, None, Result, Ok, Err, is_some}
+use Rattle.definitions.specs.History.{History, Entry, View, compaction, present, list}
+use Rattle.definitions.specs.Refusals.{Refusal, no_memory}
+use Rattle.definitions.specs.Verbs.{Outcome, write_of}
+use Rattle.definitions.specs.Versions.{Listed, listed_as, compacts}
+use Rattle.desk.specs.Replies.{Replies}
+use Rattle.keys.specs.Faults.{refusal_of}
+use Rattle.keys.specs.declared.fault.Fault.{Fault}
+use Rattle.shared_desk.specs.declared.served.Served.{Served}
+
+-- what a result changes: an error nothing
+abbrev pub once_ok : {X Y : Type 0} → Result X Y → Option Entry → Option Entry
+once_ok (Ok x) change = change
+once_ok (Err e) change = None
+
+-- the result is the outcome, with whether it writes something; or out of memory
+abbrev pub Answers : Outcome → Result Served Fault → Type 0
+Answers o (Ok s) = Replies o (Ok s.reply) × (s.wrote ≡ is_some (write_of o))
+Answers o (Err e) = Replies o (Err e)
+
+-- a compaction is done where its revision is not above the present one, and else refused
+abbrev pub Compacts : History → ℕ → Result (Unit {0}) Fault → Type 0
+Compacts h r (Ok u) = compacts h r ≡ Ok (h ++ compaction r ∷ [])
+Compacts h r (Err e) = compacts h r ≡ Err (refusal_of e)
+
+-- what is there at the present revision; or out of memory
+abbrev pub IsThere : History → View → Result Listed Refusal → Type 0
+IsThere h v l = (l ≡ Ok (listed_as (present h) (list h v (present h)))) ⊎ (l ≡ Err no_memory)

@@ -1,0 +1,17 @@
+//! A desk.
+use crate::askings::Asking;
+use crate::entries::Entry;
+use crate::store_law::StoreLaw;
+use baton::Baton;
+use baton::views::View;
+use desk::Server;
+
+/// The right to ask at a desk. What it has seen of the desk's history, and what it made of it, its calls say.
+pub type StorePass = crossbeam_queue::Pass<Server, View<Server, Entry>>;
+
+/// A server that threads share: one call at a time has it.
+#[derive(Drop)]
+pub struct Desk<A: Asking> {
+    pub(crate) baton: Baton<Server, StoreLaw<A>>,
+    pub(crate) window: usize,
+}

@@ -1,0 +1,24 @@
+//! What happens to a store. No value is ever made: it is what the proofs speak of.
+use meta::Write;
+use std::marker::Model;
+
+/// A write, or without one a compaction to a revision.
+#[derive(Drop)]
+pub struct Entry {
+    write: Option<Write>,
+    revision: u64,
+}
+
+impl Model for Entry {
+    ghost use Rattle.std.specs.Prelude.{option_map};
+    ghost use Rattle.codes.specs.HistoryCodes.{coded_entry};
+    ghost use Rattle.definitions.specs.History as history;
+    ghost use Rattle.meta.specs.Writes.{write_of};
+    ghost use Rattle.shared_desk.specs.Entries.{entry_of};
+
+    ghost Value = { history.Entry };
+
+    ghost coded = { coded_entry };
+
+    ghost view = { λ e. entry_of (option_map write_of e.write) e.revision };
+}

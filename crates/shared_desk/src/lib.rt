@@ -1,0 +1,23 @@
+//! A server that threads share. Each thread has a pass, and each call of a pass is answered at one point of one history of all
+//! calls: the server is taken, makes one step, and is given back. A seat has a pass with what else a thread needs.
+#![tactic(auto)]
+
+pub mod askings;
+mod calls;
+mod compactions;
+pub mod desks;
+pub mod entries;
+pub mod listeners;
+mod reads;
+mod seat_calls;
+pub mod seats;
+pub mod served;
+mod steps;
+pub mod store_law;
+pub mod store_laws;
+
+pub use askings::{Anything, Asking, Readable};
+pub use desks::{Desk, StorePass};
+pub use listeners::{Listener, Silent};
+pub use seats::Seat;
+pub use store_law::StoreLaw;

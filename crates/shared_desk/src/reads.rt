@@ -1,0 +1,91 @@
+//! What is read at a desk.
+ghost use Rattle.std.specs.Prelude.{None};
+ghost use Rattle.definitions.specs.Lists.{list_outcome};
+ghost use Rattle.definitions.specs.Versions.{watched_from};
+ghost use Rattle.desk.specs.Replies.{Lists};
+ghost use Rattle.requests.specs.Collected.{list_seen};
+ghost use Rattle.revisions.specs.Watches.{watched_of};
+ghost use Rattle.selector.specs.Views.{view_of};
+ghost use Rattle.watch_cache.specs.Served.{Serves};
+ghost use Rattle.watch_service.specs.Given.{GivesBegun};
+ghost use Rattle.shared_desk.specs.Desks.{known, window_size, IsPassAt};
+ghost use Rattle.shared_desk.specs.Steps.{Step};
+ghost use Rattle.shared_desk.specs.Told.{IsThere};
+
+use crate::askings::Asking;
+use crate::desks::{Desk, StorePass};
+use crate::steps;
+use keys::Fault;
+use reply::Reply;
+use requests::list_options::ListOptions;
+use revisions::Watched;
+use selector::View;
+use sites::alone;
+use std::alloc::Global;
+use std::sync::Wait;
+use watch_service::Begun;
+
+impl<A: Asking> Desk<A> {
+    /// Returns the page of the list of a view that the options ask for. The pass has then seen all that had happened. The
+    /// errors are a revision below the floor, one above the present, and out of memory.
+    pub fn list<R: Wait>(
+        &self,
+        rt: &R,
+        alloc: Global,
+        pass: &mut StorePass,
+        view: &View,
+        options: &ListOptions,
+    ) -> Result<Reply, Fault>
+        requires { IsPassAt self.now pass.old }
+        ensures pass { IsPassAt self.now pass.new }
+        ensures list { Step A.MayAsk (known pass.old) (λ h. None)
+            (λ h. Lists (list_outcome (window_size self.now) h (view_of view.now) (list_seen options.now)) result) (known pass.new) }
+    {
+        let held = self.take(rt, pass);
+        let reply = steps::list(alloc, held.get(), view, options);
+        self.give_back(rt, pass, held);
+        reply
+    }
+
+    /// Returns the first changes of a view after a revision, at most `max`, and where the watch then stands. The pass has then
+    /// seen all that had happened. The errors are a revision below the floor, one above the present, and out of memory.
+    pub fn watch_from<R: Wait>(
+        &self,
+        rt: &R,
+        alloc: Global,
+        pass: &mut StorePass,
+        view: &View,
+        after: u64,
+        max: usize,
+    ) -> Result<Watched, Fault>
+        requires { IsPassAt self.now pass.old }
+        ensures pass { IsPassAt self.now pass.new }
+        ensures watch { Step A.MayAsk (known pass.old) (λ h. None)
+            (λ h. Serves watched_of (watched_from (window_size self.now) h (view_of view.now) after max) result) (known pass.new) }
+    {
+        let held = self.take(rt, pass);
+        let watched = held.get().watch_from(alloc, view, after, max);
+        self.give_back(rt, pass, held);
+        watched
+    }
+
+    /// Returns what is there of a view, with which a watch begins that names no revision. The pass has then seen all that had
+    /// happened. The error is out of memory.
+    pub fn begin<R: Wait>(
+        &self,
+        rt: &R,
+        alloc: Global,
+        pass: &mut StorePass,
+        view: &View,
+    ) -> Result<Begun, Fault>
+        requires { IsPassAt self.now pass.old }
+        ensures pass { IsPassAt self.now pass.new }
+        ensures begin { Step A.MayAsk (known pass.old) (λ h. None)
+            (λ h. GivesBegun (IsThere h (view_of view.now)) result) (known pass.new) }
+    {
+        let held = self.take(rt, pass);
+        let begun = alone::begin(alloc, held.get(), view);
+        self.give_back(rt, pass, held);
+        begun
+    }
+}

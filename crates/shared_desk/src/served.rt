@@ -1,0 +1,9 @@
+//! What becomes of a request.
+use reply::Reply;
+
+/// The reply to a request, and whether the request wrote something.
+#[derive(Drop)]
+pub struct Served {
+    pub reply: Reply,
+    pub wrote: bool,
+}

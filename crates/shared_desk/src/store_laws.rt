@@ -1,0 +1,14 @@
+//! Laws of the histories that passes see.
+ghost use Rattle.shared_desk.specs.Histories.{ReadHistoriesAreReached, HistoriesCanHappen};
+
+use crate::askings::Asking;
+
+/// Where only requests that can be read are asked, each law of what a server can reach is one of every history that a pass sees.
+pub fn read_histories_are_reached()
+    ensures { ReadHistoriesAreReached }
+{}
+
+/// Whatever is asked, none is compacted that is yet to come.
+pub fn histories_can_happen<A: Asking>()
+    ensures { HistoriesCanHappen A.MayAsk }
+{}

@@ -1,0 +1,48 @@
+//! Commands of controllers.
+
+use definitions::policies::Policy;
+use keys::Key;
+use meta::Object;
+
+/// The version that an object is to have where a command is served.
+#[derive(Drop)]
+pub enum Version {
+    /// One that was read.
+    Seen(String),
+    /// That of the answer to the command before.
+    Answered,
+}
+
+/// What a controller asks of the server.
+#[derive(Drop)]
+pub enum Command {
+    /// Creates an object in a namespace.
+    Create {
+        namespace: String,
+        object: Object,
+    },
+    /// Replaces an object, at the `resourceVersion` that the new one names.
+    Update {
+        key: Key,
+        object: Object,
+    },
+    /// Replaces the status of an object, at the `resourceVersion` that the new one names.
+    UpdateStatus {
+        key: Key,
+        object: Object,
+    },
+    /// Deletes an object, if it has this uid and this version, where they are given. Without a policy the server's default
+    /// applies.
+    Delete {
+        key: Key,
+        uid: Option<String>,
+        version: Option<Version>,
+        policy: Option<Policy>,
+    },
+}
+
+/// The commands of a turn, which are issued one after another.
+#[derive(Drop)]
+pub struct Plan {
+    pub commands: Vec<Command>,
+}

@@ -1,0 +1,50 @@
+//! What a worker has read in its turn.
+ghost use Rattle.std.specs.Prelude.{◌≡◌, option_map};
+ghost use Rattle.controllers.specs.Hands.{live, is_read};
+ghost use Rattle.keys.specs.Keys.{key_of};
+ghost use Rattle.turns.specs.Hands.{reads_of};
+
+use crate::looks::Looks;
+use keys::Key;
+use meta::Object;
+
+/// A live read, and what it found.
+#[derive(Drop)]
+pub struct Read {
+    pub key: Key,
+    pub found: Option<Object>,
+}
+
+/// What a plan is made of: the key of the turn, the looks that were taken, whether all pods that were expected have been
+/// seen, and the live reads.
+#[derive(Drop)]
+pub struct Hand<S> {
+    pub key: Key,
+    pub looks: Looks<Option<S>>,
+    pub is_satisfied: bool,
+    pub reads: Vec<Read>,
+}
+
+/// Returns what the first live read of a key found. It takes no memory.
+pub fn live<'a>(reads: &'a [Read], key: &Key) -> Option<&'a Object>
+    ensures { option_map (λ o. o.now.value) result ≡ live (reads_of reads.now) (key_of key.now) }
+{
+    for read in reads {
+        if key.cmp(&read.key).is_eq() {
+            return read.found.as_ref();
+        }
+    }
+    None
+}
+
+/// Returns whether a key was read live. It takes no memory.
+pub fn is_read(reads: &[Read], key: &Key) -> bool
+    ensures { result ≡ is_read (reads_of reads.now) (key_of key.now) }
+{
+    for read in reads {
+        if key.cmp(&read.key).is_eq() {
+            return true;
+        }
+    }
+    false
+}
