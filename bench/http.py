@@ -108,7 +108,7 @@ def filled(program, threads, count):
 
 def delays(watch, server, watchers, events, folder):
     """Returns the microseconds from the reply of a create to its frames: the median of all, the median of the last, the greatest."""
-    paths = [pathlib.Path(folder) / name for name in ("watch", "create")]
+    paths = [pathlib.Path(folder) / name for name in ("asked-watch", "asked-create")]
     paths[0].write_bytes(request("GET", f"{MAPS}?watch=true&resourceVersion=1"))
     paths[1].write_bytes(request("POST", MAPS, json.dumps({"metadata": {"name": "new-#######"}, **DATA})))
     words = [watch, str(server.port), str(watchers), str(events), *paths]

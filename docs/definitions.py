@@ -12,7 +12,6 @@ from pathlib import Path
 DOCS = Path(__file__).resolve().parent
 CRATES = DOCS.parent / "crates"
 SPECS = CRATES / "definitions/specs"
-LAWS = CRATES / "laws/src"
 
 # The crates of definitions beside the first, each with those of its files that say what is meant.
 BESIDE = {
@@ -20,8 +19,12 @@ BESIDE = {
     "chunked": ["Bodies"],
     "connections": ["Heads", "Checks", "Connections", "Replies"],
     "server_state": ["Snapshots", "Recorded", "Servers"],
-    "controllers": ["ReadFrames", "Reflectors", "WorkQueues", "Delays", "Expectations", "Informers", "Shifts", "OwedKeys"],
+    "controllers": ["ReadFrames", "Reflectors", "WorkQueues", "Delays", "Expectations", "Informers", "Shifts", "OwnerReferences", "OwedKeys", "Hands", "Commands"],
+    "plans": ["Pods", "PodClaims", "PodRanks", "NewPods", "ReplicaSets", "Standings", "Collections", "MetadataEdits", "Orders"],
 }
+
+# The crates of laws: a file of laws stands in src, with `_laws` at the end of its name.
+LAWS = ["laws", "informer_laws", "plan_laws"]
 
 HEAD = """# Definitions
 
@@ -36,7 +39,7 @@ Texts are lists of bytes, and numbers are natural, unless a definition says othe
 LAWS_HEAD = """# Laws
 
 What follows from the [definitions](DEFINITIONS.md), whatever code meets them. Each law is the contract of a public function in
-`crates/laws/src`, and proved. Single cases, computed, are in `crates/examples`. `docs/definitions.py` makes this page.
+the crates `laws`, `informer_laws` and `plan_laws`, and proved. Single cases, computed, are in `crates/examples`. `docs/definitions.py` makes this page.
 """
 
 
@@ -66,7 +69,7 @@ def modules_of(path):
 def used_words():
     """Returns the words that definitions and laws import of each module, by crate and module."""
     used = {}
-    paths = [path for crate in ["definitions", "laws", *BESIDE] for path in (CRATES / crate / "specs").rglob("*.antt")]
+    paths = [path for crate in ["definitions", *LAWS, *BESIDE] for path in (CRATES / crate / "specs").rglob("*.antt")]
     for path in paths:
         for crate, module, words in re.findall(r"^use Rattle\.(\w+)\.specs\.(?:\w+\.)?(\w+)\.\{(.*)\}$", text_of(path), re.M):
             used.setdefault((crate, module), set()).update(re.findall(r"[^\s,]+", words))
@@ -116,7 +119,7 @@ def pages():
         words += folder_rows(folder, used)
     for crate, modules in BESIDE.items():
         words += crate_rows(crate, modules, used)
-    for path in sorted(LAWS.glob("*_laws.rt")):
+    for path in sorted((path for crate in LAWS for path in (CRATES / crate / "src").glob("*_laws.rt")), key=lambda path: path.name):
         laws += law_rows(path)
     return {"DEFINITIONS.md": "\n".join(words) + "\n", "LAWS.md": "\n".join(laws) + "\n"}
 

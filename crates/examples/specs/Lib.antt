@@ -1,5 +1,6 @@
 pub mod WorkExamples
 pub mod CheckExamples
+pub mod CollectorExamples
 pub mod CollectionExamples
 pub mod CutExamples
 pub mod DeletionExamples
@@ -15,3 +16,4 @@ pub mod ShiftExamples
 pub mod VerbExamples
 pub mod WatchExamples
 pub mod WindowExamples
+pub mod ReplicaSetExamples

@@ -4,12 +4,14 @@
 
 pub mod check_examples;
 pub mod collection_examples;
+pub mod collector_examples;
 pub mod cut_examples;
 pub mod deletion_examples;
 pub mod look_examples;
 pub mod owed_examples;
 pub mod page_examples;
 pub mod reflector_examples;
+pub mod replica_set_examples;
 pub mod request_examples;
 pub mod selector_examples;
 pub mod server_examples;

@@ -1,3 +1,9 @@
+pub mod Bounds
 pub mod Copies
 pub mod InOrder
+pub mod LinkIndex
+pub mod LinkSets
+pub mod LinkWalks
+pub mod Namespaces
 pub mod SeenMaps
+pub mod Walks

@@ -1,5 +1,7 @@
 -- What an insertion, a removal and a look-up do, by the members that a map is seen as.
-use Rattle.std.proofs.Common.{◌≡◌, List, option_map, Ordering}
+use denote.Ref.{Bor}
+use Rattle.std.specs.Option.{option_copied}
+use Rattle.std.proofs.Common.{◌≡◌, List, Option, Some, None, option_map, Ordering, refl}
 use Rattle.std.specs.Map.{remove_entry, lookup}
 use Rattle.std.specs.BTreeMap.{insert_entry, is_at}
 use Rattle.serde_json.specs.Data.{Data}
@@ -27,3 +29,7 @@ seen-remove_entry es k = map-remove_entry_by key_of data_of (key_cmp k) (name_cm
 
 pub seen-lookup : (es : List (Key × SharedObject)) (k : Key) → option_map data_of (lookup (is_at (key_cmp k)) es) ≡ found (key_of k) (members_seen es)
 seen-lookup es k = option_map-lookup key_of data_of (key_cmp k) (name_cmp (key_of k)) (key_cmp-name_cmp k) es
+
+pub option_map-copied : (o : Option (Bor SharedObject)) → option_map (λ (x : Bor SharedObject). x.now.value) o ≡ option_map data_of (option_copied o)
+option_map-copied None = refl
+option_map-copied (Some x) = refl

@@ -1,13 +1,11 @@
 //! An indexed copy.
-use crate::applying::{copy_of, map_of, put_in, remove_in};
+use crate::objects::ObjectMap;
 use crate::shifts::{Shift, shifts_between, shifts_of};
 use keys::Key;
 use meta::Object;
-use owners::owned_by::is_owned_by;
+use reflector::Delta;
 use reflector::identities::revision_of;
-use reflector::{Delta, SharedObject};
 use std::alloc::{AllocError, Global};
-use std::collections::BTreeMap;
 use std::marker::Model;
 use turns::Entry;
 
@@ -15,7 +13,7 @@ use turns::Entry;
 /// It is seen as a snapshot.
 #[derive(Drop)]
 pub struct Indexed {
-    objects: BTreeMap<Key, SharedObject>,
+    objects: ObjectMap,
     revision: u64,
     alloc: Global,
 }
@@ -23,13 +21,12 @@ pub struct Indexed {
 impl Model for Indexed {
     ghost use Rattle.server_state.specs.Snapshots.{Snapshot};
     ghost use Rattle.server_state.specs.Codes.{coded_snapshot};
-    ghost use Rattle.indexer.specs.Seen.{members_seen};
 
     ghost Value = { Snapshot };
 
     ghost coded = { coded_snapshot };
 
-    ghost view = { λ i. record { members = members_seen i.objects.entries; revision = i.revision } };
+    ghost view = { λ i. record { members = i.objects; revision = i.revision } };
 }
 
 impl Indexed {
@@ -50,7 +47,7 @@ impl Indexed {
         ensures { result ≡ nothing }
     {
         Indexed {
-            objects: BTreeMap::new(alloc),
+            objects: ObjectMap::new(alloc),
             revision: 0,
             alloc,
         }
@@ -68,7 +65,7 @@ impl Indexed {
         ensures { IfOk result (λ i. i ≡ self.now) }
     {
         Ok(Indexed {
-            objects: copy_of(self.alloc, &self.objects)?,
+            objects: self.objects.try_copy()?,
             revision: self.revision,
             alloc: self.alloc,
         })
@@ -81,15 +78,15 @@ impl Indexed {
     {
         match delta {
             Delta::Replace(revision, objects) => {
-                self.objects = map_of(self.alloc, objects.as_slice())?;
+                self.objects = ObjectMap::of(self.alloc, objects.as_slice())?;
                 self.revision = *revision;
             }
             Delta::Put(object) => {
-                put_in(self.alloc, &mut self.objects, object)?;
+                self.objects.put(object)?;
                 self.revision = revision_of(object.object()).unwrap_or(self.revision);
             }
             Delta::Remove(revision, key) => {
-                remove_in(&mut self.objects, key);
+                self.objects.remove(key)?;
                 self.revision = *revision;
             }
             Delta::Mark(revision) => self.revision = *revision,
@@ -111,7 +108,7 @@ impl Indexed {
     {
         match delta {
             Delta::Replace(revision, listed) => {
-                let new = map_of(self.alloc, listed.as_slice())?;
+                let new = ObjectMap::of(self.alloc, listed.as_slice())?;
                 let shifts = shifts_between(alloc, &self.objects, &new)?;
                 self.objects = new;
                 self.revision = *revision;
@@ -144,51 +141,25 @@ impl Indexed {
     }
 
     /// Returns all objects with their keys, each key once, in the order of keys. The error is running out of memory.
-    #[tactic(auto, using(crate::proofs::InOrder::in_order_seen))]
     pub fn list(&self, alloc: Global) -> Result<Vec<Entry<'_>>, AllocError>
         ensures all { IfOk result (λ v. map entry_of v.items ≡ self.now.members) }
         ensures in_order { IsStrictlySortedBy key_cmp (keys_of self.now.members) }
     {
-        let mut found = Vec::with_capacity(alloc, self.objects.len())?;
-        for (key, object) in &self.objects {
-            found.push(Entry {
-                key,
-                object: object.object(),
-            })?;
-        }
-        Ok(found)
+        self.objects.list(alloc)
     }
 
     /// Returns the objects of a namespace with their keys, in the order of keys. The error is running out of memory.
     pub fn by_namespace(&self, alloc: Global, namespace: &str) -> Result<Vec<Entry<'_>>, AllocError>
         ensures { IfOk result (λ v. map entry_of v.items ≡ of_namespace namespace.now self.now.members) }
     {
-        let mut found = Vec::new(alloc);
-        for (key, object) in &self.objects {
-            if key.namespace.as_str() == namespace {
-                found.push(Entry {
-                    key,
-                    object: object.object(),
-                })?;
-            }
-        }
-        Ok(found)
+        self.objects.by_namespace(alloc, namespace)
     }
 
-    /// Returns the objects with an owner of this uid, with their keys, in the order of keys. The error is running out of
-    /// memory.
+    /// Returns the objects with an owner of this uid, with their keys, in the order of keys. It costs what it finds, and the way
+    /// to each. The error is running out of memory.
     pub fn by_owner(&self, alloc: Global, uid: &str) -> Result<Vec<Entry<'_>>, AllocError>
         ensures { IfOk result (λ v. map entry_of v.items ≡ of_owner uid.now self.now.members) }
     {
-        let mut found = Vec::new(alloc);
-        for (key, object) in &self.objects {
-            if is_owned_by(uid, object.object()) {
-                found.push(Entry {
-                    key,
-                    object: object.object(),
-                })?;
-            }
-        }
-        Ok(found)
+        self.objects.by_owner(alloc, uid)
     }
 }

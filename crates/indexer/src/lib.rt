@@ -2,8 +2,11 @@
 //! they are the server's.
 #![tactic(auto)]
 
-pub(crate) mod applying;
+pub(crate) mod finding;
 pub mod indexed;
+pub(crate) mod links;
+pub(crate) mod objects;
+pub(crate) mod putting;
 pub mod seen;
 pub mod shifts;
 

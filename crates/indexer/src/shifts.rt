@@ -5,16 +5,14 @@ ghost use Rattle.controllers.specs.Reflectors.{name_in};
 ghost use Rattle.keys.specs.Keys.{key_of};
 ghost use Rattle.controllers.specs.Shifts.{differ, shift_at, shifts_between, shift_to, removal, shifts_of};
 ghost use Rattle.reflector.specs.Deltas.{delta_of};
-ghost use Rattle.indexer.specs.Seen.{members_seen};
 ghost use Rattle.indexer.specs.Shifted.{shift_of};
 
-use crate::applying::{copy_of, lay_over, map_of};
+use crate::objects::ObjectMap;
 use keys::Key;
 use meta::Object;
 use reflector::identities::key_of;
 use reflector::{Delta, SharedObject};
 use std::alloc::{AllocError, Global};
-use std::collections::BTreeMap;
 
 /// A change of one object: what was under a key, and what is there now.
 #[derive(Drop)]
@@ -50,11 +48,8 @@ fn differ(
 }
 
 /// Returns a copy of what is under a key.
-fn find_in(
-    objects: &BTreeMap<Key, SharedObject>,
-    key: &Key,
-) -> Result<Option<SharedObject>, AllocError>
-    ensures { IfOk result (λ o. option_map (λ o. o.value) o ≡ found (key_of key.now) (members_seen objects.now.entries)) }
+fn find_in(objects: &ObjectMap, key: &Key) -> Result<Option<SharedObject>, AllocError>
+    ensures { IfOk result (λ o. option_map (λ o. o.value) o ≡ found (key_of key.now) objects.now) }
 {
     match objects.get(key) {
         Some(object) => Ok(Some(object.try_copy()?)),
@@ -63,13 +58,9 @@ fn find_in(
 }
 
 /// Returns what is under a key in two maps.
-fn shift_at(
-    old: &BTreeMap<Key, SharedObject>,
-    new: &BTreeMap<Key, SharedObject>,
-    key: &Key,
-) -> Result<Shift, AllocError>
+fn shift_at(old: &ObjectMap, new: &ObjectMap, key: &Key) -> Result<Shift, AllocError>
     ensures { IfOk result (λ s. shift_of s
-        ≡ shift_at (members_seen old.now.entries) (members_seen new.now.entries) (key_of key.now)) }
+        ≡ shift_at old.now new.now (key_of key.now)) }
 {
     Ok(Shift {
         key: key.try_copy()?,
@@ -81,14 +72,13 @@ fn shift_at(
 /// Returns a shift for each key under which the objects of two maps differ, in the order of keys.
 pub fn shifts_between(
     alloc: Global,
-    old: &BTreeMap<Key, SharedObject>,
-    new: &BTreeMap<Key, SharedObject>,
+    old: &ObjectMap,
+    new: &ObjectMap,
 ) -> Result<Vec<Shift>, AllocError>
     ensures { IfOk result (λ v. map shift_of v.items
-        ≡ shifts_between (members_seen old.now.entries) (members_seen new.now.entries)) }
+        ≡ shifts_between old.now new.now) }
 {
-    let mut both = copy_of(alloc, old)?;
-    lay_over(&mut both, new)?;
+    let both = old.with_later(new)?;
     let mut shifts = Vec::new(alloc);
     for (key, _) in &both {
         let shift = shift_at(old, new, key)?;
@@ -109,13 +99,9 @@ fn just(alloc: Global, shift: Shift) -> Result<Vec<Shift>, AllocError>
 }
 
 /// Returns what putting an object changes.
-fn put_shift(
-    alloc: Global,
-    objects: &BTreeMap<Key, SharedObject>,
-    object: &SharedObject,
-) -> Result<Shift, AllocError>
+fn put_shift(alloc: Global, objects: &ObjectMap, object: &SharedObject) -> Result<Shift, AllocError>
     ensures { IfOk result (λ s. shift_of s
-        ≡ shift_to (members_seen objects.now.entries) (name_in object.now) (Some object.now.value)) }
+        ≡ shift_to objects.now (name_in object.now) (Some object.now.value)) }
 {
     let key = key_of(alloc, object.object())?;
     let old = find_in(objects, &key)?;
@@ -127,13 +113,9 @@ fn put_shift(
 }
 
 /// Returns what removing the object under a key changes.
-fn removal(
-    alloc: Global,
-    objects: &BTreeMap<Key, SharedObject>,
-    key: &Key,
-) -> Result<Vec<Shift>, AllocError>
+fn removal(alloc: Global, objects: &ObjectMap, key: &Key) -> Result<Vec<Shift>, AllocError>
     ensures { IfOk result (λ v. map shift_of v.items
-        ≡ removal (key_of key.now) (found (key_of key.now) (members_seen objects.now.entries))) }
+        ≡ removal (key_of key.now) (found (key_of key.now) objects.now)) }
 {
     match find_in(objects, key)? {
         Some(old) => just(
@@ -151,14 +133,14 @@ fn removal(
 /// Returns what a delta changes of these objects. The error is running out of memory.
 pub fn shifts_of(
     alloc: Global,
-    objects: &BTreeMap<Key, SharedObject>,
+    objects: &ObjectMap,
     delta: &Delta,
 ) -> Result<Vec<Shift>, AllocError>
-    ensures { IfOk result (λ v. map shift_of v.items ≡ shifts_of (members_seen objects.now.entries) (delta_of delta.now)) }
+    ensures { IfOk result (λ v. map shift_of v.items ≡ shifts_of objects.now (delta_of delta.now)) }
 {
     match delta {
         Delta::Replace(_, listed) => {
-            let new = map_of(alloc, listed.as_slice())?;
+            let new = ObjectMap::of(alloc, listed.as_slice())?;
             shifts_between(alloc, objects, &new)
         }
         Delta::Put(object) => just(alloc, put_shift(alloc, objects, object)?),

@@ -1,27 +1,14 @@
 -- What answers connections may be sent to a thread.
-use denote.Struct.Field.{usize-field}
 use denote.Hole.{as_row}
-use denote.Param.Send.{IsSend, IsSync, sendable, view_send}
-use denote.Param.SendFields.{declared_sync, as_row_sync, declared_send, as_row_send}
+use denote.Param.Send.{IsSend, IsSync, sendable}
+use denote.Param.SendFields.{declared_send}
 use Rattle.std.proofs.Crossing as heap
-use Rattle.shared_desk.below.baton.proofs.batons.Baton.TheSendSync as baton_of
-use Rattle.shared_desk.below.baton.specs.contracts.batons.Baton as Baton
-use Rattle.shared_desk.specs.contracts.entries.Entry as Entry
-use Rattle.shared_desk.specs.contracts.store_law.StoreLaw as StoreLaw
-use Rattle.shared_desk.specs.contracts.store_law.StoreLawLawServer.TheImpl as laws
 use Rattle.shared_desk.specs.contracts.desks.Desk as Desk
 use Rattle.shared_desk.specs.contracts.askings.Anything as Anything
 use Rattle.shared_desk.specs.contracts.askings.AnythingAsking.TheImpl as asks
-use Rattle.desk.specs.contracts.servers.Server as Server
 use denote.RattleType.{RattleType}
 use denote.Ref.{NamedLft, ShrRef}
 use denote.Struct.Field as Field
-use Rattle.std.specs.contracts.option.Option as Option
-use Rattle.std.proofs.option.Option.TheSendSync as option
-use Rattle.shared_desk.below.atomic_table.proofs.shared.Seat.TheSendSync as pass_of
-use Rattle.shared_desk.below.atomic_table.specs.contracts.shared.Seat as Pass
-use Rattle.shared_desk.below.baton.specs.contracts.views.View as View
-use Rattle.shared_desk.below.crossbeam_queue.specs.contracts.array_queue.Doing as Doing
 use Rattle.shared_desk.specs.contracts.seats.Seat as Seat
 use Rattle.std.proofs.MapsCrossing as maps
 use Rattle.std.specs.contracts.alloc.Global as Global
@@ -38,27 +25,12 @@ use Rattle.routes.specs.contracts.table.Routes as Routes
 use Rattle.kcp.specs.contracts.handling.Ringer as Ringer
 use Rattle.kcp.specs.contracts.handling.Pause as Pause
 use Rattle.kcp.specs.contracts.handling.Connection as Connection
-use Rattle.desk.proofs.Sent.{server}
-
--- a desk may be lent to threads
-size : IsSync (as_row usize-field)
-size = search sendable
-
-pub desk : IsSync (Desk.the_row Anything.the_row asks.ghosts)
-desk =
-    let field = Baton.the_field Server.the_row (StoreLaw.the_row Anything.the_row) Entry.the_row (laws.ghosts Anything.the_row asks.ghosts laws.no_dict) in
-    declared_sync (Desk.the_type Anything.the_row asks.ghosts) (as_row_sync field (baton_of.the_field_sync Server.the_row (StoreLaw.the_row Anything.the_row) Entry.the_row (laws.ghosts Anything.the_row asks.ghosts laws.no_dict) server), (size, tt))
-
-taken : IsSend (Option.the_row Server.the_row)
-taken = search (option.the_send, server, sendable) depth 20
+use Rattle.shared_desk.proofs.Sent.{desk, pass_field}
 
 -- a seat, where its listener may be sent, and its runtime lent
 module _ (a : NamedLft) (L R : RattleType) (l : IsSend L) (r : IsSync R) where
   lent_desk : IsSend (as_row (Field.shr_ref_field a (Desk.the_row Anything.the_row asks.ghosts) tt))
   lent_desk = search (desk, sendable)
-
-  pass : IsSend (as_row (Pass.the_field (Option.the_row Server.the_row) (Doing.the_row Server.the_row (View.the_row Server.the_row Entry.the_row))))
-  pass = as_row_send (Pass.the_field (Option.the_row Server.the_row) (Doing.the_row Server.the_row (View.the_row Server.the_row Entry.the_row))) (pass_of.the_send (Option.the_row Server.the_row) (Doing.the_row Server.the_row (View.the_row Server.the_row Entry.the_row)) taken)
 
   lent_runtime : IsSend (as_row (Field.row_field (ShrRef a.mir a.lft R)))
   lent_runtime = search (r, sendable)
@@ -67,7 +39,7 @@ module _ (a : NamedLft) (L R : RattleType) (l : IsSend L) (r : IsSync R) where
   listener = search (l, sendable)
 
   pub seat : IsSend (Seat.the_row a Anything.the_row L R asks.ghosts)
-  seat = declared_send (Seat.the_type a Anything.the_row L R asks.ghosts) (lent_desk, (pass, (lent_runtime, (listener, tt))))
+  seat = declared_send (Seat.the_type a Anything.the_row L R asks.ghosts) (lent_desk, (pass_field, (lent_runtime, (listener, tt))))
 
 alloc : IsSend (as_row Global.the_field)
 alloc = search (heap.send, sendable)

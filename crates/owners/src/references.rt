@@ -46,7 +46,7 @@ pub fn key_named(
 }
 
 /// Returns the key of an owner in a namespace, if its kind is served.
-fn owner_key(
+pub fn owner_key(
     alloc: Global,
     namespace: &str,
     owner: &OwnerReference<'_>,

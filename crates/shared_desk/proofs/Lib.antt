@@ -4,4 +4,5 @@ pub mod Coming
 pub mod Compacted
 pub mod Stepping
 pub mod Seated
+pub mod Sent
 pub mod Wrote

@@ -9,5 +9,5 @@ use Rattle.indexer.proofs.shifts.shifts_between.Given as goal
 -- what was found and what is still to be found is all
 abbrev pub invariant-loop-key : goal.invariant-loop-key
 invariant-loop-key l =
-    map shift_of l.shifts.items ++ filter is_change (map (λ (e : Name × Data). shift_at (members_seen l.old.entries) (members_seen l.new.entries) e.0) (members_seen l.key-iterator))
-    ≡ filter is_change (map (λ (e : Name × Data). shift_at (members_seen l.old.entries) (members_seen l.new.entries) e.0) (members_seen l.initial.key-iterator))
+    map shift_of l.shifts.items ++ filter is_change (map (λ (e : Name × Data). shift_at l.old l.new e.0) (members_seen l.key-iterator))
+    ≡ filter is_change (map (λ (e : Name × Data). shift_at l.old l.new e.0) (members_seen l.initial.key-iterator))

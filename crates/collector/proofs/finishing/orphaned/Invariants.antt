@@ -1,0 +1,10 @@
+use Rattle.std.proofs.Common.{◌≡◌, ◌++◌, drop, map}
+use Rattle.turns.specs.Commands.{command_of}
+use Rattle.turns.specs.Entries.{entry_of}
+use Rattle.plans.specs.Collections.{orphaned}
+use Rattle.collector.proofs.finishing.orphaned.Given as goal
+
+-- the dependents that are updated and those that are left are all
+abbrev pub invariant-loop-dependent : goal.invariant-loop-dependent
+invariant-loop-dependent l =
+    map command_of l.commands.items ++ orphaned l.object.value (map entry_of (drop l.dependent-index l.dependents)) ≡ orphaned l.object.value (map entry_of l.dependents)

@@ -1,0 +1,7 @@
+use Rattle.std.proofs.Common.{refl}
+use Rattle.definitions.proofs.OnLiterals.{on_literals}
+use Rattle.examples.proofs.collector_examples.deletions_are_finished.Goals as goal
+
+pub returns : goal.returns
+unfolding on_literals
+returns c = record { orphans = refl; blocked = refl; others = refl; left = refl }

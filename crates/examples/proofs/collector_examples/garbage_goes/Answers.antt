@@ -1,0 +1,7 @@
+use Rattle.std.proofs.Common.{refl}
+use Rattle.definitions.proofs.OnLiterals.{on_literals}
+use Rattle.examples.proofs.collector_examples.garbage_goes.Goals as goal
+
+pub returns : goal.returns
+unfolding on_literals
+returns c = record { at_once = refl; by_policy = (refl, refl); dependents = refl; theirs = refl; chains = refl }

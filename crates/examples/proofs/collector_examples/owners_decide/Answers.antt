@@ -1,0 +1,7 @@
+use Rattle.std.proofs.Common.{refl}
+use Rattle.definitions.proofs.OnLiterals.{on_literals}
+use Rattle.examples.proofs.collector_examples.owners_decide.Goals as goal
+
+pub returns : goal.returns
+unfolding on_literals
+returns c = record { nothing = refl; live = refl; first = refl; others = refl; deleted = refl; namesakes = refl }

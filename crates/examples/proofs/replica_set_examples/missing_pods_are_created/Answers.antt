@@ -1,0 +1,7 @@
+use Rattle.std.proofs.Common.{refl}
+use Rattle.definitions.proofs.OnLiterals.{on_literals}
+use Rattle.examples.proofs.replica_set_examples.missing_pods_are_created.Goals as goal
+
+pub returns : goal.returns
+unfolding on_literals
+returns c = record { missing = refl; inactive = (refl, refl, refl); elsewhere = (refl, refl); others = (refl, refl) }

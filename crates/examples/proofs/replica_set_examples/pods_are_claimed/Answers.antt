@@ -1,0 +1,7 @@
+use Rattle.std.proofs.Common.{refl}
+use Rattle.definitions.proofs.OnLiterals.{on_literals}
+use Rattle.examples.proofs.replica_set_examples.pods_are_claimed.Goals as goal
+
+pub returns : goal.returns
+unfolding on_literals
+returns c = record { claimed = (refl, refl); references = (refl, refl); wait = (refl, refl, refl); asked = (refl, refl, refl, refl) }

@@ -1,0 +1,7 @@
+use Rattle.std.proofs.Common.{refl}
+use Rattle.definitions.proofs.OnLiterals.{on_literals}
+use Rattle.examples.proofs.replica_set_examples.ranks_go_in_order.Goals as goal
+
+pub returns : goal.returns
+unfolding on_literals
+returns c = record { nodes = (refl, refl); phases = refl; readiness = refl; costs = refl; cheap = refl }

@@ -1,0 +1,7 @@
+use Rattle.std.proofs.Common.{refl}
+use Rattle.definitions.proofs.OnLiterals.{on_literals}
+use Rattle.examples.proofs.replica_set_examples.statuses_are_told.Goals as goal
+
+pub returns : goal.returns
+unfolding on_literals
+returns c = record { told = refl; well = refl; gone = refl; expected = (refl, refl); being_deleted = (refl, refl, refl) }

@@ -1,0 +1,7 @@
+use Rattle.std.proofs.Common.{refl}
+use Rattle.definitions.proofs.OnLiterals.{on_literals}
+use Rattle.examples.proofs.replica_set_examples.surplus_pods_are_deleted.Goals as goal
+
+pub returns : goal.returns
+unfolding on_literals
+returns c = record { unplaced = refl; unready = refl; names = refl; all = refl }

@@ -1,0 +1,192 @@
+-- The links of the members, as one is put or removed.
+use Rattle.std.proofs.Common.{◌≡◌, ◌&&◌, ◌||◌, ℕ, List, [], ◌∷◌, Bool, true, false, not, cond, Option, Some, None, map, filter_map, option_map, is_eq, nat_cmp, Ordering, Less, Equal, Greater, refl, sym, ap, ◌∙◌, string_bytes}
+use Rattle.std.specs.List.{list_any, AllZip, cons_option}
+use Rattle.std.specs.Str.{bytes_eq}
+use Rattle.std.specs.Ordering.{ordering_then}
+use Rattle.std.specs.Cmp.Lexicographic.{slice_cmp}
+use Rattle.std.specs.BTreeMap.{is_at}
+use Rattle.std.specs.Map.{lookup}
+use Rattle.std.proofs.lemmas.Map.Text.{is_eq-slice_cmp}
+use Rattle.serde_json.specs.Data.{Data}
+use Rattle.definitions.specs.History.{Members, found}
+use Rattle.definitions.specs.Keys.{Key as Name, key_cmp as name_cmp, is_same_key}
+use Rattle.definitions.specs.Metadata.{Owner, owners}
+use Rattle.definitions.specs.SelectorValues.{passes}
+use Rattle.controllers.specs.OwnerReferences.{is_owned_by, is_text}
+use Rattle.controllers.proofs.WorkKeyOrder.{name_total, name_tells}
+use Rattle.keys.specs.Keys.{key_of}
+use Rattle.keys.specs.declared.key.Key.{Key}
+use Rattle.keys.proofs.KeyOrder.{key_cmp-name_cmp}
+use Rattle.reflector.specs.declared.shared_objects.SharedObject.{SharedObject}
+use Rattle.indexer.specs.Links.{link_of, link_to, links_at, link_cmp, has_link, IsCopy, IsIndexOf, HasLinks, AddsLinks, RemovesLinks}
+use Rattle.indexer.specs.Seen.{members_seen}
+use Rattle.indexer.specs.declared.links.Link.{Link}
+use Rattle.indexer.proofs.LinkSets.{pair_cmp, link_cmp-pair, is-Equal, is_eq-reverse, same, same_copy, same_sym}
+use Rattle.indexer.proofs.SeenMaps.{key_cmp, data_of, seen-lookup}
+
+-- ---- the links of one object
+
+abbrev has_pair : List (List ℕ × Name) → List ℕ × Name → Bool
+has_pair ps p = list_any (λ (r : List ℕ × Name). is_eq (pair_cmp p r)) ps
+
+seen-has : (ls : List Link) (q : Link) → has_link ls q ≡ has_pair (map link_of ls) (link_of q)
+seen-has [] q = refl
+seen-has (l ∷ ls) q = ap (λ o. is_eq o || has_link ls q) (link_cmp-pair q l) ∙ ap (λ b. is_eq (pair_cmp (link_of q) (link_of l)) || b) (seen-has ls q)
+
+neither : (s b : Bool) → false ≡ b → false ≡ (s && b)
+neither true b e = e
+neither false b e = refl
+
+just_one : (s b : Bool) → true ≡ b → s ≡ (s && b)
+just_one true b e = e
+just_one false b e = refl
+
+pub is_pair : (p r : List ℕ × Name) → is_eq (pair_cmp p r) ≡ (is_same_key p.1 r.1 && bytes_eq p.0 r.0)
+is_pair p r = by (slice_cmp nat_cmp p.0 r.0) (is_eq-slice_cmp p.0 r.0)
+  where
+    by : (o : Ordering) → is_eq o ≡ bytes_eq p.0 r.0 → is_eq (ordering_then o (name_cmp p.1 r.1)) ≡ (is_same_key p.1 r.1 && bytes_eq p.0 r.0)
+    by Less e = neither (is_same_key p.1 r.1) (bytes_eq p.0 r.0) e
+    by Equal e = just_one (is_same_key p.1 r.1) (bytes_eq p.0 r.0) e
+    by Greater e = neither (is_same_key p.1 r.1) (bytes_eq p.0 r.0) e
+
+shares : (s b r : Bool) → ((s && b) || (s && r)) ≡ (s && (b || r))
+shares true b r = refl
+shares false b r = refl
+
+one_more : (p : List ℕ × Name) (n : Name) (t : Option (List ℕ)) (ps : List (List ℕ × Name)) (r : Bool) → has_pair ps p ≡ (is_same_key p.1 n && r)
+    → has_pair (cons_option (option_map (λ (u : List ℕ). (u, n)) t) ps) p ≡ (is_same_key p.1 n && (is_text p.0 t || r))
+one_more p n None ps r e = e
+one_more p n (Some u) ps r e =
+    ap (λ b. b || has_pair ps p) (is_pair p (u, n)) ∙ ap (λ b. (is_same_key p.1 n && bytes_eq p.0 u) || b) e ∙ shares (is_same_key p.1 n) (bytes_eq p.0 u) r
+
+of_owners : (p : List ℕ × Name) (n : Name) (os : List Owner) → has_pair (filter_map (link_to n) os) p ≡ (is_same_key p.1 n && list_any (λ (o : Owner). is_text p.0 o.uid) os)
+of_owners p n [] = neither (is_same_key p.1 n) false refl
+of_owners p n (o ∷ os) = one_more p n o.uid (filter_map (link_to n) os) (list_any (λ (o : Owner). is_text p.0 o.uid) os) (of_owners p n os)
+
+of_object : (p : List ℕ × Name) (n : Name) (w : Option Data) → has_pair (links_at n w) p ≡ (is_same_key p.1 n && passes (is_owned_by p.0) w)
+of_object p n None = neither (is_same_key p.1 n) false refl
+of_object p n (Some d) = of_owners p n (owners d)
+
+-- the links of an object are under its key, and of its owners
+pub has-at : (ls : List Link) (n : Name) (w : Option Data) → map link_of ls ≡ links_at n w → (q : Link) → has_link ls q ≡ (is_same_key (key_of q.key) n && passes (is_owned_by (string_bytes q.uid)) w)
+has-at ls n w is q = seen-has ls q ∙ ap (λ ps. has_pair ps (link_of q)) is ∙ of_object (link_of q) n w
+
+-- ---- one object changes
+
+-- o is what was linked, f what was owned, w and b what is and was under the key, s whether it is that key
+put_at : (o f s w b : Bool) → o ≡ f → (s ≡ true → f ≡ b) → ((o || (s && w)) && not ((s && b) && not (s && w))) ≡ cond s w f
+put_at true true true w b e g = by w b (g refl)
+  where
+    by : (w b : Bool) → true ≡ b → (true && not (b && not w)) ≡ w
+    by true true e = refl
+    by false true e = refl
+    by w false e = cc
+put_at false false true w b e g = by w b (g refl)
+  where
+    by : (w b : Bool) → false ≡ b → (w && not (b && not w)) ≡ w
+    by true false e = refl
+    by false false e = refl
+    by w true e = cc
+put_at true true false w b e g = refl
+put_at false false false w b e g = refl
+put_at true false s w b e g = cc
+put_at false true s w b e g = cc
+
+-- a is what is linked after some of the links were added
+kept_at : (o a f s w b : Bool) → o ≡ f → (s ≡ true → f ≡ b) → (o ≡ true → a ≡ true) → ((s && w) ≡ false → a ≡ o) → (a && not ((s && w) && not (s && b))) ≡ f
+kept_at o a f false w b e g grown only = by a (only refl ∙ e)
+  where
+    by : (a : Bool) → a ≡ f → (a && true) ≡ f
+    by true e = e
+    by false e = e
+kept_at o a f true false b e g grown only = by a (only refl ∙ e)
+  where
+    by : (a : Bool) → a ≡ f → (a && true) ≡ f
+    by true e = e
+    by false e = e
+kept_at true a true true true b e g grown only = by a b (grown refl) (g refl)
+  where
+    by : (a b : Bool) → a ≡ true → true ≡ b → (a && not (true && not b)) ≡ true
+    by true true e h = refl
+    by true false e h = cc
+    by false b e h = cc
+kept_at false a false true true b e g grown only = by a b (g refl)
+  where
+    by : (a b : Bool) → false ≡ b → (a && not (true && not b)) ≡ false
+    by true false h = refl
+    by false false h = refl
+    by a true h = cc
+kept_at true a false s w b e g grown only = cc
+kept_at false a true s w b e g grown only = cc
+
+passes_cond : {A : Type 0} (test : A → Bool) (s : Bool) (w f : Option A) → cond s (passes test w) (passes test f) ≡ passes test (cond s w f)
+passes_cond test true w f = refl
+passes_cond test false w f = refl
+
+at_one : (k n : Name) (ms : Members) (u : List ℕ) → is_same_key k n ≡ true → passes (is_owned_by u) (found k ms) ≡ passes (is_owned_by u) (found n ms)
+at_one k n ms u is = ap (λ k. passes (is_owned_by u) (found k ms)) (name_tells k n (is-Equal (name_cmp k n) is))
+
+-- the links of an object are added and then those that it had removed: they are those of the members with it
+pub index_changes : (old added new more gone : List Link) (ms ns : Members) (n : Name) (w : Option Data) → IsIndexOf old ms → map link_of more ≡ links_at n w → map link_of gone ≡ links_at n (found n ms)
+    → HasLinks added old more → RemovesLinks new added gone more → ((q : Link) → found (key_of q.key) ns ≡ cond (is_same_key (key_of q.key) n) w (found (key_of q.key) ms)) → IsIndexOf new ns
+index_changes old added new more gone ms ns n w indexed mine had adds cuts put =
+    record {
+      exact = λ q.
+          let u = string_bytes q.uid in
+          let s = is_same_key (key_of q.key) n in
+          cuts.has q ∙ ap (λ b. b && not (has_link gone q && not (has_link more q))) (adds.has q)
+          ∙ ap (λ b. (has_link old q || b) && not (has_link gone q && not b)) (has-at more n w mine q)
+          ∙ ap (λ b. (has_link old q || (s && passes (is_owned_by u) w)) && not (b && not (s && passes (is_owned_by u) w))) (has-at gone n (found n ms) had q)
+          ∙ put_at (has_link old q) (passes (is_owned_by u) (found (key_of q.key) ms)) s (passes (is_owned_by u) w) (passes (is_owned_by u) (found n ms)) (indexed.exact q) (at_one (key_of q.key) n ms u)
+          ∙ passes_cond (is_owned_by u) s w (found (key_of q.key) ms)
+          ∙ ap (passes (is_owned_by u)) (sym (put q));
+    }
+
+-- some of the links of an object are added, and then removed but for those that were there: the members are as they were
+pub index_stays : (old added new more gone : List Link) (ms : Members) (n : Name) (w : Option Data) → IsIndexOf old ms → map link_of more ≡ links_at n w → map link_of gone ≡ links_at n (found n ms)
+    → AddsLinks added old more → RemovesLinks new added more gone → IsIndexOf new ms
+index_stays old added new more gone ms n w indexed mine had adds cuts =
+    record {
+      exact = λ q.
+          let u = string_bytes q.uid in
+          let s = is_same_key (key_of q.key) n in
+          cuts.has q ∙ ap (λ b. has_link added q && not (b && not (has_link gone q))) (has-at more n w mine q)
+          ∙ ap (λ b. has_link added q && not ((s && passes (is_owned_by u) w) && not b)) (has-at gone n (found n ms) had q)
+          ∙ kept_at (has_link old q) (has_link added q) (passes (is_owned_by u) (found (key_of q.key) ms)) s (passes (is_owned_by u) w) (passes (is_owned_by u) (found n ms)) (indexed.exact q) (at_one (key_of q.key) n ms u)
+          (adds.grown q) (λ none. adds.only q (has-at more n w mine q ∙ none));
+    }
+
+pub none_added : (ls : List Link) → HasLinks ls ls []
+none_added ls = record { has = λ q. by (has_link ls q) }
+  where
+    by : (b : Bool) → b ≡ (b || false)
+    by true = refl
+    by false = refl
+
+-- ---- what is found after a removal
+
+removed_at : (s t : Bool) (w : Option SharedObject) (f : Option Data) → s ≡ t → option_map data_of w ≡ f → option_map data_of (cond s None w) ≡ cond t None f
+removed_at true true w f e same = refl
+removed_at false false w f e same = same
+removed_at true false w f e same = cc
+removed_at false true w f e same = cc
+
+key_turned : (k q : Key) → is_eq (key_cmp k q) ≡ is_same_key (key_of q) (key_of k)
+key_turned k q = ap is_eq (key_cmp-name_cmp k q ∙ name_total.antisymm (key_of k) (key_of q)) ∙ is_eq-reverse (name_cmp (key_of q) (key_of k))
+
+pub found_removed : (es fs : List (Key × SharedObject)) (k : Key) → ((q : Key) → lookup (is_at (key_cmp q)) fs ≡ cond (is_at (key_cmp k) q) None (lookup (is_at (key_cmp q)) es))
+    → (q : Link) → found (key_of q.key) (members_seen fs) ≡ cond (is_same_key (key_of q.key) (key_of k)) None (found (key_of q.key) (members_seen es))
+found_removed es fs k cut q =
+    sym (seen-lookup fs q.key) ∙ ap (option_map data_of) (cut q.key)
+    ∙ removed_at (is_eq (key_cmp k q.key)) (is_same_key (key_of q.key) (key_of k)) (lookup (is_at (key_cmp q.key)) es) (found (key_of q.key) (members_seen es)) (key_turned k q.key) (seen-lookup es q.key)
+
+-- ---- copies
+
+copied_one : (l m q : Link) (b c : Bool) → IsCopy l m → b ≡ c → (is_eq (link_cmp q m) || b) ≡ (is_eq (link_cmp q l) || c)
+copied_one l m q b c is e = ap (λ s. s || b) (same_sym q m ∙ same_copy l m q is ∙ same_sym l q) ∙ ap (λ b. is_eq (link_cmp q l) || b) e
+
+pub has_copied : (ls ms : List Link) → AllZip IsCopy ls ms → (q : Link) → has_link ms q ≡ has_link ls q
+has_copied [] [] is q = refl
+has_copied [] (m ∷ ms) is q = absurd is
+has_copied (l ∷ ls) [] is q = absurd is
+has_copied (l ∷ ls) (m ∷ ms) is q = copied_one l m q (has_link ms q) (has_link ls q) is.0 (has_copied ls ms is.1 q)

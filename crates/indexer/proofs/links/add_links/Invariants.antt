@@ -1,0 +1,7 @@
+use Rattle.std.proofs.Common.{drop}
+use Rattle.indexer.proofs.LinkSets.{IsAdding}
+use Rattle.indexer.proofs.links.add_links.Given as goal
+
+-- with those still to be added, it is all
+abbrev pub invariant-loop-link : goal.invariant-loop-link
+invariant-loop-link l = IsAdding l.links.keys l.initial.links.keys (drop l.link-index l.more) l.more

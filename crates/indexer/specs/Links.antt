@@ -1,0 +1,66 @@
+-- Links: which objects name which owners.
+use Rattle.std.specs.Prelude.{◌≡◌, ◌&&◌, ◌||◌, ℕ, List, Bool, true, false, not, Option, option_map, filter_map, [], None, Some, string_bytes}
+use Rattle.std.specs.declared.cmp.Ordering.{Ordering}
+use Rattle.std.specs.List.{list_any}
+use Rattle.std.specs.BTreeMap.{is_at}
+use Rattle.serde_json.specs.Data.{Data}
+use Rattle.definitions.specs.declared.kinds.Kind.{Kind}
+use Rattle.definitions.specs.declared.kinds.Kind.TheVariants.{ConfigMap}
+use Rattle.definitions.specs.History.{Members, found}
+use Rattle.definitions.specs.Keys.{Key as Name}
+use Rattle.definitions.specs.Metadata.{Owner, owners}
+use Rattle.definitions.specs.SelectorValues.{passes}
+use Rattle.controllers.specs.OwnerReferences.{is_owned_by}
+use Rattle.keys.specs.Keys.{key_of}
+use Rattle.indexer.specs.declared.links.Link.{Link}
+use Rattle.indexer.specs.contracts.links.LinkOrd.TheImpl as link_ord
+
+-- a link, by the bytes of its uid and the name of its key
+abbrev pub link_of : Link → List ℕ × Name
+link_of l = (string_bytes l.uid, key_of l.key)
+
+-- the link by which the object under a key names an owner
+abbrev pub link_to : Name → Owner → Option (List ℕ × Name)
+link_to n o = option_map (λ u. (u, n)) o.uid
+
+-- the links of what is under a key
+abbrev pub links_at : Name → Option Data → List (List ℕ × Name)
+links_at n None = []
+links_at n (Some d) = filter_map (link_to n) (owners d)
+
+abbrev pub IsCopy : Link → Link → Type 0
+IsCopy l m = link_of m ≡ link_of l
+
+abbrev pub link_cmp : Link → Link → Ordering
+link_cmp = (link_ord.ghosts).cmp
+
+-- whether a link is among them
+abbrev pub has_link : List Link → Link → Bool
+has_link ls l = list_any (is_at (link_cmp l)) ls
+
+-- the links are those of the members: each is of an object that is there and names the owner, and each of these has its link
+pub record IsIndexOf (ls : List Link) (ms : Members) : Type 0 where
+  pub exact : (l : Link) → has_link ls l ≡ passes (is_owned_by (string_bytes l.uid)) (found (key_of l.key) ms)
+
+-- the old links and more, and no others
+pub record HasLinks (new old more : List Link) : Type 0 where
+  pub has : (l : Link) → has_link new l ≡ (has_link old l || has_link more l)
+
+-- the old links and some of more, and no others
+pub record AddsLinks (new old more : List Link) : Type 0 where
+  pub grown : (l : Link) → has_link old l ≡ true → has_link new l ≡ true
+  pub only : (l : Link) → has_link more l ≡ false → has_link new l ≡ has_link old l
+
+-- the old links, but for those that are gone and not spared
+pub record RemovesLinks (new old gone spared : List Link) : Type 0 where
+  pub has : (l : Link) → has_link new l ≡ (has_link old l && not (has_link gone l && not (has_link spared l)))
+
+-- ---- where they lie
+
+-- the first name of a kind in a namespace
+abbrev pub first_name : Kind → List ℕ → Name
+first_name k ns = record { kind = k; namespace = ns; name = [] }
+
+-- the first link to a uid; the next text in byte order is the text and a zero
+abbrev pub first_link : List ℕ → List ℕ × Name
+first_link u = (u, first_name ConfigMap [])

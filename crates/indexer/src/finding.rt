@@ -1,0 +1,113 @@
+//! Objects that are found by a namespace or by an owner.
+ghost use Rattle.std.specs.Prelude.{◌≡◌, ◌++◌, ◌∷◌, [], IfOk, OnOk, map, string_bytes};
+ghost use Rattle.keys.specs.Keys.{key_of};
+ghost use Rattle.controllers.specs.Informers.{of_namespace, of_owner};
+ghost use Rattle.turns.specs.Entries.{entry_of};
+ghost use Rattle.indexer.specs.Links.{link_of, first_name, first_link, IsIndexOf};
+ghost use Rattle.indexer.specs.Seen.{members_seen, of_kind};
+
+use crate::links::Link;
+use definitions::kinds::Kind;
+use keys::Key;
+use reflector::SharedObject;
+use std::alloc::{AllocError, Global};
+use std::collections::{BTreeMap, BTreeSet};
+use turns::Entry;
+
+/// Returns the first key of a kind in a namespace.
+fn first_key(alloc: Global, kind: Kind, namespace: String) -> Key
+    ensures { key_of result ≡ first_name kind (string_bytes namespace) }
+{
+    Key {
+        kind,
+        namespace,
+        name: String::new(alloc),
+    }
+}
+
+/// Returns the first link to a uid.
+fn first_link(alloc: Global, uid: String) -> Link
+    ensures { link_of result ≡ first_link (string_bytes uid) }
+{
+    Link {
+        uid,
+        key: first_key(alloc, Kind::ConfigMap, String::new(alloc)),
+    }
+}
+
+/// Returns the first text after a text in byte order.
+fn text_after(alloc: Global, text: &str) -> Result<String, AllocError>
+    ensures { IfOk result (λ t. string_bytes t ≡ text.now ++ 0 ∷ []) }
+{
+    let mut after = String::from_str(alloc, text)?;
+    after.push_str("\0")?;
+    Ok(after)
+}
+
+/// Returns the objects with an owner of this uid, with their keys, in the order of keys. The error is running out of memory.
+pub fn by_owner<'a>(
+    alloc: Global,
+    objects: &'a BTreeMap<Key, SharedObject>,
+    links: &'a BTreeSet<Link>,
+    uid: &str,
+) -> Result<Vec<Entry<'a>>, AllocError>
+    requires indexed { IsIndexOf links.now.keys (members_seen objects.now.entries) }
+    ensures { IfOk result (λ v. map entry_of v.items ≡ of_owner uid.entry.now (members_seen objects.entry.now.entries)) }
+{
+    let first = first_link(alloc, String::from_str(alloc, uid)?);
+    let past = first_link(alloc, text_after(alloc, uid)?);
+    let mut found = Vec::new(alloc);
+    if objects.len() == 0 {
+        return Ok(found);
+    }
+    for link in links.range(first..past) {
+        if let Some(object) = objects.get(&link.key) {
+            found.push(Entry {
+                key: &link.key,
+                object: object.object(),
+            })?;
+        }
+    }
+    Ok(found)
+}
+
+/// Adds the objects of a kind in a namespace, with their keys. The error is running out of memory, after which some may be there.
+fn add_of_kind<'a>(
+    alloc: Global,
+    found: &mut Vec<Entry<'a>>,
+    objects: &'a BTreeMap<Key, SharedObject>,
+    kind: Kind,
+    namespace: &str,
+) -> Result<(), AllocError>
+    ensures { OnOk result (map entry_of found.new.items
+        ≡ map entry_of found.old.items ++ of_kind kind namespace.entry.now (members_seen objects.entry.now.entries)) }
+{
+    let first = first_key(alloc, kind, String::from_str(alloc, namespace)?);
+    let past = first_key(alloc, kind, text_after(alloc, namespace)?);
+    for (key, object) in objects.range(first..past) {
+        found.push(Entry {
+            key,
+            object: object.object(),
+        })?;
+    }
+    Ok(())
+}
+
+/// Returns the objects of a namespace with their keys, in the order of keys. It costs what it finds, and the way to the first of
+/// each kind. The error is running out of memory.
+pub fn by_namespace<'a>(
+    alloc: Global,
+    objects: &'a BTreeMap<Key, SharedObject>,
+    namespace: &str,
+) -> Result<Vec<Entry<'a>>, AllocError>
+    ensures { IfOk result (λ v. map entry_of v.items ≡ of_namespace namespace.entry.now (members_seen objects.entry.now.entries)) }
+{
+    let mut found = Vec::new(alloc);
+    if objects.len() == 0 {
+        return Ok(found);
+    }
+    for kind in &Kind::ALL {
+        add_of_kind(alloc, &mut found, objects, *kind, namespace)?;
+    }
+    Ok(found)
+}

@@ -1,0 +1,146 @@
+//! Maps of objects, with an index by owner.
+use crate::finding;
+use crate::links::Link;
+use crate::putting::{copy_of, lay_over, put_under, remove_under};
+use keys::Key;
+use reflector::SharedObject;
+use reflector::identities::key_of;
+use std::alloc::{AllocError, Global};
+use std::collections::{BTreeMap, BTreeSet};
+use std::marker::Model;
+use turns::Entry;
+
+/// The objects that are there, in the order of their keys, with an index of those that name an owner. It is seen as members.
+#[derive(Drop)]
+pub struct ObjectMap {
+    objects: BTreeMap<Key, SharedObject>,
+    links: BTreeSet<Link>,
+    alloc: Global,
+}
+
+impl Model for ObjectMap {
+    ghost use Rattle.definitions.specs.History.{Members};
+    ghost use Rattle.server_state.specs.Codes.{coded_members};
+    ghost use Rattle.indexer.specs.Links.{IsIndexOf};
+    ghost use Rattle.indexer.specs.Seen.{members_seen};
+
+    ghost Value = { Members };
+
+    ghost coded = { coded_members };
+
+    ghost view = { λ m. members_seen m.objects.entries };
+
+    ghost invariant = { λ m. IsIndexOf m.links.keys (members_seen m.objects.entries) };
+}
+
+impl ObjectMap {
+    ghost use Rattle.std.specs.Prelude.{◌≡◌, [], IfOk, OnOk, OnErr, None, map, option_map};
+    ghost use Rattle.std.specs.List.Sorted.{IsStrictlySortedBy};
+    ghost use Rattle.std.specs.Map.{keys_of};
+    ghost use Rattle.definitions.specs.Keys.{key_cmp};
+    ghost use Rattle.controllers.specs.Informers.{of_namespace, of_owner};
+    ghost use Rattle.controllers.specs.Shifts.{overlaid};
+    ghost use Rattle.indexer.specs.Seen.{members_seen};
+    ghost use Rattle.turns.specs.Entries.{entry_of};
+    ghost use Rattle.keys.specs.Keys.{key_of};
+    ghost use Rattle.definitions.specs.History.{found, put_or_remove};
+    ghost use Rattle.controllers.specs.Reflectors.{put_in, put_all};
+
+    /// Returns a map without objects.
+    pub fn new(alloc: Global) -> ObjectMap
+        ensures { result ≡ [] }
+    {
+        ObjectMap {
+            objects: BTreeMap::new(alloc),
+            links: BTreeSet::new(alloc),
+            alloc,
+        }
+    }
+
+    /// Returns the map of these objects. The error is running out of memory.
+    pub fn of(alloc: Global, objects: &[SharedObject]) -> Result<ObjectMap, AllocError>
+        ensures { IfOk result (λ m. m ≡ put_all [] objects.now) }
+    {
+        let mut made = ObjectMap::new(alloc);
+        for object in objects {
+            made.put(object)?;
+        }
+        Ok(made)
+    }
+
+    /// Returns a copy, which shares the objects. The error is running out of memory.
+    pub fn try_copy(&self) -> Result<ObjectMap, AllocError>
+        ensures { IfOk result (λ m. m ≡ self.now) }
+    {
+        Ok(ObjectMap {
+            objects: copy_of(self.alloc, &self.objects)?,
+            links: self.links.clone()?,
+            alloc: self.alloc,
+        })
+    }
+
+    /// Puts an object under its key. It costs the way to the key and to each owner that the object names or named. The error is
+    /// running out of memory, and changes nothing.
+    pub fn put(&mut self, object: &SharedObject) -> Result<(), AllocError>
+        ensures ok { OnOk result (self.new ≡ put_in self.old object.now) }
+        ensures err { OnErr result (self.new ≡ self.old) }
+    {
+        let key = key_of(self.alloc, object.object())?;
+        put_under(self.alloc, &mut self.objects, &mut self.links, key, object)
+    }
+
+    /// Removes the object under a key, if there is one. The error is running out of memory, and changes nothing.
+    pub fn remove(&mut self, key: &Key) -> Result<(), AllocError>
+        ensures ok { OnOk result (self.new ≡ put_or_remove self.old (key_of key.now) None) }
+        ensures err { OnErr result (self.new ≡ self.old) }
+    {
+        remove_under(self.alloc, &mut self.objects, &mut self.links, key)
+    }
+
+    /// Returns the object under a key. It takes no memory.
+    pub fn get(&self, key: &Key) -> Option<&SharedObject>
+        ensures { option_map (λ o. o.now.value) result ≡ found (key_of key.now) self.now }
+    {
+        self.objects.get(key)
+    }
+
+    /// Returns all objects with their keys, in the order of keys. The error is running out of memory.
+    #[tactic(auto, using(crate::proofs::InOrder::in_order_seen))]
+    pub fn list(&self, alloc: Global) -> Result<Vec<Entry<'_>>, AllocError>
+        ensures all { IfOk result (λ v. map entry_of v.items ≡ self.now) }
+        ensures in_order { IsStrictlySortedBy key_cmp (keys_of self.now) }
+    {
+        let mut found = Vec::with_capacity(alloc, self.objects.len())?;
+        for (key, object) in &self.objects {
+            found.push(Entry {
+                key,
+                object: object.object(),
+            })?;
+        }
+        Ok(found)
+    }
+
+    /// Returns the objects of a namespace with their keys, in the order of keys. The error is running out of memory.
+    pub fn by_namespace(&self, alloc: Global, namespace: &str) -> Result<Vec<Entry<'_>>, AllocError>
+        ensures { IfOk result (λ v. map entry_of v.items ≡ of_namespace namespace.now self.now) }
+    {
+        finding::by_namespace(alloc, &self.objects, namespace)
+    }
+
+    /// Returns the objects with an owner of this uid, with their keys, in the order of keys. It costs what it finds, and the way
+    /// to each. The error is running out of memory.
+    pub fn by_owner(&self, alloc: Global, uid: &str) -> Result<Vec<Entry<'_>>, AllocError>
+        ensures { IfOk result (λ v. map entry_of v.items ≡ of_owner uid.now self.now) }
+    {
+        finding::by_owner(alloc, &self.objects, &self.links, uid)
+    }
+
+    /// Returns the objects of both maps, the later ones in the place of the earlier. The error is running out of memory.
+    pub fn with_later(&self, later: &ObjectMap) -> Result<BTreeMap<Key, SharedObject>, AllocError>
+        ensures { IfOk result (λ m. members_seen m.entries ≡ overlaid self.now later.now) }
+    {
+        let mut both = copy_of(self.alloc, &self.objects)?;
+        lay_over(&mut both, &later.objects)?;
+        Ok(both)
+    }
+}

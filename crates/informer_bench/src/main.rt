@@ -1,0 +1,62 @@
+//! Measures an indexed copy of Pods: `informer_bench WHAT TIMES` takes in 10,000 Pods of 100 ReplicaSets, and then does WHAT so
+//! many times: `put` applies a delta that puts a Pod, `copy` copies the copy, `owner` looks up the Pods of a ReplicaSet,
+//! `owed` asks which keys a change of a Pod owes, and `publish` publishes a delta.
+#![tactic(auto)]
+
+mod pods;
+mod rounds;
+
+use std::process::ExitCode;
+use std::{env, io};
+
+/// What is measured.
+#[derive(Clone, Copy)]
+pub enum What {
+    Put,
+    Copy,
+    Owner,
+    Owed,
+    Publish,
+}
+
+/// Returns what a word asks for.
+fn named(word: &str) -> Option<What> {
+    match word {
+        "put" => Some(What::Put),
+        "copy" => Some(What::Copy),
+        "owner" => Some(What::Owner),
+        "owed" => Some(What::Owed),
+        "publish" => Some(What::Publish),
+        _ => None,
+    }
+}
+
+/// Returns what the arguments ask for, and how many times.
+fn asked(rt: &HostRuntime) -> io::Result<Option<(What, u32)>> {
+    let mut words = env::args(rt)?;
+    let _program = words.next();
+    let (Some(what), Some(times), None) = (words.next(), words.next(), words.next()) else {
+        return Ok(None);
+    };
+    let (Some(what), Ok(times)) = (named(what.as_str()), times.as_str().parse::<u32>()) else {
+        return Ok(None);
+    };
+    Ok(Some((what, times)))
+}
+
+fn main(rt: HostRuntime) -> io::Result<ExitCode> {
+    let Some((what, times)) = asked(&rt)? else {
+        eprintln!(rt; "informer_bench: bad arguments")?;
+        return Ok(ExitCode::from(2));
+    };
+    match rounds::run(rt.alloc(), what, times) {
+        Ok(count) => {
+            println!(rt; "{count}")?;
+            Ok(ExitCode::SUCCESS)
+        }
+        Err(_) => {
+            eprintln!(rt; "informer_bench: no memory")?;
+            Ok(ExitCode::from(1))
+        }
+    }
+}

@@ -1,0 +1,2 @@
+pub mod OwedLaws
+pub mod PublishLaws

@@ -1,0 +1,47 @@
+-- Laws of what a change owes.
+use Rattle.std.specs.Prelude.{◌≡◌, ◌⊎◌, ℕ, List, true, false, Some, option_and_then}
+use Rattle.std.specs.List.{Contains, list_any}
+use Rattle.std.specs.Ordering.{is_eq}
+use Rattle.serde_json.specs.Data.{Data}
+use Rattle.definitions.specs.declared.kinds.Kind.TheVariants.{Pod, ReplicaSet}
+use Rattle.definitions.specs.History.{Members}
+use Rattle.definitions.specs.Keys.{Key}
+use Rattle.definitions.specs.Metadata.{uid}
+use Rattle.controllers.specs.declared.controller.Controller.{Controller}
+use Rattle.controllers.specs.declared.controller.Controller.TheVariants as controller
+use Rattle.controllers.specs.Informers.{Looks, of_namespace, of_owner}
+use Rattle.controllers.specs.OwedKeys.{Change, keys_of, selects, is_going, latest}
+use Rattle.controllers.specs.OwnerReferences.{has_controller, namespace_of, controller_keys, owner_keys}
+use Rattle.controllers.specs.WorkQueues.{work_key_cmp}
+
+-- a change owes that a controller looks at a key
+abbrev pub Owes : Change → Looks → Controller → Key → Type 0
+Owes c l w k = list_any (λ q. is_eq (work_key_cmp (record { controller = w; key = k }) q)) (keys_of c l) ≡ true
+
+-- the object as it was before the change, or as it is
+abbrev pub IsOf : Change → Data → Type 0
+IsOf c d = (c.old ≡ Some d) ⊎ (c.new ≡ Some d)
+
+-- a ReplicaSet of the namespace of a Pod without a controller, whose selector matches it, is looked at
+abbrev pub SelectingSetsAreOwed : Type 0
+SelectingSetsAreOwed =
+    (c : Change) (l : Looks) (d : Data) (m : Key × Data) → c.kind ≡ Pod → c.new ≡ Some d → has_controller d ≡ false → Contains (of_namespace (namespace_of d) l.replica_sets) m → selects d m ≡ true
+    → Owes c l controller.ReplicaSet m.0
+
+-- the ReplicaSets that control a Pod, or did before the change, are looked at
+abbrev pub ControllersAreOwed : Type 0
+ControllersAreOwed = (c : Change) (l : Looks) (d : Data) (k : Key) → c.kind ≡ Pod → IsOf c d → Contains (controller_keys ReplicaSet d) k → Owes c l controller.ReplicaSet k
+
+-- the owners of an object, or those before the change, are looked at
+abbrev pub OwnersAreOwed : Type 0
+OwnersAreOwed = (c : Change) (l : Looks) (d : Data) (k : Key) → IsOf c d → Contains (owner_keys d) k → Owes c l controller.Collector k
+
+-- one of the maps that are looked at
+abbrev pub IsLookedAt : Looks → Members → Type 0
+IsLookedAt l ms = (ms ≡ l.config_maps) ⊎ ((ms ≡ l.pods) ⊎ ((ms ≡ l.replica_sets) ⊎ (ms ≡ l.deployments)))
+
+-- what has an owner that is gone or is being deleted is looked at
+abbrev pub DependentsAreOwed : Type 0
+DependentsAreOwed =
+    (c : Change) (l : Looks) (ms : Members) (u : List ℕ) (m : Key × Data) → is_going c.new ≡ true → option_and_then uid (latest c) ≡ Some u → IsLookedAt l ms → Contains (of_owner u ms) m
+    → Owes c l controller.Collector m.0

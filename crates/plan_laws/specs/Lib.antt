@@ -1,0 +1,2 @@
+pub mod CollectorLaws
+pub mod ReplicaSetLaws

@@ -1,0 +1,9 @@
+pub mod Standings
+pub mod MetadataEdits
+pub mod Collections
+pub mod Pods
+pub mod PodClaims
+pub mod Orders
+pub mod PodRanks
+pub mod NewPods
+pub mod ReplicaSets

@@ -1,0 +1,106 @@
+-- The ReplicaSet controller's plan: what it commands for one set, of what a worker has read in its turn (Kubernetes, ReplicaSet).
+use Rattle.std.specs.Prelude.{ℕ, ◌&&◌, List, [], ◌∷◌, ◌++◌, map, length, replicate, filter, Bool, not, codes, Option, Some, None, unwrap_or, ℤ, pos, negsuc, if◌then◌else◌}
+use Rattle.std.specs.List.{list_any}
+use Rattle.serde_json.specs.Data.{Data, Members as Fields, object, put}
+use Rattle.serde_json.specs.Find.{get}
+use Rattle.definitions.specs.declared.kinds.Kind.TheVariants.{Pod}
+use Rattle.definitions.specs.Checks.{in_spec, whole_of}
+use Rattle.definitions.specs.Defaults.{whole}
+use Rattle.definitions.specs.History.{Members, found}
+use Rattle.definitions.specs.Keys.{Key}
+use Rattle.definitions.specs.Metadata.{is_being_deleted, uid}
+use Rattle.definitions.specs.Replacements.{generation, says_the_same}
+use Rattle.definitions.specs.Values.{inner_of, members_of}
+use Rattle.controllers.specs.Commands.{Command, create, update_status, delete}
+use Rattle.controllers.specs.Hands.{Hand, live, unread}
+use Rattle.controllers.specs.Informers.{of_namespace}
+use Rattle.plans.specs.NewPods.{new_pod}
+use Rattle.plans.specs.PodClaims.{claims, own_pods, is_adoptable, may_adopt}
+use Rattle.plans.specs.PodRanks.{missing, victims}
+use Rattle.plans.specs.Pods.{is_ready}
+
+-- ---- what is looked at
+
+-- the set of the turn
+abbrev pub set_looked_at : Hand → Option Data
+set_looked_at h = found h.key h.looks.replica_sets
+
+-- the pods of its namespace
+abbrev pub pods_looked_at : Hand → Members
+pods_looked_at h = of_namespace h.key.namespace h.looks.pods
+
+-- ---- what is to be read live
+
+abbrev pub has_adoptable : Data → Members → Bool
+has_adoptable set pods = list_any (λ (p : Key × Data). is_adoptable set p.1) pods
+
+abbrev pub asks_of : Hand → Option Data → List Key
+asks_of h None = []
+asks_of h (Some set) = if has_adoptable set (pods_looked_at h) then h.key ∷ [] else []
+
+-- before it adopts a pod, the set itself is read live, once
+abbrev pub asks : Hand → List Key
+asks h = unread h.reads (asks_of h (set_looked_at h))
+
+-- ---- pods created and deleted
+
+abbrev pub not_below_0 : ℤ → ℕ
+not_below_0 (pos n) = n
+not_below_0 (negsuc n) = 0
+
+abbrev pub replicas : Data → ℕ
+replicas set = not_below_0 (unwrap_or (whole_of (in_spec (codes "replicas") set)) (pos 0))
+
+-- a pod is deleted by its uid, so that no other of its name is
+abbrev pub delete_pod : Key × Data → Command
+delete_pod p = delete p.0 (uid p.1) None None
+
+-- the pods that are missing are created, and those that are too many deleted
+abbrev pub scale : Key → Data → Members → List Command
+scale k set pods =
+    replicate (missing (replicas set) pods) (create Pod k.namespace (new_pod k set)) ++ map delete_pod (victims (replicas set) pods)
+
+-- once all that was expected has been seen, and unless the set is being deleted
+abbrev pub scale_if : Bool → Key → Data → Members → List Command
+scale_if is_satisfied k set pods = if is_satisfied && not (is_being_deleted set) then scale k set pods else []
+
+-- ---- the status (Kubernetes API reference, ReplicaSetStatus)
+
+abbrev pub ready_pods : Members → Members
+ready_pods pods = filter (λ p. is_ready p.1) pods
+
+abbrev pub status : Data → Fields
+status set = inner_of (get (codes "status") set)
+
+-- so many pods, so many of them ready and available, by the spec of this generation; other members stay
+abbrev pub with_counts : ℕ → ℕ → ℕ → Fields → Fields
+with_counts n ready generation ms =
+    put (codes "replicas") (whole n)
+    (put (codes "readyReplicas") (whole ready) (put (codes "availableReplicas") (whole ready) (put (codes "observedGeneration") (whole generation) ms)))
+
+abbrev pub new_status : Data → Members → Fields
+new_status set pods = with_counts (length pods) (length (ready_pods pods)) (generation set) (status set)
+
+abbrev pub with_status : Fields → Data → Data
+with_status ms d = object (put (codes "status") (object ms) (members_of d))
+
+-- the status is updated where it changes, at the version that was looked at, as the set names it
+abbrev pub report : Key → Data → Members → List Command
+report k set pods =
+    if says_the_same (object (status set)) (object (new_status set pods)) then []
+    else update_status k (with_status (new_status set pods) set) ∷ []
+
+-- ---- the plan
+
+-- pods are released and adopted, then created or deleted, and the status is updated
+abbrev pub plan_with : Bool → Key → Data → Bool → Members → List Command
+plan_with is_satisfied k set may pods =
+    claims k set may pods ++ (scale_if is_satisfied k set (own_pods set may pods) ++ report k set (own_pods set may pods))
+
+-- where the set is not there, nothing is done
+abbrev pub plan_of : Hand → Option Data → List Command
+plan_of h None = []
+plan_of h (Some set) = plan_with h.is_satisfied h.key set (may_adopt set (live h.reads h.key)) (pods_looked_at h)
+
+abbrev pub plan : Hand → List Command
+plan h = plan_of h (set_looked_at h)

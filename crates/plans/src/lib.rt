@@ -1,0 +1,6 @@
+//! What controllers plan, as mathematics: what they read live, and what they command of what a worker has read in its turn.
+#![tactic(auto)]
+
+pub mod standing;
+
+pub use standing::Standing;

@@ -1,0 +1,8 @@
+use Rattle.std.proofs.Common.{◌≡◌, map, drop}
+use Rattle.plans.specs.ReplicaSets.{has_adoptable}
+use Rattle.turns.specs.Entries.{entry_of}
+use Rattle.replicaset.proofs.asking.has_adoptable.Given as goal
+
+abbrev pub invariant-loop-pod : goal.invariant-loop-pod
+invariant-loop-pod l =
+    has_adoptable l.set.value (map entry_of (drop l.pod-index l.pods)) ≡ has_adoptable l.set.value (map entry_of l.pods)

@@ -1,0 +1,11 @@
+use Rattle.std.proofs.Common.{◌≡◌, ◌++◌, map, drop}
+use Rattle.keys.specs.Keys.{key_of}
+use Rattle.plans.specs.PodClaims.{claims}
+use Rattle.turns.specs.Commands.{command_of}
+use Rattle.turns.specs.Entries.{entry_of}
+use Rattle.replicaset.proofs.claiming.add_claims.Given as goal
+
+abbrev pub invariant-loop-pod : goal.invariant-loop-pod
+invariant-loop-pod l =
+    map command_of l.commands.items ++ claims (key_of l.key) l.set.value l.may (map entry_of (drop l.pod-index l.pods))
+    ≡ map command_of l.fn.commands.items ++ claims (key_of l.key) l.set.value l.may (map entry_of l.pods)

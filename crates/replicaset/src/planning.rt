@@ -1,0 +1,85 @@
+//! The plan of a ReplicaSet.
+ghost use Rattle.std.specs.Prelude.{◌≡◌, ◌++◌, IfOk, OnOk, map};
+ghost use Rattle.keys.specs.Keys.{key_of};
+ghost use Rattle.plans.specs.PodClaims.{claims, own_pods};
+ghost use Rattle.plans.specs.ReplicaSets.{plan, plan_of, plan_with, report, scale_if};
+ghost use Rattle.replicaset.specs.Lent.{data_of};
+ghost use Rattle.turns.specs.Commands.{command_of, commands_of};
+ghost use Rattle.turns.specs.Entries.{entry_of};
+ghost use Rattle.turns.specs.Hands.{hand_of};
+
+use crate::claiming::add_claims;
+use crate::claims::{may_adopt, selector_of};
+use crate::looked_at::{pods_looked_at, set_looked_at};
+use crate::own_pods::own_pods;
+use crate::reports::add_report;
+use crate::scaling::add_scale;
+use keys::Key;
+use meta::Object;
+use std::alloc::{AllocError, Global};
+use turns::hands::live;
+use turns::{Command, Entry, Hand, Plan, Seen};
+
+/// Adds the commands that create pods or delete them, where all that was expected has been seen and the set is not being
+/// deleted. The error is running out of memory.
+fn add_scale_if(
+    alloc: Global,
+    is_satisfied: bool,
+    key: &Key,
+    set: &Object,
+    pods: &[Entry<'_>],
+    commands: &mut Vec<Command>,
+) -> Result<(), AllocError>
+    ensures { OnOk result (map command_of commands.new.items
+        ≡ map command_of commands.old.items ++ scale_if is_satisfied (key_of key.now) set.now.value (map entry_of pods.now)) }
+{
+    if is_satisfied && !set.is_being_deleted() {
+        add_scale(alloc, key, set, pods, commands)
+    } else {
+        Ok(())
+    }
+}
+
+/// Returns the commands for a set, of these pods of its namespace. The error is running out of memory.
+fn commands_with(
+    alloc: Global,
+    is_satisfied: bool,
+    key: &Key,
+    set: &Object,
+    may: bool,
+    pods: &[Entry<'_>],
+) -> Result<Vec<Command>, AllocError>
+    ensures { IfOk result (λ v. map command_of v.items
+        ≡ plan_with is_satisfied (key_of key.now) set.now.value may (map entry_of pods.now)) }
+{
+    let selector = selector_of(alloc, set)?;
+    let own = own_pods(alloc, set, &selector, may, pods)?;
+    let mut commands = Vec::new(alloc);
+    add_claims(alloc, key, set, &selector, may, pods, &mut commands)?;
+    add_scale_if(alloc, is_satisfied, key, set, own.as_slice(), &mut commands)?;
+    add_report(alloc, key, set, own.as_slice(), &mut commands)?;
+    Ok(commands)
+}
+
+/// Returns the commands for the turn's ReplicaSet: pods are released and adopted, then created or deleted, and its status is
+/// updated. Where it is not there, there is none. The error is running out of memory.
+pub fn plan<S: Seen>(alloc: Global, hand: &Hand<S>) -> Result<Plan, AllocError>
+    ensures { IfOk result (λ p. commands_of p ≡ plan (hand_of S.snapshot hand.now)) }
+{
+    let Some(set) = set_looked_at(hand) else {
+        return Ok(Plan {
+            commands: Vec::new(alloc),
+        });
+    };
+    let pods = pods_looked_at(alloc, hand)?;
+    let may = may_adopt(set, live(hand.reads.as_slice(), &hand.key));
+    let commands = commands_with(
+        alloc,
+        hand.is_satisfied,
+        &hand.key,
+        set,
+        may,
+        pods.as_slice(),
+    )?;
+    Ok(Plan { commands })
+}

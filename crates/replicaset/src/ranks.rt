@@ -1,0 +1,81 @@
+//! The ranks of a ReplicaSet's pods: which are deleted first.
+ghost use Rattle.std.specs.Prelude.{◌≡◌, OnOk, map};
+ghost use Rattle.std.specs.Ordering.{on};
+ghost use Rattle.plans.specs.Orders.{in_order};
+ghost use Rattle.plans.specs.PodRanks.{phase_rank, rank_beside, rank_cmp};
+ghost use Rattle.plans.specs.Pods.{phase};
+ghost use Rattle.replicaset.specs.Ranks.{phase_of, rank_of, ranked_of};
+ghost use Rattle.turns.specs.Entries.{entry_of};
+
+use crate::costs::deletion_cost;
+use crate::pods::{creation, is_ready, node, phase};
+use keys::Key;
+use meta::Object;
+use std::alloc::AllocError;
+use std::cmp::Reverse;
+use turns::Entry;
+
+/// A pod's phase, as far as ranks go by it.
+#[derive(Clone, Copy, PartialEq, Eq, PartialOrd, Ord)]
+pub(crate) enum Phase {
+    /// Pending, or any other than the two below.
+    Pending,
+    Unknown,
+    Running,
+}
+
+/// How soon a pod is deleted: those of the lowest rank go first.
+#[derive(Clone, Copy, PartialEq, Eq, PartialOrd, Ord)]
+pub(crate) struct Rank<'a> {
+    pub is_placed: bool,
+    pub phase: Phase,
+    pub is_ready: bool,
+    pub cost: i32,
+    pub on_node: Reverse<usize>,
+    pub creation: Reverse<&'a str>,
+    pub key: &'a Key,
+}
+
+/// A pod with its rank.
+#[derive(Clone, Copy)]
+pub(crate) struct Ranked<'a> {
+    pub rank: Rank<'a>,
+    pub pod: Entry<'a>,
+}
+
+/// Returns the pod's phase, as far as ranks go by it.
+fn phase_rank(pod: &Object) -> Phase
+    ensures { phase_of result ≡ phase_rank (phase pod.now.value) }
+{
+    let phase = phase(pod);
+    if phase == "Running" {
+        Phase::Running
+    } else if phase == "Unknown" {
+        Phase::Unknown
+    } else {
+        Phase::Pending
+    }
+}
+
+/// Returns the rank of a pod with so many of the pods on its node. It takes no memory.
+pub(crate) fn rank_beside<'a>(pod: &Entry<'a>, on_node: usize) -> Rank<'a>
+    ensures { rank_of result ≡ rank_beside on_node (entry_of pod.now) }
+{
+    Rank {
+        is_placed: !node(pod.object).is_empty(),
+        phase: phase_rank(pod.object),
+        is_ready: is_ready(pod.object),
+        cost: deletion_cost(pod.object),
+        on_node: Reverse(on_node),
+        creation: Reverse(creation(pod.object)),
+        key: pod.key,
+    }
+}
+
+/// Puts pods in the order of their ranks. The error is running out of memory.
+pub(crate) fn sort(pods: &mut Vec<Ranked<'_>>) -> Result<(), AllocError>
+    ensures { OnOk result (map ranked_of pods.new.items
+        ≡ in_order (on (λ r. r.0) rank_cmp) (map ranked_of pods.old.items)) }
+{
+    pods.sort_by_key(|pod| pod.rank)
+}
