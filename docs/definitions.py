@@ -20,7 +20,8 @@ BESIDE = {
     "connections": ["Heads", "Checks", "Connections", "Replies"],
     "server_state": ["Snapshots", "Recorded", "Servers"],
     "controllers": ["ReadFrames", "Reflectors", "WorkQueues", "Delays", "Expectations", "Informers", "Shifts", "OwnerReferences", "OwedKeys", "Hands", "Commands"],
-    "plans": ["Pods", "PodClaims", "PodRanks", "NewPods", "ReplicaSets", "Standings", "Collections", "MetadataEdits", "Orders"],
+    "plans": ["Pods", "PodClaims", "PodRanks", "NewPods", "ReplicaSets", "Rollouts", "Templates", "Revisions", "Deployments", "Standings", "Collections", "MetadataEdits",
+              "Counts", "Statuses", "Orders"],
 }
 
 # The crates of laws: a file of laws stands in src, with `_laws` at the end of its name.

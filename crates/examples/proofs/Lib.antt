@@ -1,2 +1,3 @@
 pub mod WorkWorked
 pub mod LongLines
+pub mod DeploymentsWorked

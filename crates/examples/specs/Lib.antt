@@ -17,3 +17,5 @@ pub mod VerbExamples
 pub mod WatchExamples
 pub mod WindowExamples
 pub mod ReplicaSetExamples
+pub mod DeploymentExamples
+pub mod RolloutExamples

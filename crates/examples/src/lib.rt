@@ -7,6 +7,7 @@ pub mod collection_examples;
 pub mod collector_examples;
 pub mod cut_examples;
 pub mod deletion_examples;
+pub mod deployment_examples;
 pub mod look_examples;
 pub mod owed_examples;
 pub mod page_examples;

@@ -2,7 +2,10 @@ pub mod Finished
 pub mod Garbage
 pub mod KeptOwners
 pub mod LikeOwners
+pub mod RolloutNumbers
+pub mod AskedNumbers
 pub mod Spared
 pub mod Permuted
 pub mod Counted
 pub mod PlanLaws
+pub mod DeploymentPlans

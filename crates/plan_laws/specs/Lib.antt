@@ -1,2 +1,3 @@
 pub mod CollectorLaws
+pub mod DeploymentLaws
 pub mod ReplicaSetLaws

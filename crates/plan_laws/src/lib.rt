@@ -2,4 +2,5 @@
 #![tactic(auto)]
 
 pub mod collector_laws;
+pub mod deployment_laws;
 pub mod replica_set_laws;

@@ -6,4 +6,10 @@ pub mod PodClaims
 pub mod Orders
 pub mod PodRanks
 pub mod NewPods
+pub mod Counts
+pub mod Statuses
 pub mod ReplicaSets
+pub mod Rollouts
+pub mod Templates
+pub mod Revisions
+pub mod Deployments

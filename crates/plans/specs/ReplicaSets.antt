@@ -1,23 +1,22 @@
 -- The ReplicaSet controller's plan: what it commands for one set, of what a worker has read in its turn (Kubernetes, ReplicaSet).
-use Rattle.std.specs.Prelude.{ℕ, ◌&&◌, List, [], ◌∷◌, ◌++◌, map, length, replicate, filter, Bool, not, codes, Option, Some, None, unwrap_or, ℤ, pos, negsuc, if◌then◌else◌}
+use Rattle.std.specs.Prelude.{ℕ, ◌&&◌, List, [], ◌∷◌, ◌++◌, map, length, replicate, filter, Bool, not, codes, Option, Some, None, if◌then◌else◌}
 use Rattle.std.specs.List.{list_any}
-use Rattle.serde_json.specs.Data.{Data, Members as Fields, object, put}
-use Rattle.serde_json.specs.Find.{get}
+use Rattle.serde_json.specs.Data.{Data, Members as Fields, put}
 use Rattle.definitions.specs.declared.kinds.Kind.TheVariants.{Pod}
-use Rattle.definitions.specs.Checks.{in_spec, whole_of}
 use Rattle.definitions.specs.Defaults.{whole}
 use Rattle.definitions.specs.History.{Members, found}
 use Rattle.definitions.specs.Keys.{Key}
 use Rattle.definitions.specs.Metadata.{is_being_deleted, uid}
-use Rattle.definitions.specs.Replacements.{generation, says_the_same}
-use Rattle.definitions.specs.Values.{inner_of, members_of}
-use Rattle.controllers.specs.Commands.{Command, create, update_status, delete}
+use Rattle.definitions.specs.Replacements.{generation}
+use Rattle.controllers.specs.Commands.{Command, create, delete}
 use Rattle.controllers.specs.Hands.{Hand, live, unread}
 use Rattle.controllers.specs.Informers.{of_namespace}
+pub use Rattle.plans.specs.Counts.{replicas}
 use Rattle.plans.specs.NewPods.{new_pod}
 use Rattle.plans.specs.PodClaims.{claims, own_pods, is_adoptable, may_adopt}
 use Rattle.plans.specs.PodRanks.{missing, victims}
 use Rattle.plans.specs.Pods.{is_ready}
+pub use Rattle.plans.specs.Statuses.{status, with_status, report_status}
 
 -- ---- what is looked at
 
@@ -44,13 +43,6 @@ asks h = unread h.reads (asks_of h (set_looked_at h))
 
 -- ---- pods created and deleted
 
-abbrev pub not_below_0 : ℤ → ℕ
-not_below_0 (pos n) = n
-not_below_0 (negsuc n) = 0
-
-abbrev pub replicas : Data → ℕ
-replicas set = not_below_0 (unwrap_or (whole_of (in_spec (codes "replicas") set)) (pos 0))
-
 -- a pod is deleted by its uid, so that no other of its name is
 abbrev pub delete_pod : Key × Data → Command
 delete_pod p = delete p.0 (uid p.1) None None
@@ -69,9 +61,6 @@ scale_if is_satisfied k set pods = if is_satisfied && not (is_being_deleted set)
 abbrev pub ready_pods : Members → Members
 ready_pods pods = filter (λ p. is_ready p.1) pods
 
-abbrev pub status : Data → Fields
-status set = inner_of (get (codes "status") set)
-
 -- so many pods, so many of them ready and available, by the spec of this generation; other members stay
 abbrev pub with_counts : ℕ → ℕ → ℕ → Fields → Fields
 with_counts n ready generation ms =
@@ -81,14 +70,8 @@ with_counts n ready generation ms =
 abbrev pub new_status : Data → Members → Fields
 new_status set pods = with_counts (length pods) (length (ready_pods pods)) (generation set) (status set)
 
-abbrev pub with_status : Fields → Data → Data
-with_status ms d = object (put (codes "status") (object ms) (members_of d))
-
--- the status is updated where it changes, at the version that was looked at, as the set names it
 abbrev pub report : Key → Data → Members → List Command
-report k set pods =
-    if says_the_same (object (status set)) (object (new_status set pods)) then []
-    else update_status k (with_status (new_status set pods) set) ∷ []
+report k set pods = report_status k set (new_status set pods)
 
 -- ---- the plan
 

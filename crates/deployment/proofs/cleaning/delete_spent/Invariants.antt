@@ -1,0 +1,13 @@
+use Rattle.std.proofs.Common.{◌≡◌, ◌++◌, map, drop}
+use Rattle.std.specs.Prelude.{filter}
+use Rattle.serde_json.specs.Data.{Data}
+use Rattle.definitions.specs.Keys.{Key}
+use Rattle.plans.specs.Deployments.{delete_set, is_spent}
+use Rattle.turns.specs.Commands.{command_of}
+use Rattle.turns.specs.Entries.{entry_of}
+use Rattle.deployment.proofs.cleaning.delete_spent.Given as goal
+
+abbrev pub invariant-loop-set : goal.invariant-loop-set
+invariant-loop-set l =
+    map command_of l.commands.items ++ map delete_set (filter (λ (s : Key × Data). is_spent s.1) (map entry_of (drop l.set-index l.sets)))
+    ≡ map delete_set (filter (λ (s : Key × Data). is_spent s.1) (map entry_of l.sets))

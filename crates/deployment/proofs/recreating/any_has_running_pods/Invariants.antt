@@ -1,0 +1,10 @@
+use Rattle.std.proofs.Common.{◌≡◌, map, drop}
+use Rattle.std.specs.List.{list_any}
+use Rattle.plans.specs.Deployments.{has_running_pods}
+use Rattle.turns.specs.Entries.{entry_of}
+use Rattle.turns.specs.Hands.{members_of}
+use Rattle.deployment.proofs.recreating.any_has_running_pods.Given as goal
+
+abbrev pub invariant-loop-set : goal.invariant-loop-set
+invariant-loop-set g l =
+    list_any (has_running_pods l.namespace (members_of g.S.Seen.snapshot l.look)) (map entry_of (drop l.set-index l.sets)) ≡ list_any (has_running_pods l.namespace (members_of g.S.Seen.snapshot l.look)) (map entry_of l.sets)

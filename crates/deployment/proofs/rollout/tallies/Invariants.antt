@@ -1,0 +1,7 @@
+use Rattle.std.proofs.Common.{◌≡◌, ◌++◌, map, drop}
+use Rattle.plans.specs.Deployments.{tally}
+use Rattle.turns.specs.Entries.{entry_of}
+use Rattle.deployment.proofs.rollout.tallies.Given as goal
+
+abbrev pub invariant-loop-set : goal.invariant-loop-set
+invariant-loop-set l = l.tallies.items ++ map tally (map entry_of (drop l.set-index l.sets)) ≡ map tally (map entry_of l.sets)

@@ -1,0 +1,3 @@
+pub mod Lent
+pub mod Sets
+pub mod Steps

@@ -1,0 +1,24 @@
+//! The Deployment controller: what it commands for one Deployment, of what a worker has looked at in its turn.
+#![tactic(auto)]
+
+pub(crate) mod ages;
+pub(crate) mod amounts;
+pub(crate) mod cleaning;
+pub(crate) mod counts;
+pub(crate) mod edits;
+pub(crate) mod hashes;
+pub(crate) mod making;
+pub(crate) mod managed;
+pub(crate) mod objects;
+pub(crate) mod pace;
+pub mod planning;
+pub(crate) mod recreating;
+pub(crate) mod revisions;
+pub(crate) mod rolling;
+pub(crate) mod rollout;
+pub(crate) mod rollouts;
+pub(crate) mod scaling;
+pub(crate) mod statuses;
+pub(crate) mod templates;
+
+pub use planning::{asks, plan};

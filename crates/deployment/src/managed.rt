@@ -1,0 +1,97 @@
+//! The objects of which an object is the controller.
+ghost use Rattle.std.specs.Prelude.{◌≡◌, ◌&&◌, IfOk, filter, map};
+ghost use Rattle.std.specs.List.{list_any};
+ghost use Rattle.std.specs.Str.{bytes_eq};
+ghost use Rattle.serde_json.specs.View.{items_view};
+ghost use Rattle.definitions.specs.Metadata.{Owner, owners_in};
+ghost use Rattle.controllers.specs.OwnerReferences.{is_controlled_by, is_text};
+ghost use Rattle.plans.specs.Deployments.{managed, sets_of};
+ghost use Rattle.keys.specs.Keys.{key_of};
+ghost use Rattle.turns.specs.Entries.{entry_of};
+ghost use Rattle.turns.specs.Hands.{members_of};
+
+use crate::ages::sort_by_age;
+use keys::Key;
+use meta::Object;
+use meta::owners::owner;
+use owners::owned_by::is_text;
+use serde_json::Value;
+use std::alloc::{AllocError, Global};
+use turns::{Entry, Seen};
+
+/// Returns whether one of the references is to an object of this uid as the controller.
+fn any_controls_with(uid: &str, references: &[Value]) -> bool
+    ensures { result ≡ list_any (λ (o : Owner). o.is_controller && is_text uid.now o.uid) (owners_in (items_view references.now)) }
+{
+    for reference in references {
+        let owner = owner(reference);
+        if owner.is_controller && is_text(uid, owner.uid) {
+            return true;
+        }
+    }
+    false
+}
+
+/// Returns whether the object of this uid is the controller of an object.
+fn is_controlled_by(uid: &str, object: &Object) -> bool
+    ensures { result ≡ is_controlled_by uid.now object.now.value }
+{
+    match object.metadata_member("ownerReferences") {
+        Some(Value::Array(references)) => any_controls_with(uid, references.as_slice()),
+        _ => false,
+    }
+}
+
+/// Returns those of the objects that are of a namespace, and of which the object of this uid is the controller.
+fn controlled<'a>(
+    alloc: Global,
+    namespace: &str,
+    uid: &str,
+    objects: &[Entry<'a>],
+) -> Result<Vec<Entry<'a>>, AllocError>
+    ensures { IfOk result (λ v. map entry_of v.items
+        ≡ filter (λ m. bytes_eq m.0.namespace namespace.now && is_controlled_by uid.now m.1) (map entry_of objects.now)) }
+{
+    let mut found = Vec::new(alloc);
+    for object in objects {
+        if object.key.namespace.as_str() == namespace && is_controlled_by(uid, object.object) {
+            found.push(*object)?;
+        }
+    }
+    Ok(found)
+}
+
+/// Returns the objects of a namespace of which an object is the controller. The error is running out of memory.
+#[tactic(auto, using(crate::proofs::Found::managed_here, crate::proofs::Found::nothing_managed))]
+pub(crate) fn managed<'a, S: Seen>(
+    alloc: Global,
+    look: &'a Option<S>,
+    namespace: &str,
+    owner: &Object,
+) -> Result<Vec<Entry<'a>>, AllocError>
+    ensures { IfOk result (λ v. map entry_of v.items ≡ managed namespace.now owner.now.value (members_of S.snapshot look.now)) }
+{
+    let Some(uid) = owner.uid() else {
+        return Ok(Vec::new(alloc));
+    };
+    let Some(look) = look else {
+        return Ok(Vec::new(alloc));
+    };
+    let owned = look.by_owner(alloc, uid)?;
+    controlled(alloc, namespace, uid, owned.as_slice())
+}
+
+/// Returns the sets of a Deployment, by age. The error is running out of memory.
+pub(crate) fn sets_of<'a, S: Seen>(
+    alloc: Global,
+    look: &'a Option<S>,
+    key: &Key,
+    deployment: &Object,
+) -> Result<Vec<Entry<'a>>, AllocError>
+    ensures { IfOk result (λ v. map entry_of v.items
+        ≡ sets_of (key_of key.now) deployment.now.value (members_of S.snapshot look.now)) }
+{
+    let mut sets = managed(alloc, look, key.namespace.as_str(), deployment)?;
+    sort_by_age(&mut sets)?;
+    Ok(sets)
+}

@@ -1,0 +1,43 @@
+//! How far a rolling update goes.
+ghost use Rattle.std.specs.Prelude.{◌≡◌};
+ghost use Rattle.definitions.specs.declared.amounts.Amount.TheVariants.{Pods, Percent};
+ghost use Rattle.plans.specs.Counts.{not_below_0};
+ghost use Rattle.plans.specs.Rollouts.{at_least_one, pace, rounded_down, rounded_up};
+
+use crate::counts::not_below_0;
+use definitions::amounts::Amount;
+use plans::Pace;
+
+/// Returns so many of the replicas, where a part of a pod counts as a pod.
+fn rounded_up(amount: Amount, replicas: u64) -> u128
+    ensures { result ≡ rounded_up amount replicas }
+{
+    match amount {
+        Amount::Pods(number) => not_below_0(number) as u128,
+        Amount::Percent(percent) => (percent as u128 * replicas as u128 + 99) / 100,
+    }
+}
+
+/// Returns so many of the replicas, where a part of a pod does not count.
+fn rounded_down(amount: Amount, replicas: u64) -> u128
+    ensures { result ≡ rounded_down amount replicas }
+{
+    match amount {
+        Amount::Pods(number) => not_below_0(number) as u128,
+        Amount::Percent(percent) => percent as u128 * replicas as u128 / 100,
+    }
+}
+
+/// Returns the pace of a rolling update of so many replicas.
+pub(crate) fn pace(replicas: u64, surge: Amount, unavailable: Amount) -> Pace
+    ensures { result ≡ pace replicas surge unavailable }
+{
+    let above = rounded_up(surge, replicas);
+    let below = rounded_down(unavailable, replicas);
+    let below = if above == 0 && below == 0 { 1 } else { below };
+    Pace {
+        wanted: replicas,
+        surge: above,
+        unavailable: below.min(replicas as u128) as u64,
+    }
+}

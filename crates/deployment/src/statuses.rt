@@ -1,0 +1,157 @@
+//! The status of a Deployment.
+ghost use Rattle.std.specs.Prelude.{◌≡◌, ◌++◌, ◌∷◌, [], ◌≤◌, IfOk, OnOk, map};
+ghost use Rattle.serde_json.specs.Data.{object, put};
+ghost use Rattle.definitions.specs.Replacements.{says_the_same};
+ghost use Rattle.definitions.specs.Values.{members_of};
+ghost use Rattle.controllers.specs.Commands.{update_status};
+ghost use Rattle.keys.specs.Keys.{key_of};
+ghost use Rattle.plans.specs.Deployments.{asked_by, counted, report, sets, sum_of, summary, updated_pods, with_summary};
+ghost use Rattle.plans.specs.Statuses.{report_status, status, with_status};
+ghost use Rattle.deployment.specs.Sets.{rollout_seen};
+ghost use Rattle.turns.specs.Commands.{command_of};
+ghost use Rattle.turns.specs.Entries.{entry_of};
+
+use crate::counts::count_in_status;
+use crate::objects::inner;
+use crate::rollout::{Rollout, all_sets, tallies};
+use crate::rollouts::total_asked;
+use json_values::values::whole_number;
+use keys::Key;
+use meta::Object;
+use plans::Summary;
+use std::alloc::{AllocError, Global};
+use turns::{Command, Entry};
+
+/// Returns a copy of an object's status. The error is running out of memory.
+pub(crate) fn status(alloc: Global, holder: &Object) -> Result<Object, AllocError>
+    ensures { IfOk result (λ o. o.value ≡ object (status holder.now.value)) }
+{
+    inner(alloc, holder.kind(), holder.member("status"))
+}
+
+/// Returns the sum of a count of the status of sets.
+fn sum_of(name: &str, sets: &[Entry<'_>]) -> u128
+    ensures sum { result ≡ sum_of name.now (map entry_of sets.now) }
+    ensures small { result ≤ 340282366920938463426481119284349108225 }
+{
+    let mut sum: u128 = 0;
+    for set in sets {
+        sum += count_in_status(set.object, name) as u128;
+    }
+    sum
+}
+
+/// Returns how many pods the new set has.
+fn updated_pods(rollout: &Rollout<'_>) -> u64
+    ensures { result ≡ updated_pods (rollout_seen rollout.now).new }
+{
+    match &rollout.new {
+        Some(new) => count_in_status(new.object, "replicas"),
+        None => 0,
+    }
+}
+
+/// Returns how many pods sets are to have. The error is running out of memory.
+fn asked_by(alloc: Global, sets: &[Entry<'_>]) -> Result<u128, AllocError>
+    ensures { IfOk result (λ n. n ≡ asked_by (map entry_of sets.now)) }
+{
+    let tallies = tallies(alloc, sets)?;
+    Ok(total_asked(tallies.as_slice()))
+}
+
+/// Returns what the status of a Deployment is to say, of all its sets, and of how many pods they are to have.
+fn summary_of(rollout: &Rollout<'_>, all: &[Entry<'_>], asked: u128) -> Summary
+    requires all { map entry_of all.now ≡ sets (rollout_seen rollout.now) }
+    requires asked { asked ≡ asked_by (map entry_of all.now) }
+    ensures { result ≡ summary (rollout_seen rollout.now) }
+{
+    let available = sum_of("availableReplicas", all);
+    Summary {
+        replicas: sum_of("replicas", all),
+        ready: sum_of("readyReplicas", all),
+        available,
+        updated: updated_pods(rollout),
+        unavailable: asked.saturating_sub(available),
+        generation: rollout.deployment.generation(),
+    }
+}
+
+/// Returns what the status of a Deployment is to say. The error is running out of memory.
+pub(crate) fn summary(alloc: Global, rollout: &Rollout<'_>) -> Result<Summary, AllocError>
+    ensures { IfOk result (λ c. c ≡ summary (rollout_seen rollout.now)) }
+{
+    let sets = all_sets(alloc, rollout)?;
+    let asked = asked_by(alloc, sets.as_slice())?;
+    Ok(summary_of(rollout, sets.as_slice(), asked))
+}
+
+/// Returns the object with a count at a member.
+fn with_count(alloc: Global, earlier: Object, name: &str, count: u128) -> Result<Object, AllocError>
+    ensures { IfOk result (λ o. o.value ≡ object (put name.now (counted count) (members_of earlier.value))) }
+{
+    let count = count.min(u64::MAX as u128) as u64;
+    earlier.set_member(alloc, name, whole_number(alloc, count)?)
+}
+
+/// Returns a status with these counts. The error is running out of memory.
+fn with_summary(alloc: Global, status: Object, counts: Summary) -> Result<Object, AllocError>
+    ensures { IfOk result (λ o. o.value ≡ object (with_summary counts (members_of status.value))) }
+{
+    let status = with_count(
+        alloc,
+        status,
+        "observedGeneration",
+        counts.generation as u128,
+    )?;
+    let status = with_count(alloc, status, "unavailableReplicas", counts.unavailable)?;
+    let status = with_count(alloc, status, "updatedReplicas", counts.updated as u128)?;
+    let status = with_count(alloc, status, "availableReplicas", counts.available)?;
+    let status = with_count(alloc, status, "readyReplicas", counts.ready)?;
+    with_count(alloc, status, "replicas", counts.replicas)
+}
+
+/// Returns whether two objects say the same.
+fn says_the_same(alloc: Global, one: &Object, other: &Object) -> Result<bool, AllocError>
+    ensures { IfOk result (λ b. b ≡ says_the_same one.now.value other.now.value) }
+{
+    let one = one.text(alloc)?;
+    let other = other.text(alloc)?;
+    Ok(one.as_str() == other.as_str())
+}
+
+/// Adds the command that updates an object's status, at the version that was looked at. The error is running out of memory.
+pub(crate) fn add_update(
+    alloc: Global,
+    key: &Key,
+    object: &Object,
+    status: Object,
+    commands: &mut Vec<Command>,
+) -> Result<(), AllocError>
+    ensures { OnOk result (map command_of commands.new.items ≡ map command_of commands.old.items
+        ++ update_status (key_of key.now) (with_status (members_of status.value) object.now.value) ∷ []) }
+{
+    let copy = object.try_copy()?;
+    let object = copy.set_member(alloc, "status", status.into_value())?;
+    let key = key.try_copy()?;
+    commands.push(Command::UpdateStatus { key, object })?;
+    Ok(())
+}
+
+/// Adds the command that updates the status of a Deployment, where it changes. The error is running out of memory.
+pub(crate) fn add_report(
+    alloc: Global,
+    rollout: &Rollout<'_>,
+    counts: Summary,
+    commands: &mut Vec<Command>,
+) -> Result<(), AllocError>
+    requires { counts ≡ summary (rollout_seen rollout.now) }
+    ensures { OnOk result (map command_of commands.new.items
+        ≡ map command_of commands.old.items ++ report (rollout_seen rollout.now)) }
+{
+    let now = status(alloc, rollout.deployment)?;
+    let new = with_summary(alloc, status(alloc, rollout.deployment)?, counts)?;
+    if says_the_same(alloc, &now, &new)? {
+        return Ok(());
+    }
+    add_update(alloc, rollout.key, rollout.deployment, new, commands)
+}

@@ -1,0 +1,7 @@
+use Rattle.std.proofs.Common.{refl}
+use Rattle.examples.proofs.DeploymentsWorked.{on_literals}
+use Rattle.examples.proofs.deployment_examples.pods_are_replaced.Goals as goal
+
+pub returns : goal.returns
+unfolding on_literals
+returns c = record { made = refl; shrink = refl; grow = refl; replaced = refl; broken = refl }

@@ -1,0 +1,7 @@
+use Rattle.std.proofs.Common.{refl}
+use Rattle.examples.proofs.DeploymentsWorked.{on_literals}
+use Rattle.examples.proofs.deployment_examples.rolling_updates_are_bounded.Goals as goal
+
+pub returns : goal.returns
+unfolding on_literals
+returns c = record { paces = (refl, refl, refl, refl, refl); ten = (refl, refl, refl, refl, refl, refl, refl, refl); bounded = (refl, refl, refl, refl) }

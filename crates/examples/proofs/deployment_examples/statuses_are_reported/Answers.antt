@@ -1,0 +1,7 @@
+use Rattle.std.proofs.Common.{refl}
+use Rattle.examples.proofs.DeploymentsWorked.{on_literals}
+use Rattle.examples.proofs.deployment_examples.statuses_are_reported.Goals as goal
+
+pub returns : goal.returns
+unfolding on_literals
+returns c = record { paused = refl; deleted = refl; apart = refl }

@@ -1,0 +1,11 @@
+//! Tests of the plans of the collector and of ReplicaSets, of indexed copies.
+#![tactic(auto)]
+
+#[cfg(test)]
+mod collector_tests;
+#[cfg(test)]
+mod looks;
+#[cfg(test)]
+mod replica_set_tests;
+#[cfg(test)]
+mod written;
