@@ -18,14 +18,17 @@ BESIDE = {
     "line_protocol": ["Lines"],
     "chunked": ["Bodies"],
     "connections": ["Heads", "Checks", "Connections", "Replies"],
+    "exchanges": ["Requests", "Answers"],
     "server_state": ["Snapshots", "Recorded", "Servers"],
     "controllers": ["ReadFrames", "Reflectors", "WorkQueues", "Delays", "Expectations", "Informers", "Shifts", "OwnerReferences", "OwedKeys", "Hands", "Commands"],
-    "plans": ["Pods", "PodClaims", "PodRanks", "NewPods", "ReplicaSets", "Rollouts", "Templates", "Revisions", "Deployments", "Standings", "Collections", "MetadataEdits",
+    "control": ["Boards"],
+    "simulation": ["Followers", "Moves", "Clusters", "OutcomeTexts", "StepLines"],
+    "plans": ["Pods", "PodClaims", "PodRanks", "NewPods", "ReplicaSets", "Rollouts", "Templates", "Revisions", "Deployments", "Standings", "GarbageCollection", "MetadataEdits",
               "Counts", "Statuses", "Orders"],
 }
 
 # The crates of laws: a file of laws stands in src, with `_laws` at the end of its name.
-LAWS = ["laws", "informer_laws", "plan_laws"]
+LAWS = ["laws", "informer_laws", "plan_laws", "simulation_laws", "exchanges"]
 
 HEAD = """# Definitions
 
@@ -40,7 +43,7 @@ Texts are lists of bytes, and numbers are natural, unless a definition says othe
 LAWS_HEAD = """# Laws
 
 What follows from the [definitions](DEFINITIONS.md), whatever code meets them. Each law is the contract of a public function in
-the crates `laws`, `informer_laws` and `plan_laws`, and proved. Single cases, computed, are in `crates/examples`. `docs/definitions.py` makes this page.
+the crates `laws`, `informer_laws`, `plan_laws`, `simulation_laws` and `exchanges`, and proved. Single cases, computed, are in `crates/examples` and `crates/simulation_examples`. `docs/definitions.py` makes this page.
 """
 
 

@@ -2,7 +2,7 @@
 ghost use Rattle.std.specs.Prelude.{◌≡◌, ◌+◌, ◌≤◌, IfOk, OnOk, codes, decimal, string_bytes};
 ghost use Rattle.serde_json.specs.Data.{string, put};
 ghost use Rattle.serde_json.specs.Find.{get};
-ghost use Rattle.definitions.specs.Checks.{text_of};
+ghost use Rattle.definitions.specs.Checks.{text_or_empty};
 ghost use Rattle.definitions.specs.Metadata.{metadata, metadata_of, at_revision};
 ghost use Rattle.definitions.specs.Replacements.{has_new_spec, has_new_annotations, is_new_generation, next_generation, with_next_generation, updated};
 ghost use Rattle.definitions.specs.Revisions.{greatest_revision};
@@ -14,7 +14,7 @@ use std::alloc::{AllocError, Global};
 
 /// Returns the text of an object's spec, which is empty where there is none.
 fn spec_text(alloc: Global, object: &Object) -> Result<String, AllocError>
-    ensures { IfOk result (λ s. string_bytes s ≡ text_of (get (codes "spec") object.now.value)) }
+    ensures { IfOk result (λ s. string_bytes s ≡ text_or_empty (get (codes "spec") object.now.value)) }
 {
     match object.member("spec") {
         Some(found) => found.to_string(alloc),
@@ -24,7 +24,7 @@ fn spec_text(alloc: Global, object: &Object) -> Result<String, AllocError>
 
 /// Returns the text of an object's annotations, which is empty where there are none.
 fn annotations_text(alloc: Global, object: &Object) -> Result<String, AllocError>
-    ensures { IfOk result (λ s. string_bytes s ≡ text_of (metadata (codes "annotations") object.now.value)) }
+    ensures { IfOk result (λ s. string_bytes s ≡ text_or_empty (metadata (codes "annotations") object.now.value)) }
 {
     match object.metadata_member("annotations") {
         Some(found) => found.to_string(alloc),

@@ -1,11 +1,11 @@
 -- What was done, and how a connection is left then.
-use Rattle.std.proofs.Common.{◌≡◌, inl, inr, ℕ, List, Bool, true, false, Option, Some, None, Result, Ok, Err, refl, sym, ap, subst, ◌∙◌}
-use Rattle.std.specs.Io.KnownBytes.{Consumes}
-use Rattle.definitions.specs.Collections.{ListOptions}
+use Rattle.std.proofs.Common.{◌≡◌, ℕ, List, Bool, true, false, Option, Some, None, Result, Ok, Err, sym, ap, subst, true≢false, ◌∙◌}
+use Rattle.definitions.specs.ListQueries.{ListOptions}
 use Rattle.definitions.specs.History.{View}
 use Rattle.definitions.specs.ObjectRequests.{Request}
 use Rattle.definitions.specs.Refusals.{Refusal}
 use Rattle.definitions.specs.Targets as targets
+use Rattle.definitions.specs.Targets.{Asked}
 use Rattle.definitions.specs.Verbs.{Outcome, refused}
 use Rattle.definitions.specs.Versions.{Listed}
 use Rattle.chunked.specs.declared.watched.Watched.{Watched}
@@ -13,7 +13,6 @@ use Rattle.keys.specs.Faults.{refusal_of}
 use Rattle.received.specs.Receiving as received
 use Rattle.received.specs.Receiving.{IsNeeded, IsWhole, Needs}
 use Rattle.received.specs.declared.received.Received.{Received}
-use Rattle.request_heads.specs.declared.fault.ReadFault.{ReadFault}
 use Rattle.request_heads.specs.declared.fault.ReadFault.TheVariants as read
 use Rattle.watch_service.specs.Served.{Serves}
 use Rattle.watch_service.specs.Watches.{Look}
@@ -21,9 +20,10 @@ use Rattle.watch_service.specs.declared.fault.Cut.TheVariants as cut
 use Rattle.watch_service.specs.declared.fault.WatchFault.{WatchFault}
 use Rattle.watch_service.specs.declared.fault.WatchFault.TheVariants as left
 use Rattle.api.proofs.Written.{replies_fault}
-use Rattle.api.specs.Replying.{Replies}
-use Rattle.api.specs.Serving.{AsksKnown, Concludes, Answers, Does, Reads, has_reader_failed}
+use Rattle.api.specs.Serving.{AsksKnown, Concludes, Answers, Does, Reads, has_reader_failed, served_of}
 use Rattle.api.specs.declared.fault.ServeFault.{ServeFault}
+use Rattle.api.specs.declared.served.Served.{Served}
+use Rattle.api.specs.declared.served.Served.TheVariants as served
 use Rattle.api.specs.declared.fault.ServeFault.TheVariants as fault
 
 module _ {D : Type 0} (contents : D → Option (List ℕ)) where
@@ -72,3 +72,15 @@ module _ {S D : Type 0} (begins : S → View → Result Listed Refusal → S →
       → Serves begins watches v bookmarks contents s t old mid from served → Concludes contents known mid new r
       → (mid : Watched D) × (served : Result (Unit {0}) WatchFault) × Serves begins watches v bookmarks contents s t old mid from served × Concludes contents served mid new r
   concluded s t from old mid new served known r e h c = (mid, known, subst (Serves begins watches v bookmarks contents s t old mid from) e h, c)
+
+-- ---- a whole request
+
+abbrev says_asked : Result Served ServeFault → Bool
+says_asked (Ok served.Asked) = true
+says_asked (Ok served.NotAsked) = false
+says_asked (Err f) = false
+
+pub asked_whole : (input : Option (List ℕ)) (s : Option (Result Asked Refusal)) (r : Served) → AsksKnown input s → r ≡ served_of s → ◌≡◌ {A = Result Served ServeFault} (Ok r) (Ok served.Asked) → (asked : Asked) × AsksKnown input (Some (Ok asked))
+asked_whole input (Some (Ok a)) r asks by is = (a, asks)
+asked_whole input (Some (Err f)) r asks by is = absurd (true≢false (sym (ap says_asked is) ∙ ap (λ (s : Served). says_asked (Ok s)) by))
+asked_whole input None r asks by is = absurd (true≢false (sym (ap says_asked is) ∙ ap (λ (s : Served). says_asked (Ok s)) by))

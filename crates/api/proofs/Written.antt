@@ -1,16 +1,14 @@
 -- What was written.
-use Rattle.std.proofs.Common.{◌≡◌, inl, inr, false, ℕ, List, [], ◌++◌, Option, Some, None, Result, Ok, Err, refl, sym, ap, subst, ◌∙◌, append-nil, string_bytes}
+use Rattle.std.proofs.Common.{◌≡◌, inl, inr, false, ℕ, List, [], Option, Some, None, Result, Ok, Err, refl, sym, ap, subst, ◌∙◌, append-nil, string_bytes}
 use Rattle.std.specs.Io.KnownBytes.{Appends}
 use Rattle.definitions.specs.Replies.{outcome}
-use Rattle.definitions.specs.Verbs.{Answer, Outcome, answered, refused, outcome_body}
-use Rattle.serde_json.specs.Written.{compact_text}
-use Rattle.chunked.specs.Devices.{AppendsBeginning, device_of, has_failed}
+use Rattle.definitions.specs.Verbs.{Outcome, answered, refused}
+use Rattle.chunked.specs.Devices.{device_of, has_failed}
 use Rattle.chunked.specs.Writing.{WritesInPlace}
 use Rattle.chunked.specs.declared.fault.ChunkFault.{ChunkFault}
 use Rattle.chunked.specs.declared.fault.ChunkFault.TheVariants as chunk
 use Rattle.chunked.specs.declared.watched.Watched.{Watched}
 use Rattle.connections.specs.Replies.{response_text, reply_text}
-use Rattle.desk.specs.Replies.{Says}
 use Rattle.keys.specs.Faults.{refusal_of}
 use Rattle.keys.specs.declared.fault.Fault.{Fault}
 use Rattle.reply.specs.declared.reply.Reply as replies

@@ -1,7 +1,7 @@
 -- What becomes of a connection.
 use Rattle.std.specs.Prelude.{◌≡◌, ◌⊎◌, ℕ, List, Bool, true, false, Option, Some, None, Result, Ok, Err, ⊤}
 use Rattle.std.specs.Io.KnownBytes.{Consumes}
-use Rattle.definitions.specs.Collections.{ListOptions, WatchOptions}
+use Rattle.definitions.specs.ListQueries.{ListOptions}
 use Rattle.definitions.specs.History.{View}
 use Rattle.definitions.specs.ObjectRequests.{Request}
 use Rattle.definitions.specs.Refusals.{Refusal, no_memory}
@@ -22,6 +22,8 @@ use Rattle.watch_service.specs.declared.fault.WatchFault.TheVariants as left
 use Rattle.api.specs.Replying.{Sends, Replies}
 use Rattle.api.specs.declared.fault.ServeFault.{ServeFault}
 use Rattle.api.specs.declared.fault.ServeFault.TheVariants as fault
+use Rattle.api.specs.declared.served.Served.{Served}
+use Rattle.api.specs.declared.served.Served.TheVariants as served
 
 -- ---- what a connection asks
 
@@ -40,6 +42,21 @@ has_reader_failed (Err fault.Read) = true
 has_reader_failed (Err fault.Write) = false
 has_reader_failed (Err fault.NoMemory) = false
 has_reader_failed (Ok u) = false
+
+-- how a connection is left, whatever it came to
+abbrev pub how_left : Result Served ServeFault → Result (Unit {0}) ServeFault
+how_left (Ok s) = Ok tt
+how_left (Err f) = Err f
+
+-- what a connection came to by what it asked
+abbrev pub served_of : Option (Result Asked Refusal) → Served
+served_of None = served.NotAsked
+served_of (Some (Err f)) = served.NotAsked
+served_of (Some (Ok asked)) = served.Asked
+
+-- a server is asked only by a whole request
+abbrev pub AsksWhole : Option (List ℕ) → Result Served ServeFault → Type 0
+AsksWhole input result = result ≡ Ok served.Asked → (asked : Asked) × AsksKnown input (Some (Ok asked))
 
 -- ---- what is done
 

@@ -4,7 +4,9 @@
 pub mod answering;
 pub mod fault;
 pub mod replying;
+pub mod served;
 pub mod serving;
 
 pub use fault::ServeFault;
+pub use served::Served;
 pub use serving::serve_one;

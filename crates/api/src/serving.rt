@@ -1,11 +1,12 @@
 //! One request of a connection, served.
 ghost use Rattle.std.specs.Prelude.{◌≡◌};
-ghost use Rattle.api.specs.Serving.{Reads, ServesOne, has_reader_failed};
+ghost use Rattle.api.specs.Serving.{AsksWhole, Reads, ServesOne, has_reader_failed, how_left};
 ghost use Rattle.chunked.specs.Devices.{device_of, has_failed};
 
 use crate::answering::do_received;
 use crate::fault::ServeFault;
 use crate::replying::send;
+use crate::served::{Served, served_by};
 use chunked::Watched;
 use received::receive;
 use request_heads::ReadFault;
@@ -19,7 +20,8 @@ use watch_service::Pace;
 
 /// Serves one request of a connection: reads it, asks a server at a moment, and writes the reply. Half a request is neither done
 /// nor replied to. A reply to what was done never lacks memory; what is not done because memory ran out is replied to with that,
-/// and so is a refusal for whose reply there is none.
+/// and so is a refusal for whose reply there is none. Returns whether the server was asked: only then is it sure that the peer
+/// sends no more of its request.
 ///
 /// The error says why the connection is left: its reader failed, and nothing was done or written; its writer failed, and a
 /// beginning of the reply was written to what was done; or out of memory within a watch, whose end is then missing.
@@ -31,20 +33,24 @@ pub fn serve_one<S: Site, P: Pace, R: Read + Drop, W: Write + Drop>(
     site: &mut S,
     moment: Moment,
     pace: &mut P,
-) -> Result<(), ServeFault>
+) -> Result<Served, ServeFault>
     ensures serves { ServesOne S.Calls S.Lists S.Begins S.Watches W.contents moment site.old site.new writer.old writer.new
-        (R.remaining (device_of reader.old)) result }
-    ensures reads { Reads (R.remaining (device_of reader.old)) (R.remaining (device_of reader.new)) result }
-    ensures failed { has_failed reader.new ≡ has_reader_failed result }
+        (R.remaining (device_of reader.old)) (how_left result) }
+    ensures asked { AsksWhole (R.remaining (device_of reader.old)) result }
+    ensures reads { Reads (R.remaining (device_of reader.old)) (R.remaining (device_of reader.new)) (how_left result) }
+    ensures failed { has_failed reader.new ≡ has_reader_failed (how_left result) }
 {
     match receive(alloc, routes, reader) {
-        Ok(received) => match do_received(alloc, received, site, moment, pace, writer) {
-            Ok(()) => Ok(()),
-            Err(fault) => Err(fault),
-        },
+        Ok(received) => {
+            let served = served_by(&received);
+            match do_received(alloc, received, site, moment, pace, writer) {
+                Ok(()) => Ok(served),
+                Err(fault) => Err(fault),
+            }
+        }
         Err(ReadFault::Device) => Err(ServeFault::Read),
         Err(ReadFault::Want) => match send(out_of_memory(), writer) {
-            Ok(()) => Ok(()),
+            Ok(()) => Ok(Served::NotAsked),
             Err(fault) => Err(fault),
         },
     }

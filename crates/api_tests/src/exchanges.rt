@@ -1,5 +1,5 @@
 //! Connections to a server that one thread owns.
-use api::{ServeFault, serve_one};
+use api::{ServeFault, Served, serve_one};
 use chunked::Watched;
 use desk::Server;
 use routes::table::Routes;
@@ -50,7 +50,7 @@ pub(crate) fn serve(
     site: &mut Solo,
     reader: Source<'_>,
     writer: Sink,
-) -> (Result<(), ServeFault>, Vec<u8>) {
+) -> (Result<Served, ServeFault>, Vec<u8>) {
     let mut reader = Watched::new(reader);
     let mut writer = Watched::new(writer);
     let outcome = serve_one(

@@ -1,7 +1,7 @@
 //! Devices that fail at each of their calls in turn.
 use crate::exchanges::{NEVER, empty, reply, serve, sink, source};
 use crate::texts::{CREATE, CREATED, FOUND, GET, LIST, NOTHING};
-use api::ServeFault;
+use api::{ServeFault, Served};
 use routes::table::Routes;
 use std::alloc::Global;
 use std::test::Fail;
@@ -95,7 +95,7 @@ fn a_call_that_never_comes_fails_nothing(rt: HostRuntime) -> Result<(), Fail> {
     let reader = source(CREATE, CREATE.len() as u64);
     let writer = sink(rt.alloc(), calls_to_write(CREATED));
     let (outcome, written) = serve(rt.alloc(), &routes, &mut site, reader, writer);
-    assert_eq!(rt; outcome, Ok(()));
+    assert_eq!(rt; outcome, Ok(Served::Asked));
     assert_eq!(rt; written.as_slice(), CREATED);
     Ok(())
 }

@@ -1,7 +1,8 @@
 //! Delays that grow with each failure.
-ghost use Rattle.std.specs.Prelude.{◌≡◌, ◌+◌, min, IfOk, OnOk, OnErr};
+ghost use Rattle.std.specs.Prelude.{◌≡◌, ◌+◌, min, true, IfOk, OnOk, OnErr};
 ghost use Rattle.std.specs.FinMap as map;
 ghost use Rattle.controllers.specs.Delays.{failures, failed, delay_after};
+ghost use Rattle.backoff.specs.Seen.{restored};
 ghost use Rattle.work_keys.specs.WorkKeys.{work_key_of};
 
 use std::alloc::{AllocError, Global};
@@ -49,6 +50,28 @@ impl Backoff {
         let kept = key.try_copy()?;
         self.failures.insert(kept, one_more(before))?;
         Ok(delay_of(before))
+    }
+
+    /// Returns how often a key failed in a row, if it did.
+    pub fn failures(&self, key: &WorkKey) -> Option<u32>
+        ensures { result ≡ map.get self.now (work_key_of key.now) }
+    {
+        self.failures.get(key).copied()
+    }
+
+    /// Sets how often a key failed in a row to what `failures` returned before a failure that is not to count.
+    pub fn restore(&mut self, key: &WorkKey, before: Option<u32>)
+        requires { map.contains_key self.old (work_key_of key.now) ≡ true }
+        ensures { self.new ≡ restored (work_key_of key.now) before self.old }
+    {
+        match before {
+            None => drop(self.failures.remove(key)),
+            Some(before) => {
+                if let Some(failures) = self.failures.get_mut(key) {
+                    *failures = before;
+                }
+            }
+        }
     }
 
     /// Removes the failures of a key that succeeded.

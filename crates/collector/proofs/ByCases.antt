@@ -4,7 +4,7 @@ use Rattle.serde_json.specs.Data.{Data}
 use Rattle.definitions.specs.Metadata.{is_being_deleted}
 use Rattle.controllers.specs.Commands.{Command}
 use Rattle.controllers.specs.Hands.{Hand, live}
-use Rattle.plans.specs.Collections.{finish, collect, plan_for, plan}
+use Rattle.plans.specs.GarbageCollection.{finish, collect, plan_for, plan}
 use Rattle.plans.specs.Standings.{dependents}
 
 -- with the second finalizer alone

@@ -4,7 +4,7 @@ ghost use Rattle.definitions.specs.Metadata.{uid, version};
 ghost use Rattle.controllers.specs.Commands.{update, delete, seen};
 ghost use Rattle.keys.specs.Keys.{key_of};
 ghost use Rattle.turns.specs.Commands.{command_of, version_of};
-ghost use Rattle.plans.specs.Collections.{remove};
+ghost use Rattle.plans.specs.GarbageCollection.{remove};
 
 use definitions::policies::Policy;
 use keys::Key;

@@ -6,7 +6,7 @@ ghost use Rattle.definitions.specs.Metadata.{owners_in};
 ghost use Rattle.controllers.specs.Informers.{of_owner};
 ghost use Rattle.turns.specs.Entries.{entry_of};
 ghost use Rattle.turns.specs.Hands.{looks_by, members_of};
-ghost use Rattle.plans.specs.Collections.{is_blocked};
+ghost use Rattle.plans.specs.GarbageCollection.{is_blocked};
 ghost use Rattle.plans.specs.Standings.{is_to, waits_for_dependents, with_owner, dependents, blocks};
 
 use crate::standings::{is_to, waits_for_dependents};

@@ -6,7 +6,7 @@ ghost use Rattle.keys.specs.Keys.{key_of};
 ghost use Rattle.turns.specs.Commands.{command_of};
 ghost use Rattle.turns.specs.Entries.{entry_of};
 ghost use Rattle.turns.specs.Hands.{looks_by, members_of};
-ghost use Rattle.plans.specs.Collections.{orphaned, is_blocked, finish};
+ghost use Rattle.plans.specs.GarbageCollection.{orphaned, is_blocked, finish};
 ghost use Rattle.plans.specs.MetadataEdits.{without_finalizer};
 ghost use Rattle.plans.specs.Standings.{dependents};
 

@@ -6,7 +6,7 @@ ghost use Rattle.controllers.specs.OwnerReferences.{namespace_of};
 ghost use Rattle.turns.specs.Commands.{command_of, commands_of};
 ghost use Rattle.turns.specs.Entries.{entry_of};
 ghost use Rattle.turns.specs.Hands.{hand_of, reads_of, looks_by, members_of};
-ghost use Rattle.plans.specs.Collections.{plan, collect, own_policy, remove, remove_after, is_between};
+ghost use Rattle.plans.specs.GarbageCollection.{plan, collect, own_policy, remove, remove_after, is_between};
 ghost use Rattle.plans.specs.Standings.{standing, standings, dependents};
 ghost use Rattle.collector.specs.Removed.{remove_by};
 

@@ -4,7 +4,7 @@ ghost use Rattle.std.specs.List.{list_any};
 ghost use Rattle.definitions.specs.Keys.{is_same_key};
 ghost use Rattle.keys.specs.Keys.{key_of};
 ghost use Rattle.turns.specs.Hands.{hand_of, reads_of};
-ghost use Rattle.plans.specs.Collections.{owner_keys_if, asks};
+ghost use Rattle.plans.specs.GarbageCollection.{owner_keys_if, asks};
 ghost use Rattle.collector.specs.Asked.{added, all_added};
 
 use keys::Key;

@@ -3,7 +3,7 @@ use Rattle.std.specs.Prelude.{ℕ, Bool, true, false, not, ◌&&◌, ◌||◌, n
 use Rattle.definitions.specs.declared.methods.Method.{Method}
 use Rattle.definitions.specs.declared.refusals.Part.{Part}
 use Rattle.definitions.specs.declared.refusals.Part.TheVariants as part
-use Rattle.definitions.specs.Collections as collections
+use Rattle.definitions.specs.ListQueries as collections
 use Rattle.definitions.specs.Refusals.{Refusal, bad_request, no_such_path, method_not_allowed, length_required, too_large, unsupported_media_type}
 use Rattle.definitions.specs.Targets.{Query, Route, route, path_of, names_namespace, is_allowed, query_for, longest_body}
 use Rattle.connections.specs.Heads.{Head, stated_length, has_transfer_coding, media_type, needs_length, takes_type, method_named}

@@ -18,7 +18,7 @@ use Rattle.controllers.specs.declared.reflectors.End.{End}
 use Rattle.controllers.specs.declared.reflectors.End.TheVariants.{Expired, Unreadable}
 use Rattle.definitions.specs.Texts.Kinds.{api_version, kind_text, list_kind}
 use Rattle.definitions.specs.Texts.Keys.{Key, is_same_key}
-use Rattle.definitions.specs.State.History.{Members, put_or_remove}
+use Rattle.definitions.specs.State.History.{Entries, put_or_remove}
 use Rattle.definitions.specs.Objects.Metadata.{name, namespace, uid, version}
 use Rattle.definitions.specs.Objects.{Object}
 use Rattle.definitions.specs.Reading.{reading}
@@ -105,22 +105,22 @@ pub data Delta : Type 0 where
   remove : ℕ → Key → Delta
   mark : ℕ → Delta
 
-abbrev pub put_in : Members → Object → Members
+abbrev pub put_in : Entries → Object → Entries
 put_in ms o = put_or_remove ms (name_in o) (Some o.value)
 
 -- objects put one after another
-abbrev pub put_all : Members → List Object → Members
+abbrev pub put_all : Entries → List Object → Entries
 put_all ms [] = ms
 put_all ms (o ∷ os) = put_all (put_in ms o) os
 
-abbrev pub apply_delta : Members → Delta → Members
+abbrev pub apply_delta : Entries → Delta → Entries
 apply_delta ms (replace r os) = put_all [] os
 apply_delta ms (put o) = put_in ms o
 apply_delta ms (remove r n) = put_or_remove ms n None
 apply_delta ms (mark r) = ms
 
 -- deltas applied one after another
-abbrev pub apply_deltas : Members → List Delta → Members
+abbrev pub apply_deltas : Entries → List Delta → Entries
 apply_deltas ms [] = ms
 apply_deltas ms (d ∷ ds) = apply_deltas (apply_delta ms d) ds
 

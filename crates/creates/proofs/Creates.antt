@@ -24,12 +24,12 @@ abbrev Served : Type 0
 Served = Result (Reply × Option Write) Fault
 
 -- what is not misplaced is checked under its key
-at_key : (kind : Kind) (ns : List ℕ) (o : Data) (ms : history.Members) (r : ℕ) (moment : List ℕ) (k : Key) (result : Served) → (is_other (metadata.namespace o) ns || is_some (metadata.version o)) ≡ false
+at_key : (kind : Kind) (ns : List ℕ) (o : Data) (ms : history.Entries) (r : ℕ) (moment : List ℕ) (k : Key) (result : Served) → (is_other (metadata.namespace o) ns || is_some (metadata.version o)) ≡ false
     → k ≡ new_name kind ns o ms r → Serves (create_checked k o ms r moment) result → Serves (create_read kind ns (Ok o) ms r moment) result
 at_key kind ns o ms r moment k result placed key serves = rw placed (subst (λ n. Serves (create_checked n o ms r moment) result) key serves)
 
 -- where no field is at fault it is created
-pub create-placed : (kind : Kind) (ns : List ℕ) (o : Data) (ms : history.Members) (r : ℕ) (moment : List ℕ) (k : Key) (d : Data) (result : Served)
+pub create-placed : (kind : Kind) (ns : List ℕ) (o : Data) (ms : history.Entries) (r : ℕ) (moment : List ℕ) (k : Key) (d : Data) (result : Served)
     → (is_other (metadata.namespace o) ns || is_some (metadata.version o)) ≡ false → k ≡ new_name kind ns o ms r → create_fault k.kind k.name r (with_first_status k.kind o) ≡ None
     → d ≡ created k.kind (r + 1) k.namespace k.name moment o → Serves (create_as k d ms r) result → Serves (create_read kind ns (Ok o) ms r moment) result
 create-placed kind ns o ms r moment k d result placed key valid made serves =
@@ -41,7 +41,7 @@ refused-field k found next fault.NoMemory h = inl refl
 refused-field k found next e h = absurd h
 
 -- the fault that is found refuses it
-pub create-refused : (kind : Kind) (ns : List ℕ) (o : Data) (ms : history.Members) (r : ℕ) (moment : List ℕ) (k : Key) (e : Fault)
+pub create-refused : (kind : Kind) (ns : List ℕ) (o : Data) (ms : history.Entries) (r : ℕ) (moment : List ℕ) (k : Key) (e : Fault)
     → (is_other (metadata.namespace o) ns || is_some (metadata.version o)) ≡ false → k ≡ new_name kind ns o ms r
     → RefusesField k (create_fault k.kind k.name r (with_first_status k.kind o)) e → Serves (create_read kind ns (Ok o) ms r moment) (Err e)
 create-refused kind ns o ms r moment k e placed key why =

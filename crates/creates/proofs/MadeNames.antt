@@ -4,7 +4,7 @@ use Rattle.std.proofs.lemmas.Bool.Decides.{nat_tests}
 use Rattle.std.specs.List.{list_all}
 use Rattle.definitions.proofs.Truths.{both_true}
 use Rattle.definitions.specs.GeneratedNames.{alphabet, made, tried, made_name}
-use Rattle.definitions.specs.History.{Members}
+use Rattle.definitions.specs.History.{Entries}
 use Rattle.definitions.specs.Verbs.{is_free}
 use Rattle.definitions.specs.declared.kinds.Kind.{Kind}
 
@@ -55,5 +55,5 @@ pub none_free : (test : List ℕ → Bool) (given name : List ℕ) (first : ℕ)
 none_free test given name first named left = named ∙ sym (ap (λ o. unwrap_or o (made given first)) left)
 
 -- whether a key is free says its name
-pub says_free : (kind kind' : Kind) (ns ns' name : List ℕ) (ms : Members) (b c : Bool) → kind ≡ kind' → ns ≡ ns' → b ≡ is_free kind ns ms name → b ≡ c → is_free kind' ns' ms name ≡ c
+pub says_free : (kind kind' : Kind) (ns ns' name : List ℕ) (ms : Entries) (b c : Bool) → kind ≡ kind' → ns ≡ ns' → b ≡ is_free kind ns ms name → b ≡ c → is_free kind' ns' ms name ≡ c
 says_free kind kind' ns ns' name ms b c same there is at = ap (λ k. is_free k ns' ms name) (sym same) ∙ ap (λ n. is_free kind n ms name) (sym there) ∙ sym is ∙ at

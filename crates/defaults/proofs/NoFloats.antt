@@ -5,7 +5,7 @@ use Rattle.serde_json.specs.Find.{get, as_object}
 use Rattle.serde_json.specs.Written.{has_float}
 use Rattle.definitions.specs.declared.kinds.Kind.{Kind}
 use Rattle.definitions.specs.declared.kinds.Kind.TheVariants.{ConfigMap, Pod, ReplicaSet, Deployment}
-use Rattle.definitions.specs.Defaults.{whole, with_changed, rolling_defaults, is_rolling_update, with_rolling, strategy_defaults, replica_set_defaults, deployment_defaults, defaulted}
+use Rattle.definitions.specs.Defaults.{unsigned_value, with_changed, rolling_defaults, is_rolling_update, with_rolling, strategy_defaults, replica_set_defaults, deployment_defaults, defaulted}
 use Rattle.definitions.proofs.FoundMembers.{with_found}
 use Rattle.definitions.specs.Reading.{empty}
 use Rattle.definitions.specs.Values.{with_member, with_default}
@@ -46,15 +46,15 @@ strategy d h =
     typed (with_default (codes "type") e d) (defaults (codes "type") e d refl h)
 
 replica_set : Keeps replica_set_defaults
-replica_set d h = defaults (codes "replicas") (whole 1) d refl h
+replica_set d h = defaults (codes "replicas") (unsigned_value 1) d refl h
 
 deployment : Keeps deployment_defaults
 deployment d h =
-    let first = with_default (codes "replicas") (whole 1) d in
-    let second = with_default (codes "revisionHistoryLimit") (whole 10) first in
+    let first = with_default (codes "replicas") (unsigned_value 1) d in
+    let second = with_default (codes "revisionHistoryLimit") (unsigned_value 10) first in
     let third = with_default (codes "strategy") empty second in
     changed (codes "strategy") strategy_defaults third strategy
-    (defaults (codes "strategy") empty second refl (defaults (codes "revisionHistoryLimit") (whole 10) first refl (defaults (codes "replicas") (whole 1) d refl h)))
+    (defaults (codes "strategy") empty second refl (defaults (codes "revisionHistoryLimit") (unsigned_value 10) first refl (defaults (codes "replicas") (unsigned_value 1) d refl h)))
 
 pub no_float-defaulted : (k : Kind) (d : Data) → has_float d ≡ false → has_float (defaulted k d) ≡ false
 no_float-defaulted ConfigMap d h = h

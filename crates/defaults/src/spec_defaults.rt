@@ -1,7 +1,7 @@
 //! What is filled in where it is absent.
 ghost use Rattle.std.specs.Prelude.{◌≡◌, IfOk, codes};
 ghost use Rattle.serde_json.specs.View.{view};
-ghost use Rattle.definitions.specs.Defaults.{whole, with_changed, rolling_defaults, is_rolling_update, with_rolling, strategy_defaults, replica_set_defaults, deployment_defaults, defaulted};
+ghost use Rattle.definitions.specs.Defaults.{unsigned_value, with_changed, rolling_defaults, is_rolling_update, with_rolling, strategy_defaults, replica_set_defaults, deployment_defaults, defaulted};
 ghost use Rattle.definitions.specs.Values.{with_default};
 
 use definitions::kinds::Kind;
@@ -12,14 +12,14 @@ use serde_json::{Value, json};
 use std::alloc::{AllocError, Global};
 
 fn number(alloc: Global, n: u64) -> Result<Value, AllocError>
-    ensures { IfOk result (λ v. view v ≡ whole n) }
+    ensures { IfOk result (λ v. view v ≡ unsigned_value n) }
 {
     json!(in alloc; n)
 }
 
 /// Returns the value with a whole number at the member `name`, where it has none.
 fn with_number(alloc: Global, value: Value, name: &str, n: u64) -> Result<Value, AllocError>
-    ensures { IfOk result (λ v. view v ≡ with_default name.now (whole n) (view value)) }
+    ensures { IfOk result (λ v. view v ≡ with_default name.now (unsigned_value n) (view value)) }
 {
     if value.get(name).is_some() {
         return Ok(value);

@@ -13,7 +13,7 @@ use Rattle.definitions.specs.declared.kinds.Kind.TheVariants.{Pod}
 use Rattle.definitions.specs.declared.schemas.Shape.{Shape}
 use Rattle.definitions.specs.declared.schemas.Schema.{Schema}
 use Rattle.definitions.specs.Kinds.{api_version, kind_text}
-use Rattle.definitions.specs.Schemas.{member_at}
+use Rattle.definitions.specs.Schemas.{property_at}
 use Rattle.definitions.specs.Values.{with_member, with_default}
 use Rattle.definitions.specs.Reading.{tidied, tidied_items, tidied_members, is_absent, item_of, schema_of, filled, with_spec, is_body, empty}
 
@@ -40,7 +40,7 @@ mutual
   pub members_tidied : (p : Schema) (ms : Members) → members_have_float ms ≡ false → members_have_float (tidied_members p ms) ≡ false
   members_tidied p no_members h = refl
   members_tidied p (member k d ms) h =
-      unless_absent (is_absent (member_at p k) (tidied (member_at p k).shape d)) k _ _ (has_float-tidied (member_at p k).shape d (left_false (has_float d) _ h)) (members_tidied p ms (right_false (has_float d) _ h))
+      unless_absent (is_absent (property_at p k) (tidied (property_at p k).shape d)) k _ _ (has_float-tidied (property_at p k).shape d (left_false (has_float d) _ h)) (members_tidied p ms (right_false (has_float d) _ h))
 
 at_ordering : (o : Ordering) (a b c : Members) → members_have_float a ≡ false → members_have_float b ≡ false → members_have_float c ≡ false → members_have_float (match_ordering o a b c) ≡ false
 at_ordering Less a b c p q r = p

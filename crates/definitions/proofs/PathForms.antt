@@ -4,9 +4,9 @@ use Rattle.std.specs.List.{list_all}
 use Rattle.std.specs.Option.{option_map_or}
 use Rattle.definitions.specs.declared.kinds.Group.{Group}
 use Rattle.definitions.specs.declared.kinds.Group.TheVariants.{Core, Apps}
-use Rattle.definitions.specs.Kinds.{kind_named}
+use Rattle.definitions.specs.Kinds.{kind_with_plural}
 use Rattle.definitions.specs.Targets as targets
-use Rattle.definitions.specs.Targets.{Route, collection, object_at, status_of, route, segments, after_words, is_filled, with_status}
+use Rattle.definitions.specs.Targets.{Route, collection, object_at, status_of, route, segments, after_words, is_filled, kind_with_status}
 
 -- the forms of a path, with its group and its parts
 pub data Form : Type 0 where
@@ -33,10 +33,10 @@ form_of ([] ∷ segs) = if list_all is_filled segs then by_prefix segs else None
 form_of _ = None
 
 abbrev pub route_of : Form → Option Route
-route_of (all_form g resource) = option_map (λ k. collection k None) (kind_named g resource)
-route_of (namespace_form g n resource) = option_map (λ k. collection k (Some n)) (kind_named g resource)
-route_of (object_form g n resource name) = option_map (λ k. object_at (record { kind = k; namespace = n; name = name })) (kind_named g resource)
-route_of (status_form g n resource name) = option_map (λ k. status_of (record { kind = k; namespace = n; name = name })) (option_and_then with_status (kind_named g resource))
+route_of (all_form g resource) = option_map (λ k. collection k None) (kind_with_plural g resource)
+route_of (namespace_form g n resource) = option_map (λ k. collection k (Some n)) (kind_with_plural g resource)
+route_of (object_form g n resource name) = option_map (λ k. object_at (record { kind = k; namespace = n; name = name })) (kind_with_plural g resource)
+route_of (status_form g n resource name) = option_map (λ k. status_of (record { kind = k; namespace = n; name = name })) (option_and_then kind_with_status (kind_with_plural g resource))
 
 when : (b : Bool) (f : Form) → cond b (route_of f) None ≡ option_and_then route_of (cond b (Some f) None)
 when true f = refl

@@ -32,7 +32,7 @@ pub use Rattle.definitions.specs.State.Windows
 pub use Rattle.definitions.specs.State.Pages
 pub use Rattle.definitions.specs.Requests.Queries
 pub use Rattle.definitions.specs.Requests.PageTokens
-pub use Rattle.definitions.specs.Requests.Collections
+pub use Rattle.definitions.specs.Requests.ListQueries
 pub use Rattle.definitions.specs.Requests.DeleteOptions
 pub use Rattle.definitions.specs.Requests.ObjectRequests
 pub use Rattle.definitions.specs.Requests.Targets

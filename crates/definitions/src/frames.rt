@@ -44,7 +44,7 @@ impl ChangeKind {
 
 impl FrameKind {
     ghost use Rattle.std.specs.Prelude.{◌≡◌};
-    ghost use Rattle.definitions.specs.Frames.{kind_text, kind_named};
+    ghost use Rattle.definitions.specs.Frames.{kind_text, frame_kind_named};
 
     /// Returns the member `type` of a frame of the kind.
     pub fn text(self) -> &'static str
@@ -61,7 +61,7 @@ impl FrameKind {
 
     /// Returns the kind that a member `type` names.
     pub fn named(text: &str) -> Option<FrameKind>
-        ensures { result ≡ kind_named text.now }
+        ensures { result ≡ frame_kind_named text.now }
     {
         if text == "ADDED" {
             Some(FrameKind::Added)

@@ -41,7 +41,7 @@ struct Facts {
 
 impl Group {
     ghost use Rattle.std.specs.Prelude.{◌≡◌};
-    ghost use Rattle.definitions.specs.Kinds.{text_of_group, kind_named};
+    ghost use Rattle.definitions.specs.Kinds.{text_of_group, kind_with_plural};
 
     /// Returns the name of the group; the core group has none.
     pub fn name(self) -> &'static str
@@ -54,8 +54,8 @@ impl Group {
     }
 
     /// Returns the kind of this group whose plural name this is.
-    pub fn kind_named(self, plural: &str) -> Option<Kind>
-        ensures { result ≡ kind_named self plural.now }
+    pub fn kind_with_plural(self, plural: &str) -> Option<Kind>
+        ensures { result ≡ kind_with_plural self plural.now }
     {
         Kind::ALL
             .iter()

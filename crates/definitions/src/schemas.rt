@@ -56,7 +56,7 @@ pub enum Schema {
 
 /// What a schema has of a member: its shape, and whether an empty one counts as absent.
 #[derive(Clone, Copy)]
-pub struct Member {
+pub struct Property {
     pub shape: Shape,
     pub drops_empty: bool,
 }

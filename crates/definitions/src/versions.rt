@@ -22,7 +22,7 @@ pub enum Match {
 
 impl Match {
     ghost use Rattle.std.specs.Prelude.{◌≡◌, option_map};
-    ghost use Rattle.definitions.specs.Collections.{match_of};
+    ghost use Rattle.definitions.specs.ListQueries.{match_of};
 
     /// Returns the match that a parameter names, or `Unset` where there is none; nothing, if it is no name of a match.
     pub fn read(name: Option<&str>) -> Option<Match>

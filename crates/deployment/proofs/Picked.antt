@@ -2,14 +2,14 @@
 use Rattle.std.proofs.Common.{Bool, Option, Some, None}
 use Rattle.std.specs.Prelude.{find}
 use Rattle.serde_json.specs.Data.{Data}
-use Rattle.definitions.specs.History.{Members}
+use Rattle.definitions.specs.History.{Entries}
 use Rattle.definitions.specs.Keys.{Key}
 use Rattle.plans.specs.Deployments.{without_first}
 
-abbrev pub first_or : (Key × Data → Bool) → Option (Key × Data) → Members → Option (Key × Data)
+abbrev pub first_or : (Key × Data → Bool) → Option (Key × Data) → Entries → Option (Key × Data)
 first_or test None ms = find test ms
 first_or test (Some m) ms = Some m
 
-abbrev pub left_of : (Key × Data → Bool) → Option (Key × Data) → Members → Members
+abbrev pub left_of : (Key × Data → Bool) → Option (Key × Data) → Entries → Entries
 left_of test None ms = without_first test ms
 left_of test (Some m) ms = ms

@@ -2,9 +2,9 @@
 use Rattle.std.specs.Prelude.{List, [], if◌then◌else◌}
 use Rattle.std.specs.List.{list_any}
 use Rattle.controllers.specs.Commands.{Command}
-use Rattle.definitions.specs.History.{Members}
+use Rattle.definitions.specs.History.{Entries}
 use Rattle.plans.specs.Deployments.{Rollout, clean_up, first_of, has_running_pods, renew_whole}
 
 -- while a pod of an old set runs nothing is done, and then the new set is started
-abbrev pub wait_or_start : Rollout → Members → List Command
+abbrev pub wait_or_start : Rollout → Entries → List Command
 wait_or_start r pods = if list_any (has_running_pods r.key.namespace pods) r.old then [] else first_of (renew_whole r r.new) (clean_up r)

@@ -7,9 +7,9 @@ ghost use Rattle.plans.specs.PodRanks.{creation};
 ghost use Rattle.plans.specs.Revisions.{revision};
 ghost use Rattle.turns.specs.Entries.{entry_of};
 
-use crate::objects::text_in;
 use crate::revisions::revision;
 use meta::Object;
+use readings::text_in;
 use std::alloc::AllocError;
 use std::cmp::Ordering;
 use turns::Entry;

@@ -9,10 +9,10 @@ ghost use Rattle.turns.specs.Commands.{command_of};
 ghost use Rattle.turns.specs.Entries.{entry_of};
 
 use crate::ages::sort_by_revision;
-use crate::counts::{count_in_spec, count_in_status};
 use crate::rollout::Rollout;
 use meta::Object;
 use plans::Summary;
+use reports::{count_in_spec, count_in_status};
 use std::alloc::{AllocError, Global};
 use turns::{Command, Entry};
 

@@ -2,9 +2,9 @@
 ghost use Rattle.std.specs.Prelude.{◌≡◌, IfOk};
 ghost use Rattle.plans.specs.Deployments.{with_replicas};
 
-use crate::objects::inner;
 use json_values::values::whole_number;
 use meta::Object;
+use readings::inner;
 use std::alloc::{AllocError, Global};
 
 /// Returns the set that is to have so many pods. The error is running out of memory.

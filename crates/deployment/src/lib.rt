@@ -2,14 +2,11 @@
 #![tactic(auto)]
 
 pub(crate) mod ages;
-pub(crate) mod amounts;
 pub(crate) mod cleaning;
-pub(crate) mod counts;
 pub(crate) mod edits;
 pub(crate) mod hashes;
 pub(crate) mod making;
 pub(crate) mod managed;
-pub(crate) mod objects;
 pub(crate) mod pace;
 pub mod planning;
 pub(crate) mod recreating;

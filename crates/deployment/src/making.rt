@@ -5,7 +5,7 @@ ghost use Rattle.serde_json.specs.Find.{get};
 ghost use Rattle.serde_json.specs.View.{view};
 ghost use Rattle.serde_json.specs.Written.{has_float};
 ghost use Rattle.definitions.specs.declared.kinds.Kind.TheVariants as kind;
-ghost use Rattle.definitions.specs.Defaults.{whole};
+ghost use Rattle.definitions.specs.Defaults.{unsigned_value};
 ghost use Rattle.definitions.specs.Metadata.{labels_of};
 ghost use Rattle.definitions.specs.Values.{inner_of, members_of};
 ghost use Rattle.keys.specs.Keys.{key_of};
@@ -17,15 +17,15 @@ ghost use Rattle.plans.specs.Templates.{labelled, new_set_metadata, new_set_spec
 ghost use Rattle.deployment.specs.Sets.{rollout_seen};
 ghost use Rattle.turns.specs.Commands.{command_of};
 
-use crate::counts::count_in_status;
 use crate::hashes::template_hash;
-use crate::objects::{blank, in_spec, inner};
 use crate::revisions::annotated;
 use crate::rollout::{Rollout, due};
 use crate::templates::{HASH_LABEL, template};
 use json_values::values::whole_number;
 use meta::{Kind, Object};
 use owners::edits::controller_reference;
+use readings::{blank, in_spec, inner};
+use reports::count_in_status;
 use serde_json::Value;
 use std::alloc::{AllocError, Global};
 use turns::Command;

@@ -13,34 +13,9 @@ ghost use Rattle.turns.specs.Hands.{members_of};
 use crate::ages::sort_by_age;
 use keys::Key;
 use meta::Object;
-use meta::owners::owner;
-use owners::owned_by::is_text;
-use serde_json::Value;
+use owners::controlled_by::is_controlled_by;
 use std::alloc::{AllocError, Global};
 use turns::{Entry, Seen};
-
-/// Returns whether one of the references is to an object of this uid as the controller.
-fn any_controls_with(uid: &str, references: &[Value]) -> bool
-    ensures { result ≡ list_any (λ (o : Owner). o.is_controller && is_text uid.now o.uid) (owners_in (items_view references.now)) }
-{
-    for reference in references {
-        let owner = owner(reference);
-        if owner.is_controller && is_text(uid, owner.uid) {
-            return true;
-        }
-    }
-    false
-}
-
-/// Returns whether the object of this uid is the controller of an object.
-fn is_controlled_by(uid: &str, object: &Object) -> bool
-    ensures { result ≡ is_controlled_by uid.now object.now.value }
-{
-    match object.metadata_member("ownerReferences") {
-        Some(Value::Array(references)) => any_controls_with(uid, references.as_slice()),
-        _ => false,
-    }
-}
 
 /// Returns those of the objects that are of a namespace, and of which the object of this uid is the controller.
 fn controlled<'a>(

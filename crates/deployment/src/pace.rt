@@ -2,11 +2,15 @@
 ghost use Rattle.std.specs.Prelude.{◌≡◌};
 ghost use Rattle.definitions.specs.declared.amounts.Amount.TheVariants.{Pods, Percent};
 ghost use Rattle.plans.specs.Counts.{not_below_0};
+ghost use Rattle.plans.specs.Deployments.{pace_of, rolling_amount};
 ghost use Rattle.plans.specs.Rollouts.{at_least_one, pace, rounded_down, rounded_up};
 
-use crate::counts::not_below_0;
+use amounts::amount;
 use definitions::amounts::Amount;
+use meta::Object;
 use plans::Pace;
+use readings::in_spec;
+use reports::{count_in_spec, not_below_0};
 
 /// Returns so many of the replicas, where a part of a pod counts as a pod.
 fn rounded_up(amount: Amount, replicas: u64) -> u128
@@ -29,7 +33,7 @@ fn rounded_down(amount: Amount, replicas: u64) -> u128
 }
 
 /// Returns the pace of a rolling update of so many replicas.
-pub(crate) fn pace(replicas: u64, surge: Amount, unavailable: Amount) -> Pace
+fn pace(replicas: u64, surge: Amount, unavailable: Amount) -> Pace
     ensures { result ≡ pace replicas surge unavailable }
 {
     let above = rounded_up(surge, replicas);
@@ -40,4 +44,30 @@ pub(crate) fn pace(replicas: u64, surge: Amount, unavailable: Amount) -> Pace
         surge: above,
         unavailable: below.min(replicas as u128) as u64,
     }
+}
+
+/// Returns an amount of the rolling update, which is no pods where it is not there.
+fn rolling_amount(name: &str, deployment: &Object) -> Amount
+    ensures { result ≡ rolling_amount name.now deployment.now.value }
+{
+    let Some(strategy) = in_spec(deployment, "strategy") else {
+        return Amount::Pods(0);
+    };
+    let Some(rolling) = strategy.get("rollingUpdate") else {
+        return Amount::Pods(0);
+    };
+    match rolling.get(name) {
+        Some(found) => amount(found).unwrap_or(Amount::Pods(0)),
+        None => Amount::Pods(0),
+    }
+}
+
+/// Returns the pace at which a Deployment replaces its pods.
+pub(crate) fn pace_of(deployment: &Object) -> Pace
+    ensures { result ≡ pace_of deployment.now.value }
+{
+    let replicas = count_in_spec(deployment, "replicas");
+    let surge = rolling_amount("maxSurge", deployment);
+    let unavailable = rolling_amount("maxUnavailable", deployment);
+    pace(replicas, surge, unavailable)
 }

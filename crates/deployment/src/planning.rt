@@ -3,26 +3,26 @@ ghost use Rattle.std.specs.Prelude.{◌≡◌, IfOk, codes, is_some, map};
 ghost use Rattle.definitions.specs.Checks.{in_spec};
 ghost use Rattle.definitions.specs.Defaults.{is_rolling_update};
 ghost use Rattle.definitions.specs.History.{found};
-ghost use Rattle.definitions.specs.SelectorValues.{passes};
+ghost use Rattle.definitions.specs.SelectorValues.{is_some_and};
 ghost use Rattle.keys.specs.Keys.{key_of};
 ghost use Rattle.plans.specs.Deployments.{asks, count_collision, go_on, is_going_on, is_name_taken, plan, plan_for, plan_of, summary};
-ghost use Rattle.deployment.specs.Lent.{data_of};
+ghost use Rattle.readings.specs.Lent.{data_of};
 ghost use Rattle.deployment.specs.Sets.{rollout_seen};
 ghost use Rattle.turns.specs.Commands.{command_of, commands_of};
 ghost use Rattle.turns.specs.Hands.{hand_of, looks_by, members_of};
 
-use crate::counts::count_in_status;
 use crate::making::new_name;
 use crate::managed::sets_of;
-use crate::objects::in_spec;
 use crate::recreating::recreate;
 use crate::rolling::roll;
 use crate::rollout::{Rollout, rollout_of};
-use crate::statuses::{add_report, add_update, status, summary};
+use crate::statuses::{add_report, summary};
 use json_values::values::whole_number;
 use keys::Key;
 use meta::{Kind, Object};
 use plans::Summary;
+use readings::in_spec;
+use reports::{add_update, count_in_status, status};
 use std::alloc::{AllocError, Global};
 use turns::{Command, Hand, Looks, Plan, Seen};
 
@@ -42,7 +42,7 @@ fn is_going_on(deployment: &Object) -> bool
 
 /// Returns whether the strategy of a Deployment is a rolling update.
 fn is_rolling_update(deployment: &Object) -> bool
-    ensures { result ≡ passes is_rolling_update (in_spec (codes "strategy") deployment.now.value) }
+    ensures { result ≡ is_some_and is_rolling_update (in_spec (codes "strategy") deployment.now.value) }
 {
     match in_spec(deployment, "strategy") {
         Some(strategy) => match strategy.get("type") {

@@ -11,14 +11,14 @@ ghost use Rattle.turns.specs.Entries.{entry_of};
 ghost use Rattle.turns.specs.Hands.{members_of};
 
 use crate::cleaning::clean_up;
-use crate::counts::count_in_spec;
 use crate::making::make;
 use crate::managed::managed;
-use crate::objects::{in_status, text_in};
 use crate::rollout::{Rollout, due};
 use crate::scaling::{renew, scale_each};
 use meta::Object;
 use plans::Summary;
+use readings::{in_status, text_in};
+use reports::count_in_spec;
 use std::alloc::{AllocError, Global};
 use turns::{Command, Entry, Seen};
 

@@ -8,8 +8,9 @@ ghost use Rattle.definitions.specs.Moments.{is_digit};
 ghost use Rattle.definitions.specs.Values.{inner_of, members_of};
 ghost use Rattle.plans.specs.Revisions.{annotated, is_revision, raised, revision, revision_said, with_revision};
 
-use crate::objects::{inner, text_in};
+use amounts::digits::{has_digits, number_of};
 use meta::Object;
+use readings::{inner, text_in};
 use serde_json::Value;
 use std::alloc::{AllocError, Global};
 
@@ -18,28 +19,6 @@ const REVISION: &str = "deployment.kubernetes.io/revision";
 
 /// The most digits of a revision.
 const MOST_DIGITS: usize = 18;
-
-/// Returns whether a text has only digits.
-pub(crate) fn has_digits(text: &str) -> bool
-    ensures { result ≡ list_all is_digit text.now }
-{
-    text.bytes().all(|byte| b'0' <= byte && byte <= b'9')
-}
-
-/// Returns the number of so few digits.
-#[tactic(auto, using(crate::proofs::Digits::is_small))]
-fn number_of(digits: &str) -> u64
-    requires digits { list_all is_digit digits.now ≡ true }
-    requires there { 0 < length digits.now }
-    requires few { length digits.now ≤ 18 }
-    ensures value { result ≡ digits_value 10 digits.now }
-    ensures small { result < 2 ^ 60 }
-{
-    match digits.parse::<u64>() {
-        Ok(number) => number,
-        Err(_) => 0,
-    }
-}
 
 fn revision_said(text: &str) -> u64
     ensures value { result ≡ revision_said text.now }

@@ -7,9 +7,9 @@ ghost use Rattle.deployment.specs.Sets.{rollout_seen};
 ghost use Rattle.turns.specs.Commands.{command_of};
 ghost use Rattle.turns.specs.Entries.{entry_of};
 
-use crate::amounts::pace_of;
 use crate::cleaning::clean_up;
 use crate::making::make;
+use crate::pace::pace_of;
 use crate::rollout::{Rollout, due, tallies, tally};
 use crate::rollouts::{growth, resized, shrunk, total_asked};
 use crate::scaling::{renew, scale_each};

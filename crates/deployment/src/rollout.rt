@@ -9,12 +9,12 @@ ghost use Rattle.plans.specs.Templates.{bare};
 ghost use Rattle.deployment.specs.Sets.{rollout_seen};
 ghost use Rattle.turns.specs.Entries.{entry_of};
 
-use crate::counts::{count_in_spec, count_in_status};
 use crate::revisions::revision;
 use crate::templates::bare_text;
 use keys::Key;
 use meta::Object;
 use plans::Tally;
+use reports::{count_in_spec, count_in_status};
 use std::alloc::{AllocError, Global};
 use turns::Entry;
 

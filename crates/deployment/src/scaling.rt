@@ -4,9 +4,9 @@ ghost use Rattle.plans.specs.Deployments.{renew, scale, scale_each};
 ghost use Rattle.turns.specs.Commands.{command_of};
 ghost use Rattle.turns.specs.Entries.{entry_of};
 
-use crate::counts::count_in_spec;
 use crate::edits::with_replicas;
 use crate::revisions::{raised, revision};
+use reports::count_in_spec;
 use std::alloc::{AllocError, Global};
 use turns::{Command, Entry};
 

@@ -11,23 +11,13 @@ ghost use Rattle.deployment.specs.Sets.{rollout_seen};
 ghost use Rattle.turns.specs.Commands.{command_of};
 ghost use Rattle.turns.specs.Entries.{entry_of};
 
-use crate::counts::count_in_status;
-use crate::objects::inner;
 use crate::rollout::{Rollout, all_sets, tallies};
 use crate::rollouts::total_asked;
-use json_values::values::whole_number;
-use keys::Key;
 use meta::Object;
 use plans::Summary;
+use reports::{count_in_status, status};
 use std::alloc::{AllocError, Global};
 use turns::{Command, Entry};
-
-/// Returns a copy of an object's status. The error is running out of memory.
-pub(crate) fn status(alloc: Global, holder: &Object) -> Result<Object, AllocError>
-    ensures { IfOk result (λ o. o.value ≡ object (status holder.now.value)) }
-{
-    inner(alloc, holder.kind(), holder.member("status"))
-}
 
 /// Returns the sum of a count of the status of sets.
 fn sum_of(name: &str, sets: &[Entry<'_>]) -> u128
@@ -89,8 +79,7 @@ pub(crate) fn summary(alloc: Global, rollout: &Rollout<'_>) -> Result<Summary, A
 fn with_count(alloc: Global, earlier: Object, name: &str, count: u128) -> Result<Object, AllocError>
     ensures { IfOk result (λ o. o.value ≡ object (put name.now (counted count) (members_of earlier.value))) }
 {
-    let count = count.min(u64::MAX as u128) as u64;
-    earlier.set_member(alloc, name, whole_number(alloc, count)?)
+    reports::with_count(alloc, earlier, name, count.min(u64::MAX as u128) as u64)
 }
 
 /// Returns a status with these counts. The error is running out of memory.
@@ -110,33 +99,6 @@ fn with_summary(alloc: Global, status: Object, counts: Summary) -> Result<Object
     with_count(alloc, status, "replicas", counts.replicas)
 }
 
-/// Returns whether two objects say the same.
-fn says_the_same(alloc: Global, one: &Object, other: &Object) -> Result<bool, AllocError>
-    ensures { IfOk result (λ b. b ≡ says_the_same one.now.value other.now.value) }
-{
-    let one = one.text(alloc)?;
-    let other = other.text(alloc)?;
-    Ok(one.as_str() == other.as_str())
-}
-
-/// Adds the command that updates an object's status, at the version that was looked at. The error is running out of memory.
-pub(crate) fn add_update(
-    alloc: Global,
-    key: &Key,
-    object: &Object,
-    status: Object,
-    commands: &mut Vec<Command>,
-) -> Result<(), AllocError>
-    ensures { OnOk result (map command_of commands.new.items ≡ map command_of commands.old.items
-        ++ update_status (key_of key.now) (with_status (members_of status.value) object.now.value) ∷ []) }
-{
-    let copy = object.try_copy()?;
-    let object = copy.set_member(alloc, "status", status.into_value())?;
-    let key = key.try_copy()?;
-    commands.push(Command::UpdateStatus { key, object })?;
-    Ok(())
-}
-
 /// Adds the command that updates the status of a Deployment, where it changes. The error is running out of memory.
 pub(crate) fn add_report(
     alloc: Global,
@@ -148,10 +110,6 @@ pub(crate) fn add_report(
     ensures { OnOk result (map command_of commands.new.items
         ≡ map command_of commands.old.items ++ report (rollout_seen rollout.now)) }
 {
-    let now = status(alloc, rollout.deployment)?;
     let new = with_summary(alloc, status(alloc, rollout.deployment)?, counts)?;
-    if says_the_same(alloc, &now, &new)? {
-        return Ok(());
-    }
-    add_update(alloc, rollout.key, rollout.deployment, new, commands)
+    reports::add_report(alloc, rollout.key, rollout.deployment, new, commands)
 }

@@ -8,9 +8,9 @@ ghost use Rattle.definitions.specs.Values.{members_of, without};
 ghost use Rattle.plans.specs.NewPods.{template};
 ghost use Rattle.plans.specs.Templates.{bare, bare_metadata, hash_label, with_filled};
 
-use crate::objects::{blank, in_spec, inner};
 use json_values::members::{into_members, remove};
 use meta::Object;
+use readings::{blank, in_spec, inner};
 use serde_json::{Map, Value};
 use std::alloc::{AllocError, Global};
 

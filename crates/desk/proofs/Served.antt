@@ -1,6 +1,6 @@
 -- What a served request says of its outcome.
 use Rattle.std.proofs.Common.{◌≡◌, ℕ, List, false, Option, Some, Ok, IfSome, option_map, sym, ap, ◌∙◌, subst}
-use Rattle.definitions.specs.History.{Members}
+use Rattle.definitions.specs.History.{Entries}
 use Rattle.definitions.specs.Verbs as outcomes
 use Rattle.definitions.specs.Verbs.{Outcome, answered, refused, accept_at, overflows}
 use Rattle.definitions.specs.ObjectRequests.{Request}
@@ -15,7 +15,7 @@ served_write (answered a) r w is = is.write
 served_write (refused f) r w is = absurd is
 
 -- what is served has room
-pub served_room : (ms : Members) (r : ℕ) (moment : List ℕ) (q : Request) (reply : Reply) (o : Option Write) (w : Write) → Serves (accept_at q ms r moment) (Ok (reply, o)) → o ≡ Some w
+pub served_room : (ms : Entries) (r : ℕ) (moment : List ℕ) (q : Request) (reply : Reply) (o : Option Write) (w : Write) → Serves (accept_at q ms r moment) (Ok (reply, o)) → o ≡ Some w
     → overflows ms r (write_of w) ≡ false
 served_room ms r moment q reply o w is at =
     let written : Some (write_of w) ≡ outcomes.write_of (accept_at q ms r moment) = sym (ap (option_map write_of) at) ∙ served_write (accept_at q ms r moment) reply o is in

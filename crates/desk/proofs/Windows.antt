@@ -6,7 +6,7 @@ use Rattle.std.specs.Map.{keys_of}
 use Rattle.definitions.specs.declared.kinds.Kind.{Kind}
 use Rattle.definitions.specs.Kinds.{rank}
 use Rattle.definitions.specs.Keys.{Key, key_cmp}
-use Rattle.definitions.specs.History.{Members, Write, after}
+use Rattle.definitions.specs.History.{Entries, Write, after}
 use Rattle.server_state.specs.Servers.{Server, opened_server, window_of, with_window, change_at, after_write}
 use Rattle.server_state.specs.Snapshots.{Snapshot, empty, written}
 use Rattle.definitions.specs.Windows.{Change, last_revision}
@@ -17,16 +17,16 @@ use Rattle.desk.specs.Standing.{IsUpTo, IsStanding}
 
 -- ---- members in order
 
-above_from : (k : Key) (ms : Members) → AllByRecursion (λ y. key_cmp k y ≡ Less) (keys_of ms) → IsAbove key_cmp k ms
+above_from : (k : Key) (ms : Entries) → AllByRecursion (λ y. key_cmp k y ≡ Less) (keys_of ms) → IsAbove key_cmp k ms
 above_from k [] a = tt
 above_from k (m ∷ ms) a = (a.0, above_from k ms a.1)
 
-pub ascending_from : (ms : Members) → IsStrictlySortedBy key_cmp (keys_of ms) → IsAscending key_cmp ms
+pub ascending_from : (ms : Entries) → IsStrictlySortedBy key_cmp (keys_of ms) → IsAscending key_cmp ms
 unfolding IsStrictlySortedBy
 ascending_from [] s = tt
 ascending_from (m ∷ ms) s = (above_from m.0 ms s.0, ascending_from ms s.1)
 
-in_order_after : (ms : Members) (w : Write) → IsStrictlySortedBy key_cmp (keys_of ms) → IsStrictlySortedBy key_cmp (keys_of (after ms w))
+in_order_after : (ms : Entries) (w : Write) → IsStrictlySortedBy key_cmp (keys_of ms) → IsStrictlySortedBy key_cmp (keys_of (after ms w))
 in_order_after ms w s = sorted_from (after ms w) (IsAscending-after w.key w.put ms (ascending_from ms s))
 
 -- ---- the last revision of a window

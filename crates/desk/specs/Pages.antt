@@ -1,6 +1,6 @@
 -- A reply that is a page of a list.
 use Rattle.std.specs.Prelude.{◌==◌, ℕ, Option, None, Some, if◌then◌else◌}
-use Rattle.definitions.specs.History.{View, Members}
+use Rattle.definitions.specs.History.{View, Entries}
 use Rattle.definitions.specs.Lists.{is_selective, page_body, told_count}
 use Rattle.definitions.specs.Pages.{Place, last_place, page_of}
 use Rattle.definitions.specs.Versions.{listed_as}
@@ -10,7 +10,7 @@ use Rattle.reply.specs.declared.reply.Reply.{Reply}
 use Rattle.desk.specs.Replies.{Says}
 
 -- the answer with these items of a list at revision r, after which so many are left
-abbrev pub page_with : ℕ → View → Members → ℕ → Answer
+abbrev pub page_with : ℕ → View → Entries → ℕ → Answer
 page_with r v items left =
     record {
       code = 200;
@@ -18,11 +18,11 @@ page_with r v items left =
       write = None;
     }
 
-abbrev pub ShowsPage : ℕ → View → Members → ℕ → Reply → Type 0
+abbrev pub ShowsPage : ℕ → View → Entries → ℕ → Reply → Type 0
 ShowsPage r v items left reply = Says (page_with r v items left) reply
 
 -- the answer with the page of a list at revision r after a place
-abbrev pub page_at : ℕ → View → Members → ℕ → Option Place → Answer
+abbrev pub page_at : ℕ → View → Entries → ℕ → Option Place → Answer
 page_at r v listed limit after =
     record {
       code = 200;
@@ -30,5 +30,5 @@ page_at r v listed limit after =
       write = None;
     }
 
-abbrev pub IsPageAt : ℕ → View → Members → ℕ → Option Place → Reply → Type 0
+abbrev pub IsPageAt : ℕ → View → Entries → ℕ → Option Place → Reply → Type 0
 IsPageAt r v listed limit after reply = Says (page_at r v listed limit after) reply

@@ -4,10 +4,10 @@ ghost use Rattle.serde_json.specs.Data.{Members, string, array, put};
 ghost use Rattle.serde_json.specs.View.{items_view};
 ghost use Rattle.serde_json.specs.Written.{items_have_float};
 ghost use Rattle.serde_json.specs.Find.{get_member};
-ghost use Rattle.definitions.specs.Defaults.{whole};
+ghost use Rattle.definitions.specs.Defaults.{unsigned_value};
 ghost use Rattle.definitions.specs.Metadata.{metadata_of, with_metadata};
 ghost use Rattle.definitions.specs.Values.{without};
-ghost use Rattle.definitions.specs.Replacements.{as_held};
+ghost use Rattle.definitions.specs.Replacements.{as_stored};
 
 use definitions::kinds::Kind;
 use json_values::members::{into_members, remove, take};
@@ -86,7 +86,7 @@ impl Draft {
 
     /// Sets the member `name` of the metadata to a whole number. The error, running out of memory, leaves the draft as it was.
     pub fn set_count(&mut self, alloc: Global, name: &str, count: u64) -> Result<(), AllocError>
-        ensures metadata { OnOk result (self.new.metadata ≡ put name.now (whole count) self.old.metadata) }
+        ensures metadata { OnOk result (self.new.metadata ≡ put name.now (unsigned_value count) self.old.metadata) }
         ensures rest { self.new.rest ≡ self.old.rest }
         ensures kind { self.new.kind ≡ self.old.kind }
         ensures err { OnErr result (self.new ≡ self.old) }
@@ -115,7 +115,7 @@ impl Draft {
     /// running out of memory, leaves the draft as it was.
     pub fn keep(&mut self, alloc: Global, name: &str, existing: &Object) -> Result<(), AllocError>
         ensures metadata { OnOk result (self.new.metadata
-            ≡ as_held name.now (get_member name.now (metadata_of existing.now.value)) self.old.metadata) }
+            ≡ as_stored name.now (get_member name.now (metadata_of existing.now.value)) self.old.metadata) }
         ensures rest { self.new.rest ≡ self.old.rest }
         ensures kind { self.new.kind ≡ self.old.kind }
         ensures err { OnErr result (self.new ≡ self.old) }

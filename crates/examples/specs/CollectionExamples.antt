@@ -2,7 +2,7 @@
 use Rattle.std.specs.Prelude.{◌≡◌, ℕ, List, [], true, false, Some, None, Result, Ok, Err, codes}
 use Rattle.definitions.specs.declared.refusals.Part.{Part}
 use Rattle.definitions.specs.declared.refusals.Part.TheVariants as part
-use Rattle.definitions.specs.Collections.{Collection, list, watch, WatchOptions, collection_of}
+use Rattle.definitions.specs.ListQueries.{Collection, list, watch, WatchOptions, collection_of}
 use Rattle.definitions.specs.Queries.{pairs_of}
 use Rattle.definitions.specs.declared.versions.At.{At}
 use Rattle.definitions.specs.declared.versions.At.TheVariants.{Present, NotOlder, Exact}

@@ -4,19 +4,19 @@ use Rattle.definitions.specs.declared.kinds.Kind.{Kind}
 use Rattle.definitions.specs.declared.kinds.Kind.TheVariants.{ConfigMap, Pod, ReplicaSet, Deployment}
 use Rattle.definitions.specs.declared.policies.Policy.{Policy}
 use Rattle.definitions.specs.declared.policies.Policy.TheVariants.{Orphan, Foreground, Background}
-use Rattle.definitions.specs.History.{History, Members, members, present, state, list, whole}
+use Rattle.definitions.specs.History.{History, Entries, entries_at, present, state, list, unfiltered}
 use Rattle.definitions.specs.Keys.{Key}
 use Rattle.definitions.specs.Metadata.{Owner, owners, version}
 use Rattle.definitions.specs.Verbs.{accept, outcome_code, outcome_body, history_after}
 use Rattle.line_protocol.specs.Lines.{history_of, lines_of}
-use Rattle.controllers.specs.Commands.{Command, create, update, update_status, delete, asked, Version, seen, answered}
+use Rattle.controllers.specs.Commands.{Command, create, update, update_status, delete, request_of, Version, seen, answered}
 use Rattle.controllers.specs.Hands.{Read, Hand}
-use Rattle.plans.specs.Collections.{asks, plan}
+use Rattle.plans.specs.GarbageCollection.{asks, plan}
 
 -- ---- a whole turn, while nobody else writes
 
-abbrev now : History → Kind → Members
-now h k = list h (whole k None) (present h)
+abbrev now : History → Kind → Entries
+now h k = list h (unfiltered k None) (present h)
 
 abbrev read_now : History → Key → Read
 read_now h k = record { key = k; found = state h (present h) k }
@@ -58,7 +58,7 @@ abbrev owners_text : List Owner → List ℕ
 owners_text [] = codes "\n"
 owners_text (o ∷ os) = codes " " ++ (unwrap_or o.name [] ++ owners_text os)
 
-abbrev members_text : Members → List ℕ
+abbrev members_text : Entries → List ℕ
 members_text [] = []
 members_text (m ∷ ms) = m.0.name ++ (owners_text (owners m.1) ++ members_text ms)
 
@@ -67,9 +67,9 @@ moment = codes "2026-01-01T00:00:00Z"
 
 -- the commands one after another, each with the code that it is answered, and what is there after all
 abbrev issued : History → Option (List ℕ) → List Command → List ℕ
-issued h before [] = codes "then\n" ++ members_text (members h (present h))
+issued h before [] = codes "then\n" ++ members_text (entries_at h (present h))
 issued h before (c ∷ cs) =
-    let o = accept (asked before c) h moment in
+    let o = accept (request_of before c) h moment in
     command_text c ++ (codes ": " ++ (decimal (outcome_code o) ++ (codes "\n" ++ issued (history_after h o) (version (outcome_body o)) cs)))
 
 abbrev turn_at : History → Key → List ℕ

@@ -4,7 +4,7 @@ use Rattle.serde_json.specs.Data.{Data, null}
 use Rattle.serde_json.specs.Written.{compact_text}
 use Rattle.definitions.specs.declared.kinds.Kind.{Kind}
 use Rattle.definitions.specs.declared.kinds.Kind.TheVariants.{Pod, ReplicaSet, Deployment}
-use Rattle.definitions.specs.Checks.{in_spec, text_of}
+use Rattle.definitions.specs.Checks.{in_spec, text_or_empty}
 use Rattle.definitions.specs.Keys.{Key}
 use Rattle.definitions.specs.Metadata.{name, version, metadata}
 use Rattle.definitions.specs.Values.{get, data_of}
@@ -75,8 +75,8 @@ hand d ss ps =
 abbrev pub line : Command → List ℕ
 line (create k ns d) = codes "create " ++ ns ++ codes " " ++ compact_text d
 line (update k d) =
-    codes "update " ++ k.name ++ codes " at " ++ unwrap_or (version d) [] ++ codes ": " ++ text_of (in_spec (codes "replicas") d) ++ codes " " ++ text_of (metadata (codes "annotations") d)
-line (update_status k d) = codes "status at " ++ unwrap_or (version d) [] ++ codes ": " ++ text_of (get (codes "status") d)
+    codes "update " ++ k.name ++ codes " at " ++ unwrap_or (version d) [] ++ codes ": " ++ text_or_empty (in_spec (codes "replicas") d) ++ codes " " ++ text_or_empty (metadata (codes "annotations") d)
+line (update_status k d) = codes "status at " ++ unwrap_or (version d) [] ++ codes ": " ++ text_or_empty (get (codes "status") d)
 line (delete k u v p) = codes "delete " ++ k.name ++ codes " " ++ unwrap_or u []
 
 abbrev pub commanded : Hand → List (List ℕ)

@@ -2,7 +2,7 @@
 use Rattle.std.specs.Prelude.{◌≡◌, ℕ, List, [], ◌∷◌, ◌++◌, map, None, true, false, Result, Ok, Err, codes}
 use Rattle.std.specs.Result.{result_map_both}
 use Rattle.definitions.specs.declared.kinds.Kind.TheVariants.{ConfigMap, Pod}
-use Rattle.definitions.specs.History.{View, whole}
+use Rattle.definitions.specs.History.{View, unfiltered}
 use Rattle.definitions.specs.Refusals.{Refusal, expired, too_new}
 use Rattle.definitions.specs.Streams.{Line, event, bookmark, initial, initial_end}
 use Rattle.definitions.specs.Versions.{Watched, watched_from}
@@ -10,7 +10,7 @@ use Rattle.definitions.specs.WatchReplies.{lines_from, watch_lines}
 use Rattle.examples.specs.WindowExamples.{named, stored, puts, six_writes, config_maps}
 
 abbrev pods : View
-pods = whole Pod None
+pods = unfiltered Pod None
 
 -- what a line says of itself: the revision of a change or of a bookmark, 0 of an object that was there
 abbrev said : Line → ℕ

@@ -3,7 +3,7 @@ use Rattle.std.specs.Prelude.{◌≡◌, ℕ, List, [], ◌∷◌, Option, Some,
 use Rattle.serde_json.specs.Data.{Data, string, boolean, array, object, no_items, item, no_members, member, Members as Fields}
 use Rattle.definitions.specs.declared.kinds.Kind.{Kind}
 use Rattle.definitions.specs.declared.kinds.Kind.TheVariants.{Pod, ReplicaSet, Deployment}
-use Rattle.definitions.specs.History.{Members}
+use Rattle.definitions.specs.History.{Entries}
 use Rattle.definitions.specs.Keys.{Key}
 use Rattle.controllers.specs.declared.controller.Controller.{Controller}
 use Rattle.controllers.specs.declared.controller.Controller.TheVariants as controller
@@ -74,7 +74,7 @@ web = web_with (codes "u-web") (codes "web") no_members
 abbrev web_being_deleted : Data
 web_being_deleted = web_with (codes "u-web") (codes "web") (member (codes "deletionTimestamp") (string (codes "2026-01-01T00:00:00Z")) no_members)
 
-abbrev looks : Members → Members → Looks
+abbrev looks : Entries → Entries → Looks
 looks pods sets = record { config_maps = []; pods = pods; replica_sets = sets; deployments = [] }
 
 -- only this ReplicaSet is there, or nothing

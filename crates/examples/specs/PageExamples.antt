@@ -3,14 +3,14 @@ use Rattle.std.specs.Prelude.{◌≡◌, ℕ, List, [], ◌∷◌, map, Option, 
 use Rattle.serde_json.specs.Data.{Data, null}
 use Rattle.definitions.specs.declared.kinds.Kind.TheVariants.{ConfigMap}
 use Rattle.definitions.specs.Keys.{Key}
-use Rattle.definitions.specs.History.{Members}
+use Rattle.definitions.specs.History.{Entries}
 use Rattle.definitions.specs.Pages.{Place, Page, page_of, remaining}
 use Rattle.definitions.specs.PageTokens.{token_text}
 
 abbrev entry : List ℕ → Key × Data
 entry name = (record { kind = ConfigMap; namespace = codes "default"; name = name }, null)
 
-abbrev five : Members
+abbrev five : Entries
 five = map entry (codes "a" ∷ codes "b" ∷ codes "c" ∷ codes "d" ∷ codes "e" ∷ [])
 
 abbrev at : List ℕ → Option Place

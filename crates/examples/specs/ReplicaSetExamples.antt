@@ -6,7 +6,7 @@ use Rattle.serde_json.specs.Read.{read}
 use Rattle.serde_json.specs.Written.{compact_text}
 use Rattle.definitions.specs.declared.kinds.Kind.{Kind}
 use Rattle.definitions.specs.declared.kinds.Kind.TheVariants.{Pod, ReplicaSet}
-use Rattle.definitions.specs.History.{Members}
+use Rattle.definitions.specs.History.{Entries}
 use Rattle.definitions.specs.Keys.{Key}
 use Rattle.definitions.specs.Metadata.{name, namespace}
 use Rattle.controllers.specs.Commands.{Command, create, update, update_status, delete}
@@ -72,7 +72,7 @@ read_as t = unwrap_or (read t) null
 abbrev pub named : Kind → Data → Key × Data
 named k d = (record { kind = k; namespace = unwrap_or (namespace d) []; name = unwrap_or (name d) [] }, d)
 
-abbrev pub all_named : Kind → List (List ℕ) → Members
+abbrev pub all_named : Kind → List (List ℕ) → Entries
 all_named k ts = map (λ t. named k (read_as t)) ts
 
 abbrev pub web_key : Key

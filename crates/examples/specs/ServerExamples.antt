@@ -2,7 +2,7 @@
 use Rattle.std.specs.Prelude.{◌≡◌, ℕ, List, [], ◌∷◌, ◌++◌, map, None, Result, Ok, Err, codes}
 use Rattle.std.specs.Result.{result_map_both}
 use Rattle.definitions.specs.declared.kinds.Kind.TheVariants.{ConfigMap, Pod}
-use Rattle.definitions.specs.History.{View, Members, whole}
+use Rattle.definitions.specs.History.{View, Entries, unfiltered}
 use Rattle.definitions.specs.Refusals.{Refusal, expired, too_new}
 use Rattle.definitions.specs.Streams.{bookmark}
 use Rattle.definitions.specs.declared.versions.At.TheVariants.{Present, NotOlder, Exact}
@@ -12,10 +12,10 @@ use Rattle.server_state.specs.Servers.{Server, opened_server, after_entries, aft
 use Rattle.examples.specs.WindowExamples.{named, stored, puts, six_writes, config_maps, at_three, at_five}
 
 abbrev pods : View
-pods = whole Pod None
+pods = unfiltered Pod None
 
 -- `b` is removed at 6, and `a` is put at 7
-abbrev at_seven : Members
+abbrev at_seven : Entries
 at_seven = (named ConfigMap (codes "a"), stored (codes "a") (codes "7")) ∷ (named ConfigMap (codes "c"), stored (codes "c") (codes "5")) ∷ []
 
 -- a server with windows of four that has taken in the six writes, at revisions 2 to 7

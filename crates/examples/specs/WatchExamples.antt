@@ -5,17 +5,17 @@ use Rattle.definitions.specs.declared.kinds.Kind.TheVariants.{ConfigMap, Pod, De
 use Rattle.definitions.specs.declared.frames.FrameKind.TheVariants.{Added, Error}
 use Rattle.controllers.specs.declared.frame_fault.FrameFault.TheVariants.{NotAFrame}
 use Rattle.definitions.specs.Keys.{Key}
-use Rattle.definitions.specs.History.{History, View, whole, write, compaction}
+use Rattle.definitions.specs.History.{History, View, unfiltered, write, compaction}
 use Rattle.definitions.specs.Refusals.{too_new}
 use Rattle.definitions.specs.Events.{events as changes}
 use Rattle.definitions.specs.Frames.{frame_text, bookmark_frame, error_frame}
 use Rattle.controllers.specs.ReadFrames.{reading}
-use Rattle.definitions.specs.Streams.{event, text_of}
+use Rattle.definitions.specs.Streams.{event, text_of_lines}
 use Rattle.form_urlencoded.specs.Form.{raw_pairs}
 use Rattle.line_protocol.specs.Lines.{replay}
 use Rattle.definitions.specs.declared.refusals.Part.{Part}
 use Rattle.definitions.specs.declared.refusals.Part.TheVariants as part
-use Rattle.definitions.specs.Collections.{Collection, watch, everything, collection_of}
+use Rattle.definitions.specs.ListQueries.{Collection, watch, everything, collection_of}
 use Rattle.definitions.specs.declared.selectors.Operator.TheVariants.{In, DoesNotExist}
 use Rattle.definitions.specs.declared.selectors.SelectableField.TheVariants.{Name as NameField}
 
@@ -40,7 +40,7 @@ some_history =
     ∷ []
 
 abbrev in_default : View
-in_default = whole ConfigMap (Some (codes "default"))
+in_default = unfiltered ConfigMap (Some (codes "default"))
 
 abbrev added_a : List ℕ
 added_a = codes "{\"object\":{\"data\":{\"k\":\"v\"},\"metadata\":{\"name\":\"a\",\"resourceVersion\":\"2\"}},\"type\":\"ADDED\"}\n"
@@ -56,17 +56,17 @@ deleted_a = codes "{\"object\":{\"data\":{\"k\":\"w\"},\"metadata\":{\"name\":\"
 
 -- a create, an update and a removal are seen as ADDED, MODIFIED and DELETED, the last at its own revision
 abbrev pub WritesAreSeen : Type 0
-WritesAreSeen = text_of ConfigMap (map event (changes some_history in_default 1 5)) ≡ added_a ++ (modified_a ++ deleted_a)
+WritesAreSeen = text_of_lines ConfigMap (map event (changes some_history in_default 1 5)) ≡ added_a ++ (modified_a ++ deleted_a)
 
 -- a view of all namespaces sees all of them, one of another kind none
 abbrev pub ViewsAreKept : Type 0
 ViewsAreKept =
-    (text_of ConfigMap (map event (changes some_history (whole ConfigMap None) 1 5)) ≡ added_a ++ (modified_a ++ (added_b ++ deleted_a)))
-    × (changes some_history (whole Pod None) 1 5 ≡ [])
+    (text_of_lines ConfigMap (map event (changes some_history (unfiltered ConfigMap None) 1 5)) ≡ added_a ++ (modified_a ++ (added_b ++ deleted_a)))
+    × (changes some_history (unfiltered Pod None) 1 5 ≡ [])
 
 -- a watch from revision 2 to 4 sees neither the create before it nor the removal after it, and one from the present revision nothing
 abbrev pub WatchesBegin : Type 0
-WatchesBegin = (text_of ConfigMap (map event (changes some_history in_default 2 4)) ≡ modified_a) × (changes some_history in_default 5 5 ≡ [])
+WatchesBegin = (text_of_lines ConfigMap (map event (changes some_history in_default 2 4)) ≡ modified_a) × (changes some_history in_default 5 5 ≡ [])
 
 -- a bookmark, and the one that closes the initial events
 abbrev pub BookmarksAreSaid : Type 0

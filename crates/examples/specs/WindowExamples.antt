@@ -4,7 +4,7 @@ use Rattle.serde_json.specs.Data.{Data, string, object, no_members, member}
 use Rattle.definitions.specs.declared.kinds.Kind.{Kind}
 use Rattle.definitions.specs.declared.kinds.Kind.TheVariants.{ConfigMap, Pod}
 use Rattle.definitions.specs.Keys.{Key}
-use Rattle.definitions.specs.History.{History, Entry, write, compaction, View, Members, whole, list}
+use Rattle.definitions.specs.History.{History, Entry, write, compaction, View, Entries, unfiltered, list}
 use Rattle.definitions.specs.Refusals.{Refusal, expired, too_new}
 use Rattle.definitions.specs.Events.{Event}
 use Rattle.definitions.specs.Windows.{Change, changes_of, floor, since, list_within}
@@ -35,12 +35,12 @@ six_writes =
     ∷ []
 
 abbrev pub config_maps : View
-config_maps = whole ConfigMap None
+config_maps = unfiltered ConfigMap None
 
-abbrev pub at_three : Members
+abbrev pub at_three : Entries
 at_three = (named ConfigMap (codes "a"), stored (codes "a") (codes "2")) ∷ (named ConfigMap (codes "b"), stored (codes "b") (codes "3")) ∷ []
 
-abbrev pub at_five : Members
+abbrev pub at_five : Entries
 at_five =
     (named ConfigMap (codes "a"), stored (codes "a") (codes "4"))
     ∷ (named ConfigMap (codes "b"), stored (codes "b") (codes "3"))

@@ -8,10 +8,10 @@ use Rattle.std.specs.BTreeMap.{is_at}
 use Rattle.std.specs.Map.{lookup}
 use Rattle.std.proofs.lemmas.Map.Text.{is_eq-slice_cmp}
 use Rattle.serde_json.specs.Data.{Data}
-use Rattle.definitions.specs.History.{Members, found}
+use Rattle.definitions.specs.History.{Entries, found}
 use Rattle.definitions.specs.Keys.{Key as Name, key_cmp as name_cmp, is_same_key}
 use Rattle.definitions.specs.Metadata.{Owner, owners}
-use Rattle.definitions.specs.SelectorValues.{passes}
+use Rattle.definitions.specs.SelectorValues.{is_some_and}
 use Rattle.controllers.specs.OwnerReferences.{is_owned_by, is_text}
 use Rattle.controllers.proofs.WorkKeyOrder.{name_total, name_tells}
 use Rattle.keys.specs.Keys.{key_of}
@@ -63,12 +63,12 @@ of_owners : (p : List ℕ × Name) (n : Name) (os : List Owner) → has_pair (fi
 of_owners p n [] = neither (is_same_key p.1 n) false refl
 of_owners p n (o ∷ os) = one_more p n o.uid (filter_map (link_to n) os) (list_any (λ (o : Owner). is_text p.0 o.uid) os) (of_owners p n os)
 
-of_object : (p : List ℕ × Name) (n : Name) (w : Option Data) → has_pair (links_at n w) p ≡ (is_same_key p.1 n && passes (is_owned_by p.0) w)
+of_object : (p : List ℕ × Name) (n : Name) (w : Option Data) → has_pair (links_at n w) p ≡ (is_same_key p.1 n && is_some_and (is_owned_by p.0) w)
 of_object p n None = neither (is_same_key p.1 n) false refl
 of_object p n (Some d) = of_owners p n (owners d)
 
 -- the links of an object are under its key, and of its owners
-pub has-at : (ls : List Link) (n : Name) (w : Option Data) → map link_of ls ≡ links_at n w → (q : Link) → has_link ls q ≡ (is_same_key (key_of q.key) n && passes (is_owned_by (string_bytes q.uid)) w)
+pub has-at : (ls : List Link) (n : Name) (w : Option Data) → map link_of ls ≡ links_at n w → (q : Link) → has_link ls q ≡ (is_same_key (key_of q.key) n && is_some_and (is_owned_by (string_bytes q.uid)) w)
 has-at ls n w is q = seen-has ls q ∙ ap (λ ps. has_pair ps (link_of q)) is ∙ of_object (link_of q) n w
 
 -- ---- one object changes
@@ -119,15 +119,15 @@ kept_at false a false true true b e g grown only = by a b (g refl)
 kept_at true a false s w b e g grown only = cc
 kept_at false a true s w b e g grown only = cc
 
-passes_cond : {A : Type 0} (test : A → Bool) (s : Bool) (w f : Option A) → cond s (passes test w) (passes test f) ≡ passes test (cond s w f)
+passes_cond : {A : Type 0} (test : A → Bool) (s : Bool) (w f : Option A) → cond s (is_some_and test w) (is_some_and test f) ≡ is_some_and test (cond s w f)
 passes_cond test true w f = refl
 passes_cond test false w f = refl
 
-at_one : (k n : Name) (ms : Members) (u : List ℕ) → is_same_key k n ≡ true → passes (is_owned_by u) (found k ms) ≡ passes (is_owned_by u) (found n ms)
-at_one k n ms u is = ap (λ k. passes (is_owned_by u) (found k ms)) (name_tells k n (is-Equal (name_cmp k n) is))
+at_one : (k n : Name) (ms : Entries) (u : List ℕ) → is_same_key k n ≡ true → is_some_and (is_owned_by u) (found k ms) ≡ is_some_and (is_owned_by u) (found n ms)
+at_one k n ms u is = ap (λ k. is_some_and (is_owned_by u) (found k ms)) (name_tells k n (is-Equal (name_cmp k n) is))
 
 -- the links of an object are added and then those that it had removed: they are those of the members with it
-pub index_changes : (old added new more gone : List Link) (ms ns : Members) (n : Name) (w : Option Data) → IsIndexOf old ms → map link_of more ≡ links_at n w → map link_of gone ≡ links_at n (found n ms)
+pub index_changes : (old added new more gone : List Link) (ms ns : Entries) (n : Name) (w : Option Data) → IsIndexOf old ms → map link_of more ≡ links_at n w → map link_of gone ≡ links_at n (found n ms)
     → HasLinks added old more → RemovesLinks new added gone more → ((q : Link) → found (key_of q.key) ns ≡ cond (is_same_key (key_of q.key) n) w (found (key_of q.key) ms)) → IsIndexOf new ns
 index_changes old added new more gone ms ns n w indexed mine had adds cuts put =
     record {
@@ -136,14 +136,14 @@ index_changes old added new more gone ms ns n w indexed mine had adds cuts put =
           let s = is_same_key (key_of q.key) n in
           cuts.has q ∙ ap (λ b. b && not (has_link gone q && not (has_link more q))) (adds.has q)
           ∙ ap (λ b. (has_link old q || b) && not (has_link gone q && not b)) (has-at more n w mine q)
-          ∙ ap (λ b. (has_link old q || (s && passes (is_owned_by u) w)) && not (b && not (s && passes (is_owned_by u) w))) (has-at gone n (found n ms) had q)
-          ∙ put_at (has_link old q) (passes (is_owned_by u) (found (key_of q.key) ms)) s (passes (is_owned_by u) w) (passes (is_owned_by u) (found n ms)) (indexed.exact q) (at_one (key_of q.key) n ms u)
+          ∙ ap (λ b. (has_link old q || (s && is_some_and (is_owned_by u) w)) && not (b && not (s && is_some_and (is_owned_by u) w))) (has-at gone n (found n ms) had q)
+          ∙ put_at (has_link old q) (is_some_and (is_owned_by u) (found (key_of q.key) ms)) s (is_some_and (is_owned_by u) w) (is_some_and (is_owned_by u) (found n ms)) (indexed.exact q) (at_one (key_of q.key) n ms u)
           ∙ passes_cond (is_owned_by u) s w (found (key_of q.key) ms)
-          ∙ ap (passes (is_owned_by u)) (sym (put q));
+          ∙ ap (is_some_and (is_owned_by u)) (sym (put q));
     }
 
 -- some of the links of an object are added, and then removed but for those that were there: the members are as they were
-pub index_stays : (old added new more gone : List Link) (ms : Members) (n : Name) (w : Option Data) → IsIndexOf old ms → map link_of more ≡ links_at n w → map link_of gone ≡ links_at n (found n ms)
+pub index_stays : (old added new more gone : List Link) (ms : Entries) (n : Name) (w : Option Data) → IsIndexOf old ms → map link_of more ≡ links_at n w → map link_of gone ≡ links_at n (found n ms)
     → AddsLinks added old more → RemovesLinks new added more gone → IsIndexOf new ms
 index_stays old added new more gone ms n w indexed mine had adds cuts =
     record {
@@ -151,8 +151,8 @@ index_stays old added new more gone ms n w indexed mine had adds cuts =
           let u = string_bytes q.uid in
           let s = is_same_key (key_of q.key) n in
           cuts.has q ∙ ap (λ b. has_link added q && not (b && not (has_link gone q))) (has-at more n w mine q)
-          ∙ ap (λ b. has_link added q && not ((s && passes (is_owned_by u) w) && not b)) (has-at gone n (found n ms) had q)
-          ∙ kept_at (has_link old q) (has_link added q) (passes (is_owned_by u) (found (key_of q.key) ms)) s (passes (is_owned_by u) w) (passes (is_owned_by u) (found n ms)) (indexed.exact q) (at_one (key_of q.key) n ms u)
+          ∙ ap (λ b. has_link added q && not ((s && is_some_and (is_owned_by u) w) && not b)) (has-at gone n (found n ms) had q)
+          ∙ kept_at (has_link old q) (has_link added q) (is_some_and (is_owned_by u) (found (key_of q.key) ms)) s (is_some_and (is_owned_by u) w) (is_some_and (is_owned_by u) (found n ms)) (indexed.exact q) (at_one (key_of q.key) n ms u)
           (adds.grown q) (λ none. adds.only q (has-at more n w mine q ∙ none));
     }
 

@@ -9,9 +9,9 @@ use Rattle.std.specs.Ordering.{ordering_then}
 use Rattle.std.specs.Cmp.Lexicographic.{slice_cmp}
 use Rattle.std.specs.BTreeMap.{is_at}
 use Rattle.serde_json.specs.Data.{Data}
-use Rattle.definitions.specs.History.{Members, found}
+use Rattle.definitions.specs.History.{Entries, found}
 use Rattle.definitions.specs.Keys.{Key as Name, key_cmp as name_cmp}
-use Rattle.definitions.specs.SelectorValues.{passes}
+use Rattle.definitions.specs.SelectorValues.{is_some_and}
 use Rattle.controllers.specs.Informers.{of_owner}
 use Rattle.controllers.specs.OwnerReferences.{is_owned_by}
 use Rattle.controllers.proofs.WorkKeyOrder.{name_tells}
@@ -40,7 +40,7 @@ abbrev shown : Key → SharedObject → Name × Data
 shown k o = (key_of k, o.value)
 
 -- what is found under the keys of links
-abbrev pub looked : List (Key × SharedObject) → List Link → Members
+abbrev pub looked : List (Key × SharedObject) → List Link → Entries
 looked es ls = filter_map (λ (l : Link). option_map (shown l.key) (lookup (is_at (key_cmp l.key)) es)) ls
 
 abbrev owned : List ℕ → SharedObject → Bool
@@ -111,7 +111,7 @@ has_kept u q is (l ∷ ls) =
         over true rest = rest
         over false rest = rest
 
-owned_at : (u : List ℕ) (o : Option SharedObject) → passes (is_owned_by u) (option_map data_of o) ≡ passes (owned u) o
+owned_at : (u : List ℕ) (o : Option SharedObject) → is_some_and (is_owned_by u) (option_map data_of o) ≡ is_some_and (owned u) o
 owned_at u None = refl
 owned_at u (Some o) = refl
 
@@ -122,5 +122,5 @@ links_lead first u named es ls in_order sorted indexed =
     looked-picked u es (to_uid u ls)
     ∙ walked total-law (owned u) shown alike es (keys_in (to_uid u ls)) in_order (keys_in_order u ls sorted)
     (λ k. let q : Link = record { uid = first.uid; key = k } in
-    has_kept u q named ls ∙ indexed.exact q ∙ ap (λ u. passes (is_owned_by u) (found (key_of k) (members_seen es))) named ∙ ap (passes (is_owned_by u)) (sym (seen-lookup es k)) ∙ owned_at u (lookup (is_at (key_cmp k)) es))
+    has_kept u q named ls ∙ indexed.exact q ∙ ap (λ u. is_some_and (is_owned_by u) (found (key_of k) (members_seen es))) named ∙ ap (is_some_and (is_owned_by u)) (sym (seen-lookup es k)) ∙ owned_at u (lookup (is_at (key_cmp k)) es))
     ∙ passing-owned u es

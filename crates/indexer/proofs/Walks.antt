@@ -7,7 +7,7 @@ use Rattle.std.specs.List.Sorted.{IsStrictlySortedBy}
 use Rattle.std.specs.Map.{keys_of, lookup}
 use Rattle.std.specs.Ordering.{ordering_reverse}
 use Rattle.std.specs.BTreeMap.{is_at}
-use Rattle.definitions.specs.SelectorValues.{passes}
+use Rattle.definitions.specs.SelectorValues.{is_some_and}
 
 module _ {K X Y : Type 0} {R : K → K → Ordering} (o : IsTotalOrder R) (p : X → Bool) (g : K → X → Y) (alike : (a b : K) (x : X) → R a b ≡ Equal → g a x ≡ g b x) where
   -- a key below all of these
@@ -44,12 +44,12 @@ module _ {K X Y : Type 0} {R : K → K → Ordering} (o : IsTotalOrder R) (p : X
       ∙ ap (λ ys. cons_option (option_map (g k) (lookup (is_at (R k)) es)) ys) (passed_by e es ks below.1)
 
   -- a look-up of all but the first
-  without_first : (b x : Bool) (v : X) (w : Option X) → x ≡ passes p (cond b (Some v) w) → (b ≡ true → (x ≡ false) × (w ≡ None)) → x ≡ passes p w
-  without_first true x v w h none = (none refl).0 ∙ ap (passes p) (sym (none refl).1)
+  without_first : (b x : Bool) (v : X) (w : Option X) → x ≡ is_some_and p (cond b (Some v) w) → (b ≡ true → (x ≡ false) × (w ≡ None)) → x ≡ is_some_and p w
+  without_first true x v w h none = (none refl).0 ∙ ap (is_some_and p) (sym (none refl).1)
   without_first false x v w h none = h
 
-  without_both : (b c x : Bool) (v : X) (w : Option X) → c ≡ b → (c || x) ≡ passes p (cond b (Some v) w) → (b ≡ true → (x ≡ false) × (w ≡ None)) → x ≡ passes p w
-  without_both true c x v w same h none = (none refl).0 ∙ ap (passes p) (sym (none refl).1)
+  without_both : (b c x : Bool) (v : X) (w : Option X) → c ≡ b → (c || x) ≡ is_some_and p (cond b (Some v) w) → (b ≡ true → (x ≡ false) × (w ≡ None)) → x ≡ is_some_and p w
+  without_both true c x v w same h none = (none refl).0 ∙ ap (is_some_and p) (sym (none refl).1)
   without_both false c x v w same h none = ap (λ c. c || x) (sym same) ∙ h
 
   equal_from : (r : Ordering) → is_eq r ≡ true → r ≡ Equal
@@ -63,10 +63,10 @@ module _ {K X Y : Type 0} {R : K → K → Ordering} (o : IsTotalOrder R) (p : X
 
   -- the test tells which keys are looked up
   abbrev pub Tells : List (K × X) → List K → Type 0
-  Tells es ks = (q : K) → list_any (is_at (R q)) ks ≡ passes p (lookup (is_at (R q)) es)
+  Tells es ks = (q : K) → list_any (is_at (R q)) ks ≡ is_some_and p (lookup (is_at (R q)) es)
 
   first_passes : (e : K × X) (es : List (K × X)) (ks : List K) → Tells (e ∷ es) ks → list_any (is_at (R e.0)) ks ≡ p e.1
-  first_passes e es ks tells = tells e.0 ∙ ap (λ r. passes p (cond (is_eq r) (Some e.1) (lookup (is_at (R e.0)) es))) (tied_itself o e.0)
+  first_passes e es ks tells = tells e.0 ∙ ap (λ r. is_some_and p (cond (is_eq r) (Some e.1) (lookup (is_at (R e.0)) es))) (tied_itself o e.0)
 
   fails : (e : K × X) (es : List (K × X)) → p e.1 ≡ false → passing (e ∷ es) ≡ passing es
   fails e es is = ap (λ b. map (λ (e : K × X). g e.0 e.1) (cond b (e ∷ filter (λ (e : K × X). p e.1) es) (filter (λ (e : K × X). p e.1) es))) is
@@ -98,11 +98,11 @@ module _ {K X Y : Type 0} {R : K → K → Ordering} (o : IsTotalOrder R) (p : X
       by : (Tells es ks → picked es ks ≡ passing es) → (Tells es (k ∷ ks) → picked es (k ∷ ks) ≡ passing es) → (r : Ordering) → R k e.0 ≡ r → picked (e ∷ es) (k ∷ ks) ≡ passing (e ∷ es)
       by both rest Less is =
           let nothing : lookup (is_at (R k)) (e ∷ es) ≡ None = ap (λ r. cond (is_eq r) (Some e.1) (lookup (is_at (R k)) es)) is ∙ none_at k es (below_less k e.0 (keys_of es) is in_order.0) in
-          let never : (is_eq (R k k) || list_any (is_at (R k)) ks) ≡ false = tells k ∙ ap (passes p) nothing in
+          let never : (is_eq (R k k) || list_any (is_at (R k)) ks) ≡ false = tells k ∙ ap (is_some_and p) nothing in
           let at = tied_itself o k in cc
       by both rest Equal is =
           let past = below_same e.0 k ks (turned k e.0 Equal is) up.0 in
-          let holds : p e.1 ≡ true = ap (λ r. passes p (cond (is_eq r) (Some e.1) (lookup (is_at (R k)) es))) (sym is) ∙ sym (tells k) ∙ ap (λ r. is_eq r || list_any (is_at (R k)) ks) (tied_itself o k) in
+          let holds : p e.1 ≡ true = ap (λ r. is_some_and p (cond (is_eq r) (Some e.1) (lookup (is_at (R k)) es))) (sym is) ∙ sym (tells k) ∙ ap (λ r. is_eq r || list_any (is_at (R k)) ks) (tied_itself o k) in
           ap (λ r. cons_option (option_map (g k) (cond (is_eq r) (Some e.1) (lookup (is_at (R k)) es))) (picked (e ∷ es) ks)) is
           ∙ ap (λ y. y ∷ picked (e ∷ es) ks) (alike k e.0 e.1 is)
           ∙ ap (λ ys. g e.0 e.1 ∷ ys) (passed_by e es ks past ∙ both (tells_both e es k ks is in_order.0 up.0 tells))

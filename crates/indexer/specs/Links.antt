@@ -6,10 +6,10 @@ use Rattle.std.specs.BTreeMap.{is_at}
 use Rattle.serde_json.specs.Data.{Data}
 use Rattle.definitions.specs.declared.kinds.Kind.{Kind}
 use Rattle.definitions.specs.declared.kinds.Kind.TheVariants.{ConfigMap}
-use Rattle.definitions.specs.History.{Members, found}
+use Rattle.definitions.specs.History.{Entries, found}
 use Rattle.definitions.specs.Keys.{Key as Name}
 use Rattle.definitions.specs.Metadata.{Owner, owners}
-use Rattle.definitions.specs.SelectorValues.{passes}
+use Rattle.definitions.specs.SelectorValues.{is_some_and}
 use Rattle.controllers.specs.OwnerReferences.{is_owned_by}
 use Rattle.keys.specs.Keys.{key_of}
 use Rattle.indexer.specs.declared.links.Link.{Link}
@@ -39,8 +39,8 @@ abbrev pub has_link : List Link → Link → Bool
 has_link ls l = list_any (is_at (link_cmp l)) ls
 
 -- the links are those of the members: each is of an object that is there and names the owner, and each of these has its link
-pub record IsIndexOf (ls : List Link) (ms : Members) : Type 0 where
-  pub exact : (l : Link) → has_link ls l ≡ passes (is_owned_by (string_bytes l.uid)) (found (key_of l.key) ms)
+pub record IsIndexOf (ls : List Link) (ms : Entries) : Type 0 where
+  pub exact : (l : Link) → has_link ls l ≡ is_some_and (is_owned_by (string_bytes l.uid)) (found (key_of l.key) ms)
 
 -- the old links and more, and no others
 pub record HasLinks (new old more : List Link) : Type 0 where

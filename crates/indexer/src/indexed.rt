@@ -30,7 +30,7 @@ impl Model for Indexed {
 }
 
 impl Indexed {
-    ghost use Rattle.std.specs.Prelude.{◌≡◌, IfOk, OnOk, OnErr, map, option_map};
+    ghost use Rattle.std.specs.Prelude.{◌≡◌, IfOk, OnOk, OnErr, length, map, option_map};
     ghost use Rattle.std.specs.List.Sorted.{IsStrictlySortedBy};
     ghost use Rattle.std.specs.Map.{keys_of};
     ghost use Rattle.keys.specs.Keys.{key_of};
@@ -51,6 +51,13 @@ impl Indexed {
             revision: 0,
             alloc,
         }
+    }
+
+    /// Returns how many objects there are. It takes no memory.
+    pub fn len(&self) -> usize
+        ensures { result ≡ length self.now.members }
+    {
+        self.objects.len()
     }
 
     /// Returns the revision that the last delta named; 0 before the first. It takes no memory.

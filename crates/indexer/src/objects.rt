@@ -19,12 +19,12 @@ pub struct ObjectMap {
 }
 
 impl Model for ObjectMap {
-    ghost use Rattle.definitions.specs.History.{Members};
+    ghost use Rattle.definitions.specs.History.{Entries};
     ghost use Rattle.server_state.specs.Codes.{coded_members};
     ghost use Rattle.indexer.specs.Links.{IsIndexOf};
     ghost use Rattle.indexer.specs.Seen.{members_seen};
 
-    ghost Value = { Members };
+    ghost Value = { Entries };
 
     ghost coded = { coded_members };
 
@@ -34,7 +34,7 @@ impl Model for ObjectMap {
 }
 
 impl ObjectMap {
-    ghost use Rattle.std.specs.Prelude.{◌≡◌, [], IfOk, OnOk, OnErr, None, map, option_map};
+    ghost use Rattle.std.specs.Prelude.{◌≡◌, [], IfOk, OnOk, OnErr, None, length, map, option_map};
     ghost use Rattle.std.specs.List.Sorted.{IsStrictlySortedBy};
     ghost use Rattle.std.specs.Map.{keys_of};
     ghost use Rattle.definitions.specs.Keys.{key_cmp};
@@ -77,6 +77,13 @@ impl ObjectMap {
             links: self.links.clone()?,
             alloc: self.alloc,
         })
+    }
+
+    /// Returns how many objects there are.
+    pub fn len(&self) -> usize
+        ensures { result ≡ length self.now }
+    {
+        self.objects.len()
     }
 
     /// Puts an object under its key. It costs the way to the key and to each owner that the object names or named. The error is

@@ -1,7 +1,7 @@
 //! The Deployments over a Pod.
 ghost use Rattle.std.specs.Prelude.{◌≡◌, ◌++◌, IfOk, OnOk, map, option_and_then, option_map};
 ghost use Rattle.definitions.specs.History.{found};
-ghost use Rattle.definitions.specs.SelectorValues.{passes};
+ghost use Rattle.definitions.specs.SelectorValues.{is_some_and};
 ghost use Rattle.definitions.specs.declared.kinds.Kind.TheVariants.{ReplicaSet};
 ghost use Rattle.controllers.specs.OwnerReferences.{is_text, key_named};
 ghost use Rattle.keys.specs.Keys.{key_of};
@@ -17,7 +17,7 @@ use turns::Seen;
 
 /// Returns whether both uids are there, and are the same.
 fn is_same(uid: Option<&str>, found: Option<&str>) -> bool
-    ensures { result ≡ passes (λ t. is_text t (option_map (λ s. s.now) found.entry)) (option_map (λ s. s.now) uid.entry) }
+    ensures { result ≡ is_some_and (λ t. is_text t (option_map (λ s. s.now) found.entry)) (option_map (λ s. s.now) uid.entry) }
 {
     match uid {
         Some(uid) => is_text(uid, found),

@@ -8,7 +8,7 @@ use Rattle.std.specs.BTreeSet.{insert_key}
 use Rattle.serde_json.specs.Data.{Data}
 use Rattle.definitions.specs.declared.kinds.Kind.{Kind}
 use Rattle.definitions.specs.declared.kinds.Kind.TheVariants.{Pod, ReplicaSet}
-use Rattle.definitions.specs.History.{Members}
+use Rattle.definitions.specs.History.{Entries}
 use Rattle.definitions.specs.Keys.{Key}
 use Rattle.definitions.specs.Metadata.{uid}
 use Rattle.controllers.specs.declared.controller.Controller.{Controller}
@@ -172,20 +172,20 @@ owners c l d k of there =
     owed_item c l k
     (in_right (itself c) (of_both owner_keys c ++ dependents_left l c) k (in_left (of_both owner_keys c) (dependents_left l c) k (in_both owner_keys c d k of (in_list (owner_keys d) k there))))
 
-looked_at : (l : Looks) (ms : Members) (u : List ℕ) (k : Key) → IsLookedAt l ms → In (dependents_in u ms) k → In (dependents l u) k
+looked_at : (l : Looks) (ms : Entries) (u : List ℕ) (k : Key) → IsLookedAt l ms → In (dependents_in u ms) k → In (dependents l u) k
 looked_at l ms u k (inl is) i =
-    in_left (dependents_in u l.config_maps) (dependents_in u l.pods ++ (dependents_in u l.replica_sets ++ dependents_in u l.deployments)) k (subst (λ (ms : Members). In (dependents_in u ms) k) is i)
+    in_left (dependents_in u l.config_maps) (dependents_in u l.pods ++ (dependents_in u l.replica_sets ++ dependents_in u l.deployments)) k (subst (λ (ms : Entries). In (dependents_in u ms) k) is i)
 looked_at l ms u k (inr (inl is)) i =
     in_right (dependents_in u l.config_maps) (dependents_in u l.pods ++ (dependents_in u l.replica_sets ++ dependents_in u l.deployments)) k
-    (in_left (dependents_in u l.pods) (dependents_in u l.replica_sets ++ dependents_in u l.deployments) k (subst (λ (ms : Members). In (dependents_in u ms) k) is i))
+    (in_left (dependents_in u l.pods) (dependents_in u l.replica_sets ++ dependents_in u l.deployments) k (subst (λ (ms : Entries). In (dependents_in u ms) k) is i))
 looked_at l ms u k (inr (inr (inl is))) i =
     in_right (dependents_in u l.config_maps) (dependents_in u l.pods ++ (dependents_in u l.replica_sets ++ dependents_in u l.deployments)) k
     (in_right (dependents_in u l.pods) (dependents_in u l.replica_sets ++ dependents_in u l.deployments) k
-    (in_left (dependents_in u l.replica_sets) (dependents_in u l.deployments) k (subst (λ (ms : Members). In (dependents_in u ms) k) is i)))
+    (in_left (dependents_in u l.replica_sets) (dependents_in u l.deployments) k (subst (λ (ms : Entries). In (dependents_in u ms) k) is i)))
 looked_at l ms u k (inr (inr (inr is))) i =
     in_right (dependents_in u l.config_maps) (dependents_in u l.pods ++ (dependents_in u l.replica_sets ++ dependents_in u l.deployments)) k
     (in_right (dependents_in u l.pods) (dependents_in u l.replica_sets ++ dependents_in u l.deployments) k
-    (in_right (dependents_in u l.replica_sets) (dependents_in u l.deployments) k (subst (λ (ms : Members). In (dependents_in u ms) k) is i)))
+    (in_right (dependents_in u l.replica_sets) (dependents_in u l.deployments) k (subst (λ (ms : Entries). In (dependents_in u ms) k) is i)))
 
 pub dependents_owed : DependentsAreOwed
 dependents_owed c l ms u m going named looked there =

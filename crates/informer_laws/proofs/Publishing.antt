@@ -69,14 +69,14 @@ run_names (e ∷ es) k last m at = by (λ (t : Step) (named : revision_after m.r
     by more (Err x) is = at
     by more (Ok t) is = more t (step_names e.kind k last e.object m.revision t is)
 
-fed_names : (s : Reflector) (piece : List ℕ) (m : Snapshot) → m.revision ≡ s.revision → (all_applied m (fed s piece).deltas).revision ≡ (fed s piece).after.revision
+pub fed_names : (s : Reflector) (piece : List ℕ) (m : Snapshot) → m.revision ≡ s.revision → (all_applied m (fed s piece).deltas).revision ≡ (fed s piece).after.revision
 fed_names s piece m at = by s.phase
   where
     by : (p : Phase) → (all_applied m (fed_in p (s.buffered ++ piece) s).deltas).revision ≡ (fed_in p (s.buffered ++ piece) s).after.revision
     by Listing = at
     by Watching = run_names (frames.reading (s.buffered ++ piece)).events s.kind s.revision m at
 
-applied_both : (m : Snapshot) (ds es : List Delta) → all_applied m (ds ++ es) ≡ all_applied (all_applied m ds) es
+pub applied_both : (m : Snapshot) (ds es : List Delta) → all_applied m (ds ++ es) ≡ all_applied (all_applied m ds) es
 applied_both m [] es = refl
 applied_both m (d ∷ ds) es = applied_both (applied m d) ds es
 
@@ -85,7 +85,7 @@ all_fed_names [] s m at = at
 all_fed_names (p ∷ ps) s m at =
     ap (λ (m : Snapshot). m.revision) (applied_both m (fed s p).deltas (all_fed (fed s p).after ps).deltas) ∙ all_fed_names ps (fed s p).after (all_applied m (fed s p).deltas) (fed_names s p m at)
 
-applied_members : (m : Snapshot) (ds : List Delta) → (all_applied m ds).members ≡ apply_deltas m.members ds
+pub applied_members : (m : Snapshot) (ds : List Delta) → (all_applied m ds).members ≡ apply_deltas m.members ds
 applied_members m [] = refl
 applied_members m (d ∷ ds) = applied_members (applied m d) ds
 

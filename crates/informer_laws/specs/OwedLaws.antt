@@ -4,7 +4,7 @@ use Rattle.std.specs.List.{Contains, list_any}
 use Rattle.std.specs.Ordering.{is_eq}
 use Rattle.serde_json.specs.Data.{Data}
 use Rattle.definitions.specs.declared.kinds.Kind.TheVariants.{Pod, ReplicaSet}
-use Rattle.definitions.specs.History.{Members}
+use Rattle.definitions.specs.History.{Entries}
 use Rattle.definitions.specs.Keys.{Key}
 use Rattle.definitions.specs.Metadata.{uid}
 use Rattle.controllers.specs.declared.controller.Controller.{Controller}
@@ -37,11 +37,11 @@ abbrev pub OwnersAreOwed : Type 0
 OwnersAreOwed = (c : Change) (l : Looks) (d : Data) (k : Key) → IsOf c d → Contains (owner_keys d) k → Owes c l controller.Collector k
 
 -- one of the maps that are looked at
-abbrev pub IsLookedAt : Looks → Members → Type 0
+abbrev pub IsLookedAt : Looks → Entries → Type 0
 IsLookedAt l ms = (ms ≡ l.config_maps) ⊎ ((ms ≡ l.pods) ⊎ ((ms ≡ l.replica_sets) ⊎ (ms ≡ l.deployments)))
 
 -- what has an owner that is gone or is being deleted is looked at
 abbrev pub DependentsAreOwed : Type 0
 DependentsAreOwed =
-    (c : Change) (l : Looks) (ms : Members) (u : List ℕ) (m : Key × Data) → is_going c.new ≡ true → option_and_then uid (latest c) ≡ Some u → IsLookedAt l ms → Contains (of_owner u ms) m
+    (c : Change) (l : Looks) (ms : Entries) (u : List ℕ) (m : Key × Data) → is_going c.new ≡ true → option_and_then uid (latest c) ≡ Some u → IsLookedAt l ms → Contains (of_owner u ms) m
     → Owes c l controller.Collector m.0

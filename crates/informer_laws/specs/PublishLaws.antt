@@ -1,7 +1,7 @@
 -- Laws of what is published.
 use Rattle.std.specs.Prelude.{◌≡◌, ◌++◌, ℕ, List, ◌∷◌, flat_map, Some}
 use Rattle.definitions.specs.History.{History, list}
-use Rattle.definitions.specs.Streams.{Line, text_of}
+use Rattle.definitions.specs.Streams.{Line, text_of_lines}
 use Rattle.server_state.specs.Snapshots.{Snapshot}
 use Rattle.controllers.specs.Informers.{after_publish}
 use Rattle.controllers.specs.Reflectors.{Reflector, Listed, list_of, list_delta, with_list, all_fed}
@@ -13,7 +13,7 @@ use Rattle.reflector.specs.Laws.{IsServed}
 abbrev pub InformersShowLists : Type 0
 InformersShowLists =
     (h : History) (a b : ℕ) (ls : List Line) (s : Reflector) (before : Snapshot) (body : List ℕ) (pieces : List (List ℕ)) (more : List ℕ)
-    → IsListText h s.kind a body → IsServed h s.kind a b ls → flat_map (λ p. p) pieces ++ more ≡ text_of s.kind ls
+    → IsListText h s.kind a body → IsServed h s.kind a b ls → flat_map (λ p. p) pieces ++ more ≡ text_of_lines s.kind ls
     → (l : Listed) × (list_of s.kind body ≡ Some l)
     × (let f = all_fed (with_list (Some l) s) pieces in
     (after_publish (record { published = before; pending = list_delta l ∷ f.deltas })).published ≡ record { members = list h (whole s.kind) f.after.revision; revision = f.after.revision })

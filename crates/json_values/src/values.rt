@@ -3,7 +3,7 @@ ghost use Rattle.std.specs.Prelude.{◌≡◌, ◌≤◌, ◌↔◌, IfOk, IsTru
 ghost use Rattle.serde_json.specs.Data.{string, object, no_members, depth, items_depth, members_depth};
 ghost use Rattle.serde_json.specs.View.{view, items_view, members_view};
 ghost use Rattle.serde_json.specs.Written.{has_float, items_have_float, members_have_float};
-ghost use Rattle.definitions.specs.Defaults.{whole};
+ghost use Rattle.definitions.specs.Defaults.{unsigned_value};
 ghost use Rattle.definitions.specs.Values.{with_member, with_default};
 
 use serde_json::{Map, Value, json};
@@ -11,7 +11,7 @@ use std::alloc::{AllocError, Global};
 
 /// Returns a whole number as a value.
 pub fn whole_number(alloc: Global, number: u64) -> Result<Value, AllocError>
-    ensures { IfOk result (λ v. view v ≡ whole number) }
+    ensures { IfOk result (λ v. view v ≡ unsigned_value number) }
 {
     json!(in alloc; number)
 }

@@ -1,11 +1,11 @@
 //! What answers the connections of a thread of `kcp serve`.
 ghost use Rattle.shared_desk.specs.Desks.{IsPassAt};
 
-use api::serve_one;
+use api::{Served, serve_one};
 use bells::Bell;
 use chunked::Watched;
 use routes::table::Routes;
-use serving::Handler;
+use serving::{Ending, Handler};
 use shared_desk::{Anything, Desk, Listener, Seat, StorePass};
 use stamps::moments::Moment;
 use std::alloc::{AllocError, Global};
@@ -93,10 +93,15 @@ impl<R: Wait + Clock> Handler for Connection<'_, R> {
     ghost step = { λ old new. Unit {0} };
 
     /// Serves the one request of a connection. A connection that fails is left, and the thread goes on.
-    fn handle<I: Read, W: Write>(&mut self, reader: &mut I, writer: &mut W, moment: Moment) {
+    fn handle<I: Read, W: Write>(
+        &mut self,
+        reader: &mut I,
+        writer: &mut W,
+        moment: Moment,
+    ) -> Ending {
         let mut reader = Watched::new(reader);
         let mut writer = Watched::new(writer);
-        let _ = serve_one(
+        match serve_one(
             self.alloc,
             &self.routes,
             &mut reader,
@@ -104,6 +109,9 @@ impl<R: Wait + Clock> Handler for Connection<'_, R> {
             &mut self.seat,
             moment,
             &mut self.pause,
-        );
+        ) {
+            Ok(Served::Asked) => Ending::Whole,
+            Ok(Served::NotAsked) | Err(_) => Ending::Unread,
+        }
     }
 }

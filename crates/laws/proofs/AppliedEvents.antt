@@ -8,10 +8,10 @@ use Rattle.serde_json.specs.Data.{Data}
 use Rattle.std.proofs.lemmas.List.{take-take, take-append-drop, drop-append-le, drop_all, length-take}
 use Rattle.std.proofs.lemmas.Bool.{cases_lt}
 use Rattle.definitions.specs.Keys.{Key, key_cmp}
-use Rattle.definitions.specs.History.{History, Write, View, Members, up_to, writes, found, in_view, viewed, seen, last_of, after, after_all, put_or_remove, list}
+use Rattle.definitions.specs.History.{History, Write, View, Entries, up_to, writes, found, in_view, viewed, seen, last_of, after, after_all, put_or_remove, list}
 use Rattle.definitions.proofs.PutLaws.{name_cmp_total, same_name, IsAbove, IsAscending, IsAscending-after_all, IsAbove-filter, found-after_all}
 use Rattle.laws.specs.WatchLaws.{AreBetween}
-use Rattle.definitions.specs.Events.{Event, event_of, write_change, changes_after, events, applied, apply}
+use Rattle.definitions.specs.Events.{Event, event_of, event_of_write, events_after, events, applied, apply}
 
 equal_from : (r : Ordering) → is_eq r ≡ true → r ≡ Equal
 equal_from Less h = cc
@@ -127,48 +127,48 @@ module _ (v : View) where
   nothing_shows k None h = refl
   nothing_shows k (Some d) h = h
 
-  put_shown : (b : Bool) (k : Key) (d : Data) (was : Option Data) (r : ℕ) (ms : Members) → in_view v k d ≡ b → IsAscending key_cmp ms → seen v k (found k ms) ≡ was
+  put_shown : (b : Bool) (k : Key) (d : Data) (was : Option Data) (r : ℕ) (ms : Entries) → in_view v k d ≡ b → IsAscending key_cmp ms → seen v k (found k ms) ≡ was
       → applied (viewed v ms) (event_of r k was (cond b (Some d) None)) ≡ viewed v (insert_entry key_cmp ms k d)
   put_shown true k d None r ms y a w = sym (put_in name_cmp_total one_name (in_view v) k d ms y a)
   put_shown true k d (Some c) r ms y a w = sym (put_in name_cmp_total one_name (in_view v) k d ms y a)
   put_shown false k d None r ms y a w = unseen name_cmp_total one_name (in_view v) k ms a (nothing_shows k (found k ms) w) ∙ sym (put_out name_cmp_total one_name (in_view v) k d ms y a)
   put_shown false k d (Some c) r ms y a w = sym (put_out name_cmp_total one_name (in_view v) k d ms y a)
 
-  remove_shown : (k : Key) (was : Option Data) (r : ℕ) (ms : Members) → IsAscending key_cmp ms → seen v k (found k ms) ≡ was
+  remove_shown : (k : Key) (was : Option Data) (r : ℕ) (ms : Entries) → IsAscending key_cmp ms → seen v k (found k ms) ≡ was
       → applied (viewed v ms) (event_of r k was None) ≡ viewed v (remove_entry (is_at (key_cmp k)) ms)
   remove_shown k None r ms a w = unseen name_cmp_total one_name (in_view v) k ms a (nothing_shows k (found k ms) w) ∙ sym (removed name_cmp_total one_name (in_view v) k ms a)
   remove_shown k (Some c) r ms a w = sym (removed name_cmp_total one_name (in_view v) k ms a)
 
-  one_write : (k : Key) (put : Option Data) (r : ℕ) (ms : Members) → IsAscending key_cmp ms
+  one_write : (k : Key) (put : Option Data) (r : ℕ) (ms : Entries) → IsAscending key_cmp ms
       → applied (viewed v ms) (event_of r k (seen v k (found k ms)) (seen v k put)) ≡ viewed v (put_or_remove ms k put)
   one_write k None r ms a = remove_shown k (seen v k (found k ms)) r ms a refl
   one_write k (Some d) r ms a = put_shown (in_view v k d) k d (seen v k (found k ms)) r ms refl a refl
 
-  play-append : (ms : Members) (cs ds : List Event) → applied ms (cs ++ ds) ≡ applied (applied ms cs) ds
+  play-append : (ms : Entries) (cs ds : List Event) → applied ms (cs ++ ds) ≡ applied (applied ms cs) ds
   play-append ms [] ds = refl
   play-append ms (c ∷ cs) ds = play-append (apply ms c) cs ds
 
-  pub after_all-push : (ms : Members) (ws : List Write) (w : Write) → after_all ms (ws ++ w ∷ []) ≡ after (after_all ms ws) w
+  pub after_all-push : (ms : Entries) (ws : List Write) (w : Write) → after_all ms (ws ++ w ∷ []) ≡ after (after_all ms ws) w
   after_all-push ms [] w = refl
   after_all-push ms (u ∷ ws) w = after_all-push (after ms u) ws w
 
-  pub one_more : (ws : List Write) (w : Write) → applied (viewed v (after_all [] ws)) (write_change v ws w) ≡ viewed v (after_all [] (ws ++ w ∷ []))
+  pub one_more : (ws : List Write) (w : Write) → applied (viewed v (after_all [] ws)) (event_of_write v ws w) ≡ viewed v (after_all [] (ws ++ w ∷ []))
   one_more ws w =
       ap (λ o. applied (viewed v (after_all [] ws)) (event_of (length ws + 2) w.key (seen v w.key o) (seen v w.key w.put))) (sym (found-after_all w.key [] ws tt))
       ∙ one_write w.key w.put (length ws + 2) (after_all [] ws) (IsAscending-after_all [] ws tt) ∙ ap (viewed v) (sym (after_all-push [] ws w))
 
-  pub applied_changes : (before ws : List Write) → applied (viewed v (after_all [] before)) (changes_after v before ws) ≡ viewed v (after_all [] (before ++ ws))
+  pub applied_changes : (before ws : List Write) → applied (viewed v (after_all [] before)) (events_after v before ws) ≡ viewed v (after_all [] (before ++ ws))
   applied_changes before [] = ap (λ us. viewed v (after_all [] us)) (sym (append-nil before))
   applied_changes before (w ∷ ws) =
-      play-append (viewed v (after_all [] before)) (write_change v before w) (changes_after v (before ++ w ∷ []) ws)
-      ∙ ap (λ ms. applied ms (changes_after v (before ++ w ∷ []) ws)) (one_more before w) ∙ applied_changes (before ++ w ∷ []) ws
+      play-append (viewed v (after_all [] before)) (event_of_write v before w) (events_after v (before ++ w ∷ []) ws)
+      ∙ ap (λ ms. applied ms (events_after v (before ++ w ∷ []) ws)) (one_more before w) ∙ applied_changes (before ++ w ∷ []) ws
       ∙ ap (λ us. viewed v (after_all [] us)) (append_assoc before (w ∷ []) ws)
 
-  pub changes_after-append : (before us ws : List Write) → changes_after v before (us ++ ws) ≡ changes_after v before us ++ changes_after v (before ++ us) ws
-  changes_after-append before [] ws = ap (λ b. changes_after v b ws) (sym (append-nil before))
+  pub changes_after-append : (before us ws : List Write) → events_after v before (us ++ ws) ≡ events_after v before us ++ events_after v (before ++ us) ws
+  changes_after-append before [] ws = ap (λ b. events_after v b ws) (sym (append-nil before))
   changes_after-append before (u ∷ us) ws =
-      ap (λ cs. write_change v before u ++ cs) (changes_after-append (before ++ u ∷ []) us ws ∙ ap (λ b. changes_after v (before ++ u ∷ []) us ++ changes_after v b ws) (append_assoc before (u ∷ []) us))
-      ∙ sym (append_assoc (write_change v before u) (changes_after v (before ++ u ∷ []) us) (changes_after v (before ++ u ∷ us) ws))
+      ap (λ cs. event_of_write v before u ++ cs) (changes_after-append (before ++ u ∷ []) us ws ∙ ap (λ b. events_after v (before ++ u ∷ []) us ++ events_after v b ws) (append_assoc before (u ∷ []) us))
+      ∙ sym (append_assoc (event_of_write v before u) (events_after v (before ++ u ∷ []) us) (events_after v (before ++ u ∷ us) ws))
 
 -- ---- parts of a history
 
@@ -192,8 +192,8 @@ drop-between h a b c l k = between_cases h a b c l k (cases_lt (length (up_to b 
 
 pub goes_on : (h : History) (v : View) (a b c : ℕ) → a ≤ b → b ≤ c → events h v a c ≡ events h v a b ++ events h v b c
 goes_on h v a b c l k =
-    ap (changes_after v (up_to a h)) (drop-between h a b c l k) ∙ changes_after-append v (up_to a h) (drop (a - 1) (up_to b h)) (drop (b - 1) (up_to c h))
-    ∙ ap (λ ws. events h v a b ++ changes_after v ws (drop (b - 1) (up_to c h))) (up_to-split h a b l)
+    ap (events_after v (up_to a h)) (drop-between h a b c l k) ∙ changes_after-append v (up_to a h) (drop (a - 1) (up_to b h)) (drop (b - 1) (up_to c h))
+    ∙ ap (λ ws. events h v a b ++ events_after v ws (drop (b - 1) (up_to c h))) (up_to-split h a b l)
 
 -- ---- revisions
 
@@ -203,15 +203,15 @@ one_between lo hi r k None (Some d) cs l h f g = (l, h, f)
 one_between lo hi r k (Some c) (Some d) cs l h f g = (l, h, f)
 one_between lo hi r k (Some c) None cs l h f g = (l, h, f)
 
-after_between : (v : View) (ws before : List Write) (lo hi : ℕ) → lo ≤ length before + 1 → length before + 1 + length ws ≤ hi → AreBetween lo hi (changes_after v before ws)
+after_between : (v : View) (ws before : List Write) (lo hi : ℕ) → lo ≤ length before + 1 → length before + 1 + length ws ≤ hi → AreBetween lo hi (events_after v before ws)
 after_between v [] before lo hi l u = tt
 after_between v (w ∷ ws) before lo hi l u =
     let more : length (before ++ w ∷ []) ≡ length before + 1 = length-append before (w ∷ []) in
-    one_between lo hi (length before + 2) w.key (seen v w.key (last_of None w.key before)) (seen v w.key w.put) (changes_after v (before ++ w ∷ []) ws) (omega (arith, l)) (omega (arith, u))
+    one_between lo hi (length before + 2) w.key (seen v w.key (last_of None w.key before)) (seen v w.key w.put) (events_after v (before ++ w ∷ []) ws) (omega (arith, l)) (omega (arith, u))
     (after_between v ws (before ++ w ∷ []) (length before + 2) hi (omega (arith, more)) (omega (arith, more, u)))
     (after_between v ws (before ++ w ∷ []) lo hi (omega (arith, more, l)) (omega (arith, more, u)))
 
-between_at : (h : History) (v : View) (a b : ℕ) (ws : List Write) → drop (a - 1) (up_to b h) ≡ ws → AreBetween a b (changes_after v (up_to a h) ws)
+between_at : (h : History) (v : View) (a b : ℕ) (ws : List Write) → drop (a - 1) (up_to b h) ≡ ws → AreBetween a b (events_after v (up_to a h) ws)
 between_at h v a b [] is = tt
 between_at h v a b (w ∷ ws) is =
     let first = length-take (a - 1) (writes h) in

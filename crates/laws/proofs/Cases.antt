@@ -13,7 +13,7 @@ use Rattle.definitions.specs.Deletion.{Fate, remove, mark, keep, fate, being_del
 use Rattle.definitions.specs.Kinds.{has_status}
 use Rattle.definitions.specs.Keys.{Key}
 use Rattle.definitions.specs.History as history
-use Rattle.definitions.specs.History.{History, found, members, present}
+use Rattle.definitions.specs.History.{History, found, entries_at, present}
 use Rattle.definitions.specs.Metadata.{namespace, uid, version, metadata_of, at_revision, is_being_deleted, is_other, differs}
 use Rattle.definitions.specs.NewObjects.{created, with_first_status}
 use Rattle.definitions.specs.Reading.{is_body, reading}
@@ -28,14 +28,14 @@ use Rattle.laws.proofs.Guards.{guard, guard_field, there, either}
 module _ (P : Outcome → Type 0) (refusal : (f : Refusal) → P (refused f)) where
   -- ---- create
 
-  of_create_as : (k : Key) (d : Data) (ms : history.Members) (r : ℕ)
+  of_create_as : (k : Key) (d : Data) (ms : history.Entries) (r : ℕ)
       → (is_too_large d ≡ false → is_some (found k ms) ≡ false → (nat_le most_objects (length ms) || is_past_greatest (r + 1)) ≡ false → P (stored 201 k d))
       → P (create_as k d ms r)
   of_create_as k d ms r each =
       guard P refusal (is_too_large d) too_large _
       (λ fits. guard P refusal (is_some (found k ms)) (already_exists k) _ (λ free. guard P refusal (nat_le most_objects (length ms) || is_past_greatest (r + 1)) storage_full _ (λ room. each fits free room)))
 
-  pub of_create : (kind : Kind) (ns : List ℕ) (read : Result Data Part) (ms : history.Members) (r : ℕ) (moment : List ℕ)
+  pub of_create : (kind : Kind) (ns : List ℕ) (read : Result Data Part) (ms : history.Entries) (r : ℕ) (moment : List ℕ)
       → ((o : Data) → read ≡ Ok o → create_fault kind (new_name kind ns o ms r).name r (with_first_status kind o) ≡ None
       → is_too_large (created kind (r + 1) ns (new_name kind ns o ms r).name moment o) ≡ false → is_some (found (new_name kind ns o ms r) ms) ≡ false
       → (nat_le most_objects (length ms) || is_past_greatest (r + 1)) ≡ false → P (stored 201 (new_name kind ns o ms r) (created kind (r + 1) ns (new_name kind ns o ms r).name moment o)))
@@ -74,7 +74,7 @@ module _ (P : Outcome → Type 0) (refusal : (f : Refusal) → P (refused f)) wh
         (λ valid. either P (says_the_same existing d) (shown existing) (cond (is_finalized existing new) (take_out k new r) (put_in_place k new r)) (λ _. show existing)
         (λ _. either P (is_finalized existing new) (take_out k new r) (put_in_place k new r) (λ free. of_let_go k new r (gone same free)) (λ _. of_put k new r (put same valid)))))
 
-    pub of_update : (k : Key) (read : Result Data Part) (ms : history.Members) (r : ℕ)
+    pub of_update : (k : Key) (read : Result Data Part) (ms : history.Entries) (r : ℕ)
         → ((o existing : Data) → read ≡ Ok o → found k ms ≡ Some existing → differs (version o) (version existing) ≡ false → update_fault k.kind k.name r existing (in_place k.kind existing o) ≡ None
         → is_too_large (updated k.kind (r + 1) existing (in_place k.kind existing o)) ≡ false → is_past_greatest (r + 1) ≡ false → P (stored 200 k (updated k.kind (r + 1) existing (in_place k.kind existing o))))
         → ((o existing : Data) → read ≡ Ok o → found k ms ≡ Some existing → differs (version o) (version existing) ≡ false → is_finalized existing (updated k.kind (r + 1) existing (in_place k.kind existing o)) ≡ true
@@ -92,7 +92,7 @@ module _ (P : Outcome → Type 0) (refusal : (f : Refusal) → P (refused f)) wh
     patched k (Err p) r existing put gone = refusal (bad_request p)
     patched k (Ok o) r existing put gone = guard P refusal (not (names_path k o)) (bad_request part.Object) (replace k o r existing) (λ _. of_replace k o r existing (put o refl) (gone o refl))
 
-    pub of_patch : (k : Key) (d : Data) (ms : history.Members) (r : ℕ)
+    pub of_patch : (k : Key) (d : Data) (ms : history.Entries) (r : ℕ)
         → ((o existing : Data) → object_in k.kind (merged existing d) ≡ Ok o → found k ms ≡ Some existing → differs (version o) (version existing) ≡ false → update_fault k.kind k.name r existing (in_place k.kind existing o) ≡ None
         → is_too_large (updated k.kind (r + 1) existing (in_place k.kind existing o)) ≡ false → is_past_greatest (r + 1) ≡ false → P (stored 200 k (updated k.kind (r + 1) existing (in_place k.kind existing o))))
         → ((o existing : Data) → object_in k.kind (merged existing d) ≡ Ok o → found k ms ≡ Some existing → differs (version o) (version existing) ≡ false
@@ -103,7 +103,7 @@ module _ (P : Outcome → Type 0) (refusal : (f : Refusal) → P (refused f)) wh
         (λ _. there P refusal k (λ existing. patch_read k r existing (object_in k.kind (merged existing d))) (found k ms)
         (λ existing is. patched k (object_in k.kind (merged existing d)) r existing (λ o read. put o existing read is) (λ o read. gone o existing read is)))
 
-    of_status_put : (k : Key) (read : Result Data Part) (ms : history.Members) (r : ℕ)
+    of_status_put : (k : Key) (read : Result Data Part) (ms : history.Entries) (r : ℕ)
         → ((o existing : Data) → read ≡ Ok o → found k ms ≡ Some existing → differs (version o) (version existing) ≡ false
         → is_too_large (at_revision (r + 1) (metadata_of (with_status_in k.kind existing o)) (with_status_in k.kind existing o)) ≡ false → is_past_greatest (r + 1) ≡ false
         → P (stored 200 k (at_revision (r + 1) (metadata_of (with_status_in k.kind existing o)) (with_status_in k.kind existing o))))
@@ -119,7 +119,7 @@ module _ (P : Outcome → Type 0) (refusal : (f : Refusal) → P (refused f)) wh
         (λ same. guard P refusal (not (is_status_valid k.kind d)) (invalid k field.Status) (cond (says_the_same existing d) (shown existing) (put_in_place k new r))
         (λ _. either P (says_the_same existing d) (shown existing) (put_in_place k new r) (λ _. show existing) (λ _. of_put k new r (put o existing refl is same))))))
 
-    pub of_status : (k : Key) (read : Result Data Part) (ms : history.Members) (r : ℕ)
+    pub of_status : (k : Key) (read : Result Data Part) (ms : history.Entries) (r : ℕ)
         → ((o existing : Data) → read ≡ Ok o → found k ms ≡ Some existing → differs (version o) (version existing) ≡ false
         → is_too_large (at_revision (r + 1) (metadata_of (with_status_in k.kind existing o)) (with_status_in k.kind existing o)) ≡ false → is_past_greatest (r + 1) ≡ false
         → P (stored 200 k (at_revision (r + 1) (metadata_of (with_status_in k.kind existing o)) (with_status_in k.kind existing o))))
@@ -143,7 +143,7 @@ module _ (P : Outcome → Type 0) (refusal : (f : Refusal) → P (refused f)) (q
   of_decision k code existing r false true f each = refusal (conflict k mismatch.ResourceVersion)
   of_decision k code existing r false false f each = each refl refl
 
-  pub of_delete : (k : Key) (o : Options) (ms : history.Members) (r : ℕ) (moment : List ℕ)
+  pub of_delete : (k : Key) (o : Options) (ms : history.Entries) (r : ℕ) (moment : List ℕ)
       → ((existing : Data) → found k ms ≡ Some existing → differs o.uid (uid existing) ≡ false → differs o.version (version existing) ≡ false → is_past_greatest (r + 1) ≡ false
       → P (stored (kept_code o.policy) k
       (at_revision (r + 1) (metadata_of (being_deleted k.kind moment (left_by o.policy (finalizers existing)) existing)) (being_deleted k.kind moment (left_by o.policy (finalizers existing)) existing))))
@@ -159,7 +159,7 @@ module _ (P : Outcome → Type 0) (refusal : (f : Refusal) → P (refused f)) (q
 -- ---- all verbs
 
 -- what may be written of a new object, by a create: it was read, and its checks passed
-abbrev pub Creates : (Outcome → Type 0) → history.Members → ℕ → List ℕ → Type 0
+abbrev pub Creates : (Outcome → Type 0) → history.Entries → ℕ → List ℕ → Type 0
 Creates P ms r moment =
     (kind : Kind) (ns : List ℕ) (d o : Data) → object_in kind d ≡ Ok o → create_fault kind (new_name kind ns o ms r).name r (with_first_status kind o) ≡ None
     → is_too_large (created kind (r + 1) ns (new_name kind ns o ms r).name moment o) ≡ false
@@ -168,40 +168,40 @@ Creates P ms r moment =
     → P (stored 201 (new_name kind ns o ms r) (created kind (r + 1) ns (new_name kind ns o ms r).name moment o))
 
 -- in the place of the stored object, by an update or a patch
-abbrev pub Updates : (Outcome → Type 0) → history.Members → ℕ → Type 0
+abbrev pub Updates : (Outcome → Type 0) → history.Entries → ℕ → Type 0
 Updates P ms r =
     (k : Key) (o existing : Data) → found k ms ≡ Some existing → update_fault k.kind k.name r existing (in_place k.kind existing o) ≡ None
     → is_too_large (updated k.kind (r + 1) existing (in_place k.kind existing o)) ≡ false
     → is_past_greatest (r + 1) ≡ false → P (stored 200 k (updated k.kind (r + 1) existing (in_place k.kind existing o)))
 
 -- where nothing keeps it any more
-abbrev pub Removes : (Outcome → Type 0) → history.Members → ℕ → Type 0
+abbrev pub Removes : (Outcome → Type 0) → history.Entries → ℕ → Type 0
 Removes P ms r =
     (k : Key) (o existing : Data) → found k ms ≡ Some existing → is_finalized existing (updated k.kind (r + 1) existing (in_place k.kind existing o)) ≡ true
     → is_past_greatest (r + 1) ≡ false → P (removed k (updated k.kind (r + 1) existing (in_place k.kind existing o)))
 
 -- by an update of the status
-abbrev pub Restates : (Outcome → Type 0) → history.Members → ℕ → Type 0
+abbrev pub Restates : (Outcome → Type 0) → history.Entries → ℕ → Type 0
 Restates P ms r =
     (k : Key) (o existing : Data) → found k ms ≡ Some existing
     → is_too_large (at_revision (r + 1) (metadata_of (with_status_in k.kind existing o)) (with_status_in k.kind existing o)) ≡ false → is_past_greatest (r + 1) ≡ false
     → P (stored 200 k (at_revision (r + 1) (metadata_of (with_status_in k.kind existing o)) (with_status_in k.kind existing o)))
 
 -- by a delete that leaves finalizers
-abbrev pub Marks : (Outcome → Type 0) → history.Members → ℕ → List ℕ → Type 0
+abbrev pub Marks : (Outcome → Type 0) → history.Entries → ℕ → List ℕ → Type 0
 Marks P ms r moment =
     (k : Key) (o : Options) (existing : Data) → found k ms ≡ Some existing → is_past_greatest (r + 1) ≡ false
     → P (stored (kept_code o.policy) k
     (at_revision (r + 1) (metadata_of (being_deleted k.kind moment (left_by o.policy (finalizers existing)) existing)) (being_deleted k.kind moment (left_by o.policy (finalizers existing)) existing)))
 
 -- by a delete that leaves none
-abbrev pub Deletes : (Outcome → Type 0) → history.Members → ℕ → Type 0
+abbrev pub Deletes : (Outcome → Type 0) → history.Entries → ℕ → Type 0
 Deletes P ms r =
     (k : Key) (o : Options) (existing : Data) → found k ms ≡ Some existing → (items_len (left_by o.policy (finalizers existing)) == 0) ≡ true
     → is_past_greatest (r + 1) ≡ false → P (removed k (removal_of k.kind k (r + 1) existing))
 
 module _ (P : Outcome → Type 0) (refusal : (f : Refusal) → P (refused f)) (quiet : (code : ℕ) (body : Data) → P (answered (record { code = code; body = body; write = None }))) where
-  pub of_accept_at : (q : Request) (ms : history.Members) (r : ℕ) (moment : List ℕ) → Creates P ms r moment → Updates P ms r → Removes P ms r → Restates P ms r → Marks P ms r moment → Deletes P ms r
+  pub of_accept_at : (q : Request) (ms : history.Entries) (r : ℕ) (moment : List ℕ) → Creates P ms r moment → Updates P ms r → Removes P ms r → Restates P ms r → Marks P ms r moment → Deletes P ms r
       → P (accept_at q ms r moment)
   of_accept_at (get_object k) ms r moment new put gone status marks deletes = there P refusal k shown (found k ms) (λ d is. quiet 200 d)
   of_accept_at (list_objects v) ms r moment new put gone status marks deletes = quiet 200 _
@@ -217,7 +217,7 @@ module _ (P : Outcome → Type 0) (refusal : (f : Refusal) → P (refused f)) (q
       of_delete P refusal quiet k o ms r moment (λ existing is same same_version. marks k o existing is) (λ existing is same same_version. deletes k o existing is)
 
   -- after a history
-  pub of_accept : (q : Request) (h : History) (moment : List ℕ) → Creates P (members h (present h)) (present h) moment → Updates P (members h (present h)) (present h)
-      → Removes P (members h (present h)) (present h) → Restates P (members h (present h)) (present h) → Marks P (members h (present h)) (present h) moment
-      → Deletes P (members h (present h)) (present h) → P (accept q h moment)
-  of_accept q h moment new put gone status marks deletes = of_accept_at q (members h (present h)) (present h) moment new put gone status marks deletes
+  pub of_accept : (q : Request) (h : History) (moment : List ℕ) → Creates P (entries_at h (present h)) (present h) moment → Updates P (entries_at h (present h)) (present h)
+      → Removes P (entries_at h (present h)) (present h) → Restates P (entries_at h (present h)) (present h) → Marks P (entries_at h (present h)) (present h) moment
+      → Deletes P (entries_at h (present h)) (present h) → P (accept q h moment)
+  of_accept q h moment new put gone status marks deletes = of_accept_at q (entries_at h (present h)) (present h) moment new put gone status marks deletes

@@ -13,14 +13,14 @@ use Rattle.definitions.specs.declared.kinds.Kind.{Kind}
 use Rattle.definitions.specs.declared.kinds.Kind.TheVariants.{ConfigMap, Pod, ReplicaSet, Deployment}
 use Rattle.definitions.specs.declared.refusals.Field.{Field}
 use Rattle.laws.specs.CheckLaws.{HasTemplate, SelectsItsTemplate, CreatedSelectTheirTemplates, UpdatedSelectTheirTemplates, StoredPassAgain}
-use Rattle.definitions.specs.Checks.{is_generating_byte, Check, first_fault, checks, checks_of, in_spec, requirements, is_selected, is_template_valid, are_labels, are_labels_valid, is_selector_valid, adds_no_finalizer, is_selector_kept, is_known_uid, is_not_empty, is_owner, are_owners_valid, controllers, generate_name, is_name_valid, generates, passes_if_there, is_generate_name_valid, are_finalizers_valid, is_finalizer, text_is, is_not_negative, counts, is_strategy}
+use Rattle.definitions.specs.Checks.{is_generating_byte, Check, first_fault, checks, checks_of, in_spec, requirements, is_selected, is_template_valid, are_labels, are_labels_valid, is_selector_valid, adds_no_finalizer, is_selector_kept, is_possible_uid, is_not_empty, is_owner, are_owners_valid, controllers, generate_name, is_name_valid, generates, passes_if_there, is_generate_name_valid, are_finalizers_valid, is_finalizer, text_is, is_not_negative, counts, is_strategy}
 use Rattle.definitions.specs.Metadata.{labels_of, Owner, metadata, metadata_of, name, owners, owners_in}
 use Rattle.definitions.specs.Selectors.{Requirement, meets_all}
-use Rattle.definitions.specs.SelectorValues.{all_items, items_in, passes, selector_of_value}
+use Rattle.definitions.specs.SelectorValues.{all_items, items_in, is_some_and, selector_of_value}
 use Rattle.definitions.specs.Uids.{uid_text, uid_revision, cluster_word}
 use Rattle.definitions.specs.Values.{inner_of, members_of, without}
 use Rattle.definitions.specs.NewObjects.{created, first_status, new_metadata, with_first_status, with_generation, with_status}
-use Rattle.definitions.specs.Defaults.{whole}
+use Rattle.definitions.specs.Defaults.{unsigned_value}
 use Rattle.definitions.specs.Kinds.{has_generation}
 use Rattle.definitions.specs.Keys.{is_subdomain}
 use Rattle.laws.proofs.SetMetadata.{text-at_revision, name-new_metadata}
@@ -57,7 +57,7 @@ has_template Deployment kept d is m = m.1.1.0
 selects : (d : Data) → is_template_valid d ≡ true → SelectsItsTemplate d
 selects d h s t rs selector template said =
     let reads : requirements d ≡ Some rs = ap (option_and_then (λ x. result_ok (selector_of_value x))) selector ∙ ap result_ok said in
-    let both_true : passes (is_selected rs) (Some t) ≡ true = sym (ap (λ o. passes (λ (rs : List Requirement). passes (is_selected rs) (in_spec (codes "template") d)) o) reads ∙ ap (passes (is_selected rs)) template) ∙ h in
+    let both_true : is_some_and (is_selected rs) (Some t) ≡ true = sym (ap (λ o. is_some_and (λ (rs : List Requirement). is_some_and (is_selected rs) (in_spec (codes "template") d)) o) reads ∙ ap (is_some_and (is_selected rs)) template) ∙ h in
     right_true (are_labels_valid t) (meets_all rs (labels_of t)) both_true
 
 pub created_select : CreatedSelectTheirTemplates
@@ -91,18 +91,18 @@ and_last true v w f h = f h
 and_last false v w f h = h
 
 module _ (present later : ℕ) (le : present ≤ later) where
-  known : (t : List ℕ) → is_known_uid present t ≡ true → is_known_uid later t ≡ true
+  known : (t : List ℕ) → is_possible_uid present t ≡ true → is_possible_uid later t ≡ true
   known t h =
       known_at (is_not_empty t) (bytes_eq t (uid_text cluster_word (uid_revision t)) && nat_lt (uid_revision t) (2 ^ 62)) (nat_lt present (uid_revision t)) (nat_lt later (uid_revision t))
       (later_below present later (uid_revision t) le) h
 
-  known_if : (o : Option (List ℕ)) → passes (is_known_uid present) o ≡ true → passes (is_known_uid later) o ≡ true
+  known_if : (o : Option (List ℕ)) → is_some_and (is_possible_uid present) o ≡ true → is_some_and (is_possible_uid later) o ≡ true
   known_if None h = h
   known_if (Some t) h = known t h
 
   owner_later : (o : Owner) → is_owner present o ≡ true → is_owner later o ≡ true
   owner_later o h =
-      and_last (passes is_not_empty o.api_version && passes is_not_empty o.kind && passes is_not_empty o.name) (passes (is_known_uid present) o.uid) (passes (is_known_uid later) o.uid)
+      and_last (is_some_and is_not_empty o.api_version && is_some_and is_not_empty o.kind && is_some_and is_not_empty o.name) (is_some_and (is_possible_uid present) o.uid) (is_some_and (is_possible_uid later) o.uid)
       (known_if o.uid) h
 
   owners_later : (os : List Owner) → list_all (is_owner present) os ≡ true → list_all (is_owner later) os ≡ true
@@ -124,8 +124,8 @@ by_name : (under : List ℕ) (o : Option (List ℕ)) (d : Data) → IfSome o (λ
 by_name under None d is valid made = by_generated under (generate_name d) valid made
 by_name under (Some n) d is valid made = subst (λ t. is_subdomain t ≡ true) is valid
 
-get-generation : (q : List ℕ) (b : Bool) (ms : Members) → bytes_eq q (codes "generation") ≡ false → get_member q (cond b (put (codes "generation") (whole 1) ms) ms) ≡ get_member q ms
-get-generation q true ms other = get_member-put_other q (codes "generation") (whole 1) ms (apart q (codes "generation") other)
+get-generation : (q : List ℕ) (b : Bool) (ms : Members) → bytes_eq q (codes "generation") ≡ false → get_member q (cond b (put (codes "generation") (unsigned_value 1) ms) ms) ≡ get_member q ms
+get-generation q true ms other = get_member-put_other q (codes "generation") (unsigned_value 1) ms (apart q (codes "generation") other)
 get-generation q false ms other = refl
 
 module _ (k : Kind) (r : ℕ) (ns under moment : List ℕ) (d : Data) where
@@ -192,12 +192,12 @@ module _ (k : Kind) (r : ℕ) (ns under moment : List ℕ) (d : Data) where
   said_same = ap (option_and_then (λ s. result_ok (selector_of_value s))) (in_spec_same (codes "selector"))
 
   selector : (is_selector_valid made_of && true) ≡ (is_selector_valid first && true)
-  selector = ap (λ (o : Option (List Requirement)). passes (λ (rs : List Requirement). nat_lt 0 (length rs)) o && true) said_same
+  selector = ap (λ (o : Option (List Requirement)). is_some_and (λ (rs : List Requirement). nat_lt 0 (length rs)) o && true) said_same
 
   template : is_template_valid made_of ≡ is_template_valid first
   template =
-      ap (λ o. passes (λ (rs : List Requirement). passes (is_selected rs) (in_spec (codes "template") made_of)) o) said_same
-      ∙ ap (λ t. passes (λ (rs : List Requirement). passes (is_selected rs) t) (requirements first)) (in_spec_same (codes "template"))
+      ap (λ o. is_some_and (λ (rs : List Requirement). is_some_and (is_selected rs) (in_spec (codes "template") made_of)) o) said_same
+      ∙ ap (λ t. is_some_and (λ (rs : List Requirement). is_some_and (is_selected rs) t) (requirements first)) (in_spec_same (codes "template"))
 
 -- the first status counts nothing below 0
 status_is : (k : Kind) (s : Data) (d : Data) → first_status k ≡ Some s → get (codes "status") (with_first_status k d) ≡ Some s
@@ -220,7 +220,7 @@ kind_met Deployment r ns under moment d m =
         (
           template Deployment r ns under moment d ∙ m.1.1.0,
           (
-            ap (passes is_strategy) (in_made (codes "strategy")) ∙ m.1.1.1.0,
+            ap (is_some_and is_strategy) (in_made (codes "strategy")) ∙ m.1.1.1.0,
             (ap is_not_negative (in_made (codes "revisionHistoryLimit")) ∙ m.1.1.1.1.0, (status, tt)),
           ),
         ),

@@ -9,9 +9,9 @@ use Rattle.definitions.specs.declared.schemas.Schema.{Schema}
 use Rattle.definitions.specs.declared.schemas.Schema.TheVariants.{Root, ReplicaSetSpec, DeploymentSpec, Strategy, Unknown}
 use Rattle.laws.proofs.NeatMembers.{One, Neat, Neat-put, Neat-get, Neat-of, Neat-fits, Neat-tidy, Neat-depth, Neat-whole, Neat-good, opens}
 use Rattle.laws.specs.CheckLaws.{DefaultsReadAgain}
-use Rattle.definitions.specs.Defaults.{whole, with_changed, rolling_defaults, is_rolling_update, with_rolling, strategy_defaults, replica_set_defaults, deployment_defaults, defaulted}
+use Rattle.definitions.specs.Defaults.{unsigned_value, with_changed, rolling_defaults, is_rolling_update, with_rolling, strategy_defaults, replica_set_defaults, deployment_defaults, defaulted}
 use Rattle.definitions.proofs.FoundMembers.{with_found}
-use Rattle.definitions.specs.Schemas.{member_at}
+use Rattle.definitions.specs.Schemas.{property_at}
 use Rattle.definitions.specs.Values.{with_default}
 use Rattle.definitions.specs.Reading.{fits, members_fit, is_absent, empty, reading}
 use Rattle.laws.proofs.ReadAgain.{IsTidy, Has, Has-put, Filled, filled_members, Filled-filled, settled}
@@ -53,7 +53,7 @@ keeps_if n p test change f = λ ms g. by (test (object ms)) ms g
 
 -- a member that is an object
 IsObjectAt : Schema → List ℕ → Schema → Type 0
-IsObjectAt p k q = ((member_at p k).shape ≡ Object q) × ((ms : Members) → is_absent (member_at p k) (object ms) ≡ false)
+IsObjectAt p k q = ((property_at p k).shape ≡ Object q) × ((ms : Members) → is_absent (property_at p k) (object ms) ≡ false)
 
 as_part : (n : ℕ) (p q : Schema) (k : List ℕ) (ms : Members) → IsObjectAt p k q → Neat n q ms → One (suc n) p k (object ms)
 unfolding IsObjectAt
@@ -109,7 +109,7 @@ keeps_strategy =
     (keeps_changed 96 Strategy Unknown (codes "rollingUpdate") rolling_defaults rolling_is keeps_rolling)))
 
 keeps_replica_set : Keeps 98 ReplicaSetSpec replica_set_defaults
-keeps_replica_set = keeps_default 98 ReplicaSetSpec (codes "replicas") (whole 1) (refl, refl, tt, omega arith, refl)
+keeps_replica_set = keeps_default 98 ReplicaSetSpec (codes "replicas") (unsigned_value 1) (refl, refl, tt, omega arith, refl)
 
 strategy_is : IsObjectAt DeploymentSpec (codes "strategy") Strategy
 unfolding IsObjectAt
@@ -117,14 +117,14 @@ strategy_is = (refl, λ ms. refl)
 
 keeps_deployment : Keeps 98 DeploymentSpec deployment_defaults
 keeps_deployment =
-    let one : Data → Data = with_default (codes "replicas") (whole 1) in
-    let two : Data → Data = λ d. with_default (codes "revisionHistoryLimit") (whole 10) (one d) in
+    let one : Data → Data = with_default (codes "replicas") (unsigned_value 1) in
+    let two : Data → Data = λ d. with_default (codes "revisionHistoryLimit") (unsigned_value 10) (one d) in
     let three : Data → Data = λ d. with_default (codes "strategy") empty (two d) in
     keeps_both 98 DeploymentSpec three (with_changed (codes "strategy") strategy_defaults)
     (keeps_both 98 DeploymentSpec two (with_default (codes "strategy") empty)
-    (keeps_both 98 DeploymentSpec one (with_default (codes "revisionHistoryLimit") (whole 10))
-    (keeps_default 98 DeploymentSpec (codes "replicas") (whole 1) (refl, refl, tt, omega arith, refl))
-    (keeps_default 98 DeploymentSpec (codes "revisionHistoryLimit") (whole 10) (refl, refl, tt, omega arith, refl)))
+    (keeps_both 98 DeploymentSpec one (with_default (codes "revisionHistoryLimit") (unsigned_value 10))
+    (keeps_default 98 DeploymentSpec (codes "replicas") (unsigned_value 1) (refl, refl, tt, omega arith, refl))
+    (keeps_default 98 DeploymentSpec (codes "revisionHistoryLimit") (unsigned_value 10) (refl, refl, tt, omega arith, refl)))
     (keeps_default 98 DeploymentSpec (codes "strategy") empty (refl, refl, tt, omega arith, refl)))
     (keeps_changed 97 DeploymentSpec Strategy (codes "strategy") strategy_defaults strategy_is keeps_strategy)
 

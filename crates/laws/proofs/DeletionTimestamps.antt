@@ -10,7 +10,7 @@ use Rattle.serde_json.proofs.Views.{get_member-put, get_member-put_other}
 use Rattle.definitions.specs.declared.kinds.Kind.{Kind}
 use Rattle.definitions.specs.declared.policies.Policy.{Policy}
 use Rattle.definitions.specs.Checks.{finalizers}
-use Rattle.definitions.specs.Defaults.{whole}
+use Rattle.definitions.specs.Defaults.{unsigned_value}
 use Rattle.definitions.specs.Deletion.{left_by, others_then, of_policy, with_deletion}
 use Rattle.definitions.specs.Kinds.{has_generation}
 use Rattle.definitions.specs.Metadata.{metadata_of, with_metadata, at_revision, is_being_deleted}
@@ -128,7 +128,7 @@ room_written r meta d a fits =
 abbrev number_in : Option Data → ℕ
 number_in o = unwrap_or (option_and_then as_u64 (option_and_then as_number o)) 0
 
-last_number : (o : Option Data) → nat_lt (number_in o) greatest_revision ≡ false → o ≡ Some (whole (number_in o))
+last_number : (o : Option Data) → nat_lt (number_in o) greatest_revision ≡ false → o ≡ Some (unsigned_value (number_in o))
 last_number None h = cc
 last_number (Some null) h = cc
 last_number (Some (boolean b)) h = cc
@@ -147,15 +147,15 @@ module _ (existing : Data) (ordered : IsOrdered (metadata_of existing)) (ds : It
   m = metadata_of existing
 
   number_at : (b : Bool) → nat_lt (generation existing) greatest_revision ≡ b
-      → size existing (with_finalizers ds (put (codes "generation") (whole (cond b (generation existing + 1) (generation existing))) m)) ≤ size existing (with_finalizers ds m) + 100
+      → size existing (with_finalizers ds (put (codes "generation") (unsigned_value (cond b (generation existing + 1) (generation existing))) m)) ≤ size existing (with_finalizers ds m) + 100
   number_at true is =
-      let new = whole (generation existing + 1) in
+      let new = unsigned_value (generation existing + 1) in
       let apart_from : size existing (with_finalizers ds (put (codes "generation") new m)) ≡ size existing (put (codes "generation") new (with_finalizers ds m)) =
       ap (size existing) (put_both (codes "finalizers") (codes "generation") (array ds) new m refl) in
       omega (arith, apart_from, size-put_new (codes "generation") new (with_finalizers ds m) existing refl, length-quoted (codes "generation"), short_number (generation existing) is)
   number_at false is =
-      let same : size existing (with_finalizers ds (put (codes "generation") (whole (generation existing)) m)) ≡ size existing (with_finalizers ds m) =
-      ap (λ x. size existing (with_finalizers ds x)) (put_same (codes "generation") (whole (generation existing)) m ordered (last_number (get_member (codes "generation") m) is)) in
+      let same : size existing (with_finalizers ds (put (codes "generation") (unsigned_value (generation existing)) m)) ≡ size existing (with_finalizers ds m) =
+      ap (λ x. size existing (with_finalizers ds x)) (put_same (codes "generation") (unsigned_value (generation existing)) m ordered (last_number (get_member (codes "generation") m) is)) in
       omega (arith, same)
 
   generation_at : (is_new : Bool) → size existing (with_finalizers ds (with_next_generation is_new existing m)) ≤ size existing (with_finalizers ds m) + 100

@@ -5,7 +5,7 @@ use Rattle.std.specs.List.{AllByRecursion}
 use Rattle.std.specs.Map.{remove_entry}
 use Rattle.std.specs.Ordering.{match_ordering}
 use Rattle.serde_json.specs.Data.{Data}
-use Rattle.definitions.specs.History.{History, Write, View, Members, write, writes, state, last_of, up_to, after_all, put_or_remove, in_view, viewed, list}
+use Rattle.definitions.specs.History.{History, Write, View, Entries, write, writes, state, last_of, up_to, after_all, put_or_remove, in_view, viewed, list}
 use Rattle.definitions.specs.Keys.{Key, key_cmp, is_same_key}
 use Rattle.definitions.specs.Verbs.{with_write}
 use Rattle.definitions.proofs.PutLaws.{same_name}
@@ -46,40 +46,40 @@ module _ (P : Key → Data → Type 0) where
 
   -- ---- what is listed
 
-  abbrev pub Held : Members → Type 0
+  abbrev pub Held : Entries → Type 0
   Held ms = AllByRecursion (λ (m : Key × Data). P m.0 m.1) ms
 
-  insert_at : (o : Ordering) (n : Key) (d : Data) (m : Key × Data) (ms : Members) → key_cmp n m.0 ≡ o → P n d → Held (m ∷ ms) → Held (insert_entry key_cmp ms n d)
+  insert_at : (o : Ordering) (n : Key) (d : Data) (m : Key × Data) (ms : Entries) → key_cmp n m.0 ≡ o → P n d → Held (m ∷ ms) → Held (insert_entry key_cmp ms n d)
       → Held (match_ordering o ((n, d) ∷ m ∷ ms) ((m.0, d) ∷ ms) (m ∷ insert_entry key_cmp ms n d))
   insert_at Less n d m ms is h a later = (h, a)
   insert_at Equal n d m ms is h a later = (subst (λ x. P x d) (same_name n m.0 (ap is_eq is)) h, a.1)
   insert_at Greater n d m ms is h a later = (a.0, later)
 
-  held_insert : (n : Key) (d : Data) (ms : Members) → P n d → Held ms → Held (insert_entry key_cmp ms n d)
+  held_insert : (n : Key) (d : Data) (ms : Entries) → P n d → Held ms → Held (insert_entry key_cmp ms n d)
   held_insert n d [] h a = (h, tt)
   held_insert n d (m ∷ ms) h a = insert_at (key_cmp n m.0) n d m ms refl h a (held_insert n d ms h a.1)
 
-  remove_at : (b : Bool) (m : Key × Data) (ms left : Members) → Held (m ∷ ms) → Held left → Held (cond b ms (m ∷ left))
+  remove_at : (b : Bool) (m : Key × Data) (ms left : Entries) → Held (m ∷ ms) → Held left → Held (cond b ms (m ∷ left))
   remove_at true m ms left a later = a.1
   remove_at false m ms left a later = (a.0, later)
 
-  held_remove : (n : Key) (ms : Members) → Held ms → Held (remove_entry (is_at (key_cmp n)) ms)
+  held_remove : (n : Key) (ms : Entries) → Held ms → Held (remove_entry (is_at (key_cmp n)) ms)
   held_remove n [] a = tt
   held_remove n (m ∷ ms) a = remove_at (is_at (key_cmp n) m.0) m ms (remove_entry (is_at (key_cmp n)) ms) a (held_remove n ms a.1)
 
-  held_after : (n : Key) (o : Option Data) (ms : Members) → IfSome o (P n) → Held ms → Held (put_or_remove ms n o)
+  held_after : (n : Key) (o : Option Data) (ms : Entries) → IfSome o (P n) → Held ms → Held (put_or_remove ms n o)
   held_after n None ms h a = held_remove n ms a
   held_after n (Some d) ms h a = held_insert n d ms h a
 
-  pub held_all : (ws : List Write) (ms : Members) → AllPut ws → Held ms → Held (after_all ms ws)
+  pub held_all : (ws : List Write) (ms : Entries) → AllPut ws → Held ms → Held (after_all ms ws)
   held_all [] ms s a = a
   held_all (w ∷ ws) ms s a = held_all ws (put_or_remove ms w.key w.put) s.1 (held_after w.key w.put ms s.0 a)
 
-  seen_if : (b : Bool) (m : Key × Data) (ms : Members) → P m.0 m.1 → Held ms → Held (cond b (m ∷ ms) ms)
+  seen_if : (b : Bool) (m : Key × Data) (ms : Entries) → P m.0 m.1 → Held ms → Held (cond b (m ∷ ms) ms)
   seen_if true m ms h a = (h, a)
   seen_if false m ms h a = a
 
-  held_viewed : (v : View) (ms : Members) → Held ms → Held (viewed v ms)
+  held_viewed : (v : View) (ms : Entries) → Held ms → Held (viewed v ms)
   held_viewed v [] a = tt
   held_viewed v (m ∷ ms) a = seen_if (in_view v m.0 m.1) m (viewed v ms) a.0 (held_viewed v ms a.1)
 

@@ -6,11 +6,11 @@ use Rattle.serde_json.specs.Find.{get, get_member, as_number, as_u64}
 use Rattle.serde_json.proofs.Views.{get_member-put, get_member-put_other}
 use Rattle.definitions.specs.declared.kinds.Kind.{Kind}
 use Rattle.definitions.specs.declared.kinds.Kind.TheVariants.{ConfigMap, Pod, ReplicaSet, Deployment}
-use Rattle.definitions.specs.Checks.{finalizers, text_of}
-use Rattle.definitions.specs.Defaults.{whole}
+use Rattle.definitions.specs.Checks.{finalizers, text_or_empty}
+use Rattle.definitions.specs.Defaults.{unsigned_value}
 use Rattle.definitions.specs.DeleteOptions.{Options}
 use Rattle.definitions.specs.Deletion.{left_by, being_deleted, with_deletion}
-use Rattle.definitions.specs.History.{History, found, members, present, state}
+use Rattle.definitions.specs.History.{History, found, entries_at, present, state}
 use Rattle.definitions.specs.Kinds.{has_generation}
 use Rattle.laws.specs.HistoryLaws.{OfStored, is_delete}
 use Rattle.laws.specs.LifecycleLaws.{OfReplaced, rises, GenerationsCount, GenerationsBegin, StatusesChangeNothingElse, NoWriteNoChange}
@@ -39,7 +39,7 @@ count_of o = unwrap_or (option_and_then as_u64 (option_and_then as_number o)) 0
 
 counted : (b : Bool) (existing : Data) (meta : Members) → get_member (codes "generation") meta ≡ metadata (codes "generation") existing
     → count_of (get_member (codes "generation") (with_next_generation b existing meta)) ≡ cond b (next_generation (generation existing)) (generation existing)
-counted true existing meta is = ap count_of (get_member-put (codes "generation") (whole (next_generation (generation existing))) meta)
+counted true existing meta is = ap count_of (get_member-put (codes "generation") (unsigned_value (next_generation (generation existing))) meta)
 counted false existing meta is = ap count_of is
 
 -- a member beside the metadata is as it was
@@ -91,7 +91,7 @@ change_nothing_else k d h moment =
     (λ written existing new.
     ((q : List ℕ) → bytes_eq q (codes "status") ≡ false → bytes_eq q (codes "metadata") ≡ false → get q new ≡ get q existing)
     × ((q : List ℕ) → bytes_eq q (codes "resourceVersion") ≡ false → metadata q new ≡ metadata q existing)))
-    (λ f. tt) (λ shown. tt) k (reading k.kind d) (members h (present h)) (present h)
+    (λ f. tt) (λ shown. tt) k (reading k.kind d) (entries_at h (present h)) (present h)
     (λ o existing read at equal fits low.
     let made = with_status_in k.kind existing o in
     let new = at_revision (present h + 1) (metadata_of made) made in
@@ -102,7 +102,7 @@ change_nothing_else k d h moment =
     at (λ q a b. get-restated q k.kind (present h + 1) existing o a b, λ q other. member-restated q k.kind (present h + 1) existing o other))
 
 unchanged : (o : Option Data) → has_changed o o ≡ false
-unchanged o = ap not ((bytes_eq-Decides (text_of o) (text_of o)).1 refl)
+unchanged o = ap not ((bytes_eq-Decides (text_or_empty o) (text_or_empty o)).1 refl)
 
 not_new : (k : Kind) (existing new : Data) → get (codes "spec") new ≡ get (codes "spec") existing → metadata (codes "annotations") new ≡ metadata (codes "annotations") existing → is_new_generation k existing new ≡ false
 not_new ConfigMap existing new spec notes = refl
@@ -146,33 +146,33 @@ mark_counts k l o r moment left existing has some =
 -- ---- each request
 
 pub count : GenerationsCount
-count (get_object k) h moment = there (CountedBy (get_object k) h) (λ f. tt) k shown (found k (members h (present h))) (λ d is. tt)
+count (get_object k) h moment = there (CountedBy (get_object k) h) (λ f. tt) k shown (found k (entries_at h (present h))) (λ d is. tt)
 count (list_objects v) h moment = tt
 count (create_object kind ns d) h moment =
-    of_create (CountedBy (create_object kind ns d) h) (λ f. tt) kind ns (object_in kind d) (members h (present h)) (present h) moment
+    of_create (CountedBy (create_object kind ns d) h) (λ f. tt) kind ns (object_in kind d) (entries_at h (present h)) (present h) moment
     (λ o read valid fits free room.
-    let k = new_name kind ns o (members h (present h)) (present h) in
+    let k = new_name kind ns o (entries_at h (present h)) (present h) in
     of_none (λ existing. Counts (create_object kind ns d) kind existing (created kind (present h + 1) ns k.name moment o)) (state h (present h) k)
-    (sym (found-state h k) ∙ none_from (found k (members h (present h))) free))
+    (sym (found-state h k) ∙ none_from (found k (entries_at h (present h))) free))
 count (update_object k d) h moment =
-    of_update (CountedBy (update_object k d) h) (λ f. tt) (λ d. tt) k (object_in k.kind d) (members h (present h)) (present h)
+    of_update (CountedBy (update_object k d) h) (λ f. tt) (λ d. tt) k (object_in k.kind d) (entries_at h (present h)) (present h)
     (λ o existing read at equal valid fits low.
     let new = updated k.kind (present h + 1) existing (in_place k.kind existing o) in
     at_held h k existing (λ was. Counts (update_object k d) k.kind was new) at (update_counts (update_object k d) k.kind (present h + 1) existing o refl))
     (λ o existing read at equal free low. tt)
 count (update_status k d) h moment =
-    of_status (CountedBy (update_status k d) h) (λ f. tt) (λ d. tt) k (reading k.kind d) (members h (present h)) (present h)
+    of_status (CountedBy (update_status k d) h) (λ f. tt) (λ d. tt) k (reading k.kind d) (entries_at h (present h)) (present h)
     (λ o existing read at equal fits low.
     let made = with_status_in k.kind existing o in
     at_held h k existing (λ was. Counts (update_status k d) k.kind was (at_revision (present h + 1) (metadata_of made) made)) at (status_counts k k d (present h + 1) existing o))
 count (patch_object k d) h moment =
-    of_patch (CountedBy (patch_object k d) h) (λ f. tt) (λ d. tt) k d (members h (present h)) (present h)
+    of_patch (CountedBy (patch_object k d) h) (λ f. tt) (λ d. tt) k d (entries_at h (present h)) (present h)
     (λ o existing read at equal valid fits low.
     let new = updated k.kind (present h + 1) existing (in_place k.kind existing o) in
     at_held h k existing (λ was. Counts (patch_object k d) k.kind was new) at (update_counts (patch_object k d) k.kind (present h + 1) existing o refl))
     (λ o existing read at equal free low. tt)
 count (delete_object k o) h moment =
-    of_delete (CountedBy (delete_object k o) h) (λ f. tt) (λ code body. tt) k o (members h (present h)) (present h) moment
+    of_delete (CountedBy (delete_object k o) h) (λ f. tt) (λ code body. tt) k o (entries_at h (present h)) (present h) moment
     (λ existing at same same_version low.
     let d = being_deleted k.kind moment (left_by o.policy (finalizers existing)) existing in
     at_held h k existing (λ was. Counts (delete_object k o) k.kind was (at_revision (present h + 1) (metadata_of d) d)) at
@@ -181,12 +181,12 @@ count (delete_object k o) h moment =
 
 -- ---- a new object
 
-first_counted : (b : Bool) (k : Kind) (meta : Members) → has_generation k ≡ b → b ≡ true → get_member (codes "generation") (with_generation k meta) ≡ Some (whole 1)
-first_counted true k meta is h = ap (λ c. get_member (codes "generation") (cond c (put (codes "generation") (whole 1) meta) meta)) is ∙ get_member-put (codes "generation") (whole 1) meta
+first_counted : (b : Bool) (k : Kind) (meta : Members) → has_generation k ≡ b → b ≡ true → get_member (codes "generation") (with_generation k meta) ≡ Some (unsigned_value 1)
+first_counted true k meta is h = ap (λ c. get_member (codes "generation") (cond c (put (codes "generation") (unsigned_value 1) meta) meta)) is ∙ get_member-put (codes "generation") (unsigned_value 1) meta
 first_counted false k meta is h = cc
 
 generation-new_metadata : (k : Kind) (r : ℕ) (ns named moment : List ℕ) (meta : Members) → has_generation k ≡ true
-    → get_member (codes "generation") (new_metadata k r ns named moment meta) ≡ Some (whole 1)
+    → get_member (codes "generation") (new_metadata k r ns named moment meta) ≡ Some (unsigned_value 1)
 generation-new_metadata k r ns named moment meta has =
     let based = with_generation k (without (codes "deletionTimestamp") meta) in
     let with_name = put (codes "name") (string named) based in
@@ -200,9 +200,9 @@ generation-new_metadata k r ns named moment meta has =
 
 pub begin : GenerationsBegin
 begin kind ns d h moment has =
-    of_create (λ u. OfStored u (λ k new. generation new ≡ 1)) (λ f. tt) kind ns (object_in kind d) (members h (present h)) (present h) moment
+    of_create (λ u. OfStored u (λ k new. generation new ≡ 1)) (λ f. tt) kind ns (object_in kind d) (entries_at h (present h)) (present h) moment
     (λ o read valid fits free room.
-    let k = new_name kind ns o (members h (present h)) (present h) in
+    let k = new_name kind ns o (entries_at h (present h)) (present h) in
     let meta = new_metadata kind (present h + 1) ns k.name moment (metadata_of o) in
     ap count_of
     (member-at_revision (codes "generation") (present h + 1) meta (object (with_status (first_status kind) (members_of o))) refl

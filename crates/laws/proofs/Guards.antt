@@ -4,7 +4,7 @@ use Rattle.serde_json.specs.Data.{Data}
 use Rattle.definitions.specs.declared.refusals.Field.{Field}
 use Rattle.definitions.specs.Keys.{Key}
 use Rattle.definitions.specs.Refusals.{Refusal, not_found, invalid}
-use Rattle.definitions.specs.Verbs.{Outcome, refused, refuse_if, refuse_field, or_absent}
+use Rattle.definitions.specs.Verbs.{Outcome, refused, refuse_if, refuse_field, or_not_found}
 
 module _ (P : Outcome → Type 0) (refusal : (f : Refusal) → P (refused f)) where
   pub guard : (b : Bool) (f : Refusal) (o : Outcome) → (b ≡ false → P o) → P (refuse_if b f o)
@@ -15,7 +15,7 @@ module _ (P : Outcome → Type 0) (refusal : (f : Refusal) → P (refused f)) wh
   guard_field k None o next = next refl
   guard_field k (Some f) o next = refusal (invalid k f)
 
-  pub there : (k : Key) (next : Data → Outcome) (now : Option Data) → ((d : Data) → now ≡ Some d → P (next d)) → P (or_absent k next now)
+  pub there : (k : Key) (next : Data → Outcome) (now : Option Data) → ((d : Data) → now ≡ Some d → P (next d)) → P (or_not_found k next now)
   there k next None each = refusal (not_found k)
   there k next (Some d) each = each d refl
 

@@ -1,13 +1,13 @@
 -- Pages, joined.
 use Rattle.std.proofs.Common.{append-nil, ◌≡◌, ℕ, List, [], ◌∷◌, ◌++◌, length, take, drop, Option, Some, None, refl, sym, ap, ap₂, ◌∙◌, append_assoc, nat_le, nat_eq}
 use Rattle.std.proofs.lemmas.List.{take-append-drop}
-use Rattle.definitions.specs.History.{History, View, Members, list}
+use Rattle.definitions.specs.History.{History, View, Entries, list}
 use Rattle.definitions.specs.Pages.{Place, after_place, last_place, Page, page_of}
 use Rattle.definitions.proofs.PageLists.{order, no_next, has_next, left_after, ascending_list, all_after}
 use Rattle.definitions.proofs.PutLaws.{IsAscending}
 use Rattle.laws.specs.PageLaws.{ArePages, joined}
 
-joined_from : (ms : Members) (gs : List Page) (front rest : Members) (p : Option Place) → IsAscending order ms → ms ≡ front ++ rest → after_place p ms ≡ rest → ArePages ms p gs → joined gs ≡ rest
+joined_from : (ms : Entries) (gs : List Page) (front rest : Entries) (p : Option Place) → IsAscending order ms → ms ≡ front ++ rest → after_place p ms ≡ rest → ArePages ms p gs → joined gs ≡ rest
 joined_from ms [] front rest p a is left h = absurd h
 joined_from ms (g ∷ []) front rest p a is left h =
     let n = h.0.0 in

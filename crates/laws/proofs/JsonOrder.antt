@@ -11,7 +11,7 @@ use Rattle.definitions.specs.declared.schemas.Schema.{Schema}
 use Rattle.definitions.specs.Kinds.{api_version, kind_text}
 use Rattle.definitions.specs.Reached.{IsBefore}
 use Rattle.definitions.specs.Reading.{is_absent, tidied, tidied_members, empty}
-use Rattle.definitions.specs.Schemas.{member_at}
+use Rattle.definitions.specs.Schemas.{property_at}
 use Rattle.definitions.specs.Values.{without}
 use Rattle.laws.proofs.ReadAgain.{same_name, defaulted, spec_members, filled_members}
 
@@ -58,14 +58,14 @@ ordered_cond false l e ms h a = (h, a)
 IsBefore-tidied : (p : Schema) (j : List ℕ) (ms : Members) → IsBefore j ms → IsBefore j (tidied_members p ms)
 IsBefore-tidied p j no_members a = tt
 IsBefore-tidied p j (member l e ms) a =
-    let left = tidied (member_at p l).shape e in
-    below_cond (is_absent (member_at p l) left) j l left (tidied_members p ms) a.0 (IsBefore-tidied p j ms a.1)
+    let left = tidied (property_at p l).shape e in
+    below_cond (is_absent (property_at p l) left) j l left (tidied_members p ms) a.0 (IsBefore-tidied p j ms a.1)
 
 pub IsOrdered-tidied : (p : Schema) (ms : Members) → IsOrdered ms → IsOrdered (tidied_members p ms)
 IsOrdered-tidied p no_members a = tt
 IsOrdered-tidied p (member l e ms) a =
-    let left = tidied (member_at p l).shape e in
-    ordered_cond (is_absent (member_at p l) left) l left (tidied_members p ms) (IsBefore-tidied p l ms a.0) (IsOrdered-tidied p ms a.1)
+    let left = tidied (property_at p l).shape e in
+    ordered_cond (is_absent (property_at p l) left) l left (tidied_members p ms) (IsBefore-tidied p l ms a.0) (IsOrdered-tidied p ms a.1)
 
 below_without : (b : Bool) (j l : List ℕ) (e : Data) (ms left : Members) → IsBefore j (member l e ms) → IsBefore j left → IsBefore j (cond b ms (member l e left))
 below_without true j l e ms left a later = a.1

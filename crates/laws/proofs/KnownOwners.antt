@@ -8,10 +8,10 @@ use Rattle.serde_json.specs.Find.{as_array, get_member}
 use Rattle.serde_json.proofs.Views.{get_member-put_other}
 use Rattle.definitions.proofs.Truths.{left_true, right_true}
 use Rattle.definitions.specs.declared.kinds.Kind.{Kind}
-use Rattle.definitions.specs.Checks.{finalizers, generate_name, is_owner, is_of_the_future, is_known_uid, is_not_empty, are_owners_valid, controllers, checks, update_fault, adds_no_finalizer, is_selector_kept}
+use Rattle.definitions.specs.Checks.{finalizers, generate_name, is_owner, is_of_the_future, is_possible_uid, is_not_empty, are_owners_valid, controllers, checks, update_fault, adds_no_finalizer, is_selector_kept}
 use Rattle.definitions.specs.Deletion.{left_by, being_deleted, with_deletion}
 use Rattle.definitions.specs.GeneratedNames.{name_from}
-use Rattle.definitions.specs.History.{History, found, members, present, state, Write, write, writes}
+use Rattle.definitions.specs.History.{History, found, entries_at, present, state, Write, write, writes}
 use Rattle.definitions.specs.Kinds.{has_generation}
 use Rattle.laws.specs.HistoryLaws.{OfStored}
 use Rattle.definitions.specs.Metadata.{Owner, owners, owners_in, metadata, metadata_of, name, at_revision, is_being_deleted}
@@ -19,7 +19,7 @@ use Rattle.definitions.specs.Keys.{Key, is_same_key}
 use Rattle.definitions.specs.NewObjects.{created, with_first_status}
 use Rattle.definitions.specs.Reading.{reading}
 use Rattle.definitions.specs.Replacements.{in_place, updated, with_status_in, with_next_generation}
-use Rattle.definitions.specs.SelectorValues.{passes}
+use Rattle.definitions.specs.SelectorValues.{is_some_and}
 use Rattle.definitions.specs.Uids.{uid_text, uid_revision, cluster_word}
 use Rattle.definitions.specs.Verbs.{Outcome, accept, shown, object_in, new_name, is_free, with_write, write_of}
 use Rattle.definitions.specs.ObjectRequests.{Request, get_object, list_objects, create_object, update_object, update_status, patch_object, delete_object}
@@ -74,14 +74,14 @@ not_is : (b : Bool) → not b ≡ true → b ≡ false
 not_is true h = cc
 not_is false h = refl
 
-known_uid : (n : ℕ) (u : Option (List ℕ)) → passes (is_known_uid n) u ≡ true → IfSome u (λ t. is_of_the_future n t ≡ false)
+known_uid : (n : ℕ) (u : Option (List ℕ)) → is_some_and (is_possible_uid n) u ≡ true → IfSome u (λ t. is_of_the_future n t ≡ false)
 known_uid n None h = tt
 known_uid n (Some t) h = not_is (is_of_the_future n t) (right_true (is_not_empty t) (not (is_of_the_future n t)) h)
 
 known_owners : (n : ℕ) (os : List Owner) → list_all (is_owner n) os ≡ true → Each (IsKnown n) os
 known_owners n [] h = tt
 known_owners n (o ∷ os) h = (
-  known_uid n o.uid (fourth (passes is_not_empty o.api_version) (passes is_not_empty o.kind) (passes is_not_empty o.name) (passes (is_known_uid n) o.uid) (left_true (is_owner n o) (list_all (is_owner n) os) h)),
+  known_uid n o.uid (fourth (is_some_and is_not_empty o.api_version) (is_some_and is_not_empty o.kind) (is_some_and is_not_empty o.name) (is_some_and (is_possible_uid n) o.uid) (left_true (is_owner n o) (list_all (is_owner n) os) h)),
   known_owners n os (right_true (is_owner n o) (list_all (is_owner n) os) h),
 )
 
@@ -130,10 +130,10 @@ module _ (h : History) (moment : List ℕ) (all : KnownNow h) where
   P o = OfStored o (λ k d. Known (present h) d)
 
   known_by : (q : Request) → P (accept q h moment)
-  known_by (get_object k) = if_there P (λ f. tt) k shown (found k (members h (present h))) (λ d is. tt)
+  known_by (get_object k) = if_there P (λ f. tt) k shown (found k (entries_at h (present h))) (λ d is. tt)
   known_by (list_objects v) = tt
   known_by (create_object kind ns d) =
-      let ms = members h (present h) in
+      let ms = entries_at h (present h) in
       let r = present h in
       of_create P (λ f. tt) kind ns (object_in kind d) ms r moment
       (λ o read valid fits free room.
@@ -144,16 +144,16 @@ module _ (h : History) (moment : List ℕ) (all : KnownNow h) where
       same_known r made first (ap (get_member references) (sym (metadata_of-first kind made)))
       (valid_known r first (all_met (checks kind k.name r true true first) passed).1.1.1.1.0))
   known_by (update_object k d) =
-      of_update P (λ f. tt) (λ d. tt) k (object_in k.kind d) (members h (present h)) (present h) (λ o existing read at equal valid fits low. update_known k (present h) existing o valid) (λ o existing read at equal free low. tt)
+      of_update P (λ f. tt) (λ d. tt) k (object_in k.kind d) (entries_at h (present h)) (present h) (λ o existing read at equal valid fits low. update_known k (present h) existing o valid) (λ o existing read at equal free low. tt)
   known_by (update_status k d) =
-      of_status P (λ f. tt) (λ d. tt) k (reading k.kind d) (members h (present h)) (present h)
+      of_status P (λ f. tt) (λ d. tt) k (reading k.kind d) (entries_at h (present h)) (present h)
       (λ o existing read at equal fits low.
       let made = with_status_in k.kind existing o in
       same_known (present h) (at_revision (present h + 1) (metadata_of made) made) existing (member-restated references k.kind (present h + 1) existing o refl) (all k existing (sym (found-state h k) ∙ at)))
   known_by (patch_object k d) =
-      of_patch P (λ f. tt) (λ d. tt) k d (members h (present h)) (present h) (λ o existing read at equal valid fits low. update_known k (present h) existing o valid) (λ o existing read at equal free low. tt)
+      of_patch P (λ f. tt) (λ d. tt) k d (entries_at h (present h)) (present h) (λ o existing read at equal valid fits low. update_known k (present h) existing o valid) (λ o existing read at equal free low. tt)
   known_by (delete_object k o) =
-      of_delete P (λ f. tt) (λ code body. tt) k o (members h (present h)) (present h) moment
+      of_delete P (λ f. tt) (λ code body. tt) k o (entries_at h (present h)) (present h) moment
       (λ existing at same_uid equal low.
       let left = left_by o.policy (finalizers existing) in
       same_known (present h) (at_revision (present h + 1) (metadata_of (being_deleted k.kind moment left existing)) (being_deleted k.kind moment left existing)) existing (marked_keeps k.kind (present h + 1) moment left existing)

@@ -1,6 +1,6 @@
 -- Limits of all that is reached.
 use Rattle.std.proofs.Common.{◌≤◌, ◌+◌, ℕ, [], ◌∷◌, ◌++◌, length, false, IfSome, Option, Some, None, ◌≡◌, sym, subst, arith}
-use Rattle.definitions.specs.History.{History, Write, write, compaction, members, present}
+use Rattle.definitions.specs.History.{History, Write, write, compaction, entries_at, present}
 use Rattle.laws.specs.Happening.{Follows, CanHappen}
 use Rattle.definitions.specs.Verbs.{accept, with_write, write_of, overflows}
 use Rattle.laws.proofs.Compacted.{snapshot-compaction, follows_compaction}
@@ -8,7 +8,7 @@ use Rattle.laws.proofs.Limits.{Within, within-write, room}
 use Rattle.laws.specs.ReachedLaws.{ReachedCanHappen, ReachedStayWithinLimits}
 use Rattle.laws.proofs.Reaching.{by_reached}
 
-each_outcome : (h : History) (o : Option Write) → IfSome o (λ w. overflows (members h (present h)) (present h) w ≡ false) → Within h → Within (with_write h o)
+each_outcome : (h : History) (o : Option Write) → IfSome o (λ w. overflows (entries_at h (present h)) (present h) w ≡ false) → Within h → Within (with_write h o)
 each_outcome h None r w = w
 each_outcome h (Some v) r w = within-write h v r w
 
@@ -23,7 +23,7 @@ follows-outcome h (Some w) f = follows-write 1 h w f
 
 pub limited : ReachedStayWithinLimits
 limited h reached =
-    by_reached Within (λ q h moment a t w. each_outcome h (write_of (accept q h moment)) (room q (members h (present h)) (present h) moment) w)
+    by_reached Within (λ q h moment a t w. each_outcome h (write_of (accept q h moment)) (room q (entries_at h (present h)) (present h) moment) w)
     (λ h r le w. subst (λ z. (length z.members ≤ 65536) × (z.revision ≤ 9007199254740991)) (sym (snapshot-compaction h r)) w) h reached (omega arith, omega arith)
 
 pub happens : ReachedCanHappen

@@ -8,7 +8,7 @@ use Rattle.serde_json.specs.Data.{Data}
 use Rattle.laws.specs.HistoryLaws.{BodiesFit, WritesHaveRoom}
 use Rattle.definitions.proofs.Truths.{both_false}
 use Rattle.definitions.specs.Keys.{Key, key_cmp}
-use Rattle.definitions.specs.History.{History, Write, write, writes, up_to, Members, after, after_all, put_or_remove, members, found, present}
+use Rattle.definitions.specs.History.{History, Write, write, writes, up_to, Entries, after, after_all, put_or_remove, entries_at, found, present}
 use Rattle.definitions.specs.declared.methods.Method.{Method}
 use Rattle.definitions.specs.declared.refusals.Part.{Part}
 use Rattle.definitions.specs.declared.refusals.Part.TheVariants as part
@@ -67,12 +67,12 @@ module _ {K X : Type 0} {R : K → K → Ordering} (o : IsTotalOrder R) (k : K) 
   as_many [] d a is = cc
   as_many (e ∷ es) d a is = as_many_at e es d (R k e.0) refl a is (as_many es d a.1)
 
-after_all-append : (ms : Members) (ws : List Write) (w : Write) → after_all ms (ws ++ w ∷ []) ≡ after (after_all ms ws) w
+after_all-append : (ms : Entries) (ws : List Write) (w : Write) → after_all ms (ws ++ w ∷ []) ≡ after (after_all ms ws) w
 after_all-append ms [] w = refl
 after_all-append ms (v ∷ ws) w = after_all-append (after ms v) ws w
 
-now : History → Members
-now h = members h (present h)
+now : History → Entries
+now h = entries_at h (present h)
 
 now-is : (h : History) → now h ≡ after_all [] (writes h)
 unfolding now
@@ -83,18 +83,18 @@ now-write h w =
     now-is (h ++ write w ∷ []) ∙ ap (after_all []) (writes-append h (write w ∷ [])) ∙ after_all-append [] (writes h) w ∙ ap (λ ms. after ms w) (sym (now-is h))
 
 -- what is there after one more write
-pub members-write : (h : History) (w : Write) → members (h ++ write w ∷ []) (present (h ++ write w ∷ [])) ≡ after (members h (present h)) w
+pub members-write : (h : History) (w : Write) → entries_at (h ++ write w ∷ []) (present (h ++ write w ∷ [])) ≡ after (entries_at h (present h)) w
 unfolding now
 members-write h w = now-write h w
 
 abbrev pub Within : History → Type 0
-Within h = (length (members h (present h)) ≤ 65536) × (present h ≤ 9007199254740991)
+Within h = (length (entries_at h (present h)) ≤ 65536) × (present h ≤ 9007199254740991)
 
-no_more_at : (k : Key) (e : Key × Data) (es : Members) (b : Bool) → length (remove_entry (is_at (key_cmp k)) es) ≤ length es → length (cond b es (e ∷ remove_entry (is_at (key_cmp k)) es)) ≤ suc (length es)
+no_more_at : (k : Key) (e : Key × Data) (es : Entries) (b : Bool) → length (remove_entry (is_at (key_cmp k)) es) ≤ length es → length (cond b es (e ∷ remove_entry (is_at (key_cmp k)) es)) ≤ suc (length es)
 no_more_at k e es true h = omega arith
 no_more_at k e es false h = omega (arith, h)
 
-no_more : (k : Key) (es : Members) → length (remove_entry (is_at (key_cmp k)) es) ≤ length es
+no_more : (k : Key) (es : Entries) → length (remove_entry (is_at (key_cmp k)) es) ≤ length es
 no_more k [] = omega arith
 no_more k (e ∷ es) = no_more_at k e es (is_at (key_cmp k) e.0) (no_more k es)
 
@@ -105,7 +105,7 @@ room_left n h = room_at (nat_le 65536 n) refl h
     room_at true is h = cc
     room_at false is h = grind arith
 
-few_at : (k : Key) (d : Data) (ms : Members) (o : Option Data) → found k ms ≡ o → IsAscending key_cmp ms → length ms ≤ 65536
+few_at : (k : Key) (d : Data) (ms : Entries) (o : Option Data) → found k ms ≡ o → IsAscending key_cmp ms → length ms ≤ 65536
     → (nat_le 65536 (length ms) && true && not (is_some o)) ≡ false → length (insert_entry key_cmp ms k d) ≤ 65536
 few_at k d ms None is a few room =
     let left : length ms + 1 ≤ 65536 = room_left (length ms) (sym (and_true (nat_le 65536 (length ms) && true)) ∙ room) in
@@ -117,7 +117,7 @@ few_at k d ms None is a few room =
     and_true false = refl
 few_at k d ms (Some existing) is a few room = subst (λ n. n ≤ 65536) (sym (as_many name_cmp_total k d ms existing a is)) few
 
-few_after : (k : Key) (o : Option Data) (ms : Members) → IsAscending key_cmp ms → length ms ≤ 65536
+few_after : (k : Key) (o : Option Data) (ms : Entries) → IsAscending key_cmp ms → length ms ≤ 65536
     → (nat_le 65536 (length ms) && is_some o && not (is_some (found k ms))) ≡ false → length (put_or_remove ms k o) ≤ 65536
 few_after k None ms a few room = let less = no_more k ms in omega (arith, less, few)
 few_after k (Some d) ms a few room = few_at k d ms (found k ms) refl a few room
@@ -126,10 +126,10 @@ pub at_most_next : (n : ℕ) → nat_lt 9007199254740991 n ≡ false → n ≤ 9
 at_most_next n h = at_most 9007199254740991 n h
 
 -- a write that does not overflow leaves what is within the limits within them
-pub within-write : (h : History) (w : Write) → overflows (members h (present h)) (present h) w ≡ false → Within h → Within (h ++ write w ∷ [])
+pub within-write : (h : History) (w : Write) → overflows (entries_at h (present h)) (present h) w ≡ false → Within h → Within (h ++ write w ∷ [])
 within-write h w room within =
-    let parts = both_false (nat_le 65536 (length (members h (present h))) && is_some w.put && not (is_some (found w.key (members h (present h))))) (is_past_greatest (present h + 1)) room in (
-      subst (λ ms. length ms ≤ 65536) (sym (members-write h w)) (few_after w.key w.put (members h (present h)) (IsAscending-after_all [] (up_to (present h) h) tt) within.0 parts.0),
+    let parts = both_false (nat_le 65536 (length (entries_at h (present h))) && is_some w.put && not (is_some (found w.key (entries_at h (present h))))) (is_past_greatest (present h + 1)) room in (
+      subst (λ ms. length ms ≤ 65536) (sym (members-write h w)) (few_after w.key w.put (entries_at h (present h)) (IsAscending-after_all [] (up_to (present h) h) tt) within.0 parts.0),
       subst (λ r. r ≤ 9007199254740991) (sym (present-write h w)) (at_most_next (present h + 1) parts.1),
     )
 

@@ -5,10 +5,10 @@ use Rattle.std.specs.Result.{result_map_both}
 use Rattle.std.proofs.lemmas.Bool.{ltb-false, le-leb}
 use Rattle.std.proofs.lemmas.List.{drop_all, length-take}
 use Rattle.definitions.specs.declared.frames.FrameKind.TheVariants.{Added}
-use Rattle.definitions.specs.Events.{Event, events, changes_after}
-use Rattle.definitions.specs.History.{History, View, Members, up_to, present, writes, list}
+use Rattle.definitions.specs.Events.{Event, events, events_after}
+use Rattle.definitions.specs.History.{History, View, Entries, up_to, present, writes, list}
 use Rattle.laws.specs.LookLaws.{Look, AreLooks, last_history, last_stand, look_lines, LooksAskForAnyNumber, LooksAreOneStream, WatchesBeginWithTheList}
-use Rattle.definitions.specs.Streams.{Line, event, bookmark, initial, initial_end, frame_of, Goes, IsStream, applied_lines, added_lines}
+use Rattle.definitions.specs.Streams.{Line, event, bookmark, initial, initial_end, frame_of, AreEventsWithBookmarks, IsStream, applied_lines, added_lines}
 use Rattle.definitions.specs.Versions.{watched}
 use Rattle.definitions.specs.WatchReplies.{lines_from}
 use Rattle.laws.specs.WatchLaws.{AreBetween}
@@ -21,7 +21,7 @@ use Rattle.laws.proofs.Streamed.{stream_applied, all_put, list_ascending}
 -- ---- two streams in a row
 
 -- a stream may be taken up earlier, where nothing is between
-goes_from : (ls : List Line) (at b c : ℕ) (cs : List Event) → at ≤ b → Goes b c cs ls → Goes at c cs ls
+goes_from : (ls : List Line) (at b c : ℕ) (cs : List Event) → at ≤ b → AreEventsWithBookmarks b c cs ls → AreEventsWithBookmarks at c cs ls
 goes_from [] at b c [] le g = tt
 goes_from [] at b c (d ∷ ds) le g = absurd g
 goes_from (event e ∷ ls) at b c [] le g = absurd g
@@ -33,7 +33,7 @@ goes_from (initial n d ∷ ls) at b c (e ∷ es) le g = absurd g
 goes_from (initial_end r ∷ ls) at b c [] le g = absurd g
 goes_from (initial_end r ∷ ls) at b c (e ∷ es) le g = absurd g
 
-both_go : (ls ms : List Line) (at b c : ℕ) (cs ds : List Event) → at ≤ b → b ≤ c → AreBetween at b cs → AreBetween b c ds → Goes at b cs ls → Goes b c ds ms → Goes at c (cs ++ ds) (ls ++ ms)
+both_go : (ls ms : List Line) (at b c : ℕ) (cs ds : List Event) → at ≤ b → b ≤ c → AreBetween at b cs → AreBetween b c ds → AreEventsWithBookmarks at b cs ls → AreEventsWithBookmarks b c ds ms → AreEventsWithBookmarks at c (cs ++ ds) (ls ++ ms)
 both_go [] ms at b c [] ds l k p q g n = goes_from ms at b c ds l n
 both_go [] ms at b c (d ∷ cs) ds l k p q g n = absurd g
 both_go (event e ∷ ls) ms at b c [] ds l k p q g n = absurd g
@@ -51,14 +51,14 @@ both_go (initial m d ∷ ls) ms at b c (e ∷ es) ds l k p q g n = absurd g
 both_go (initial_end r ∷ ls) ms at b c [] ds l k p q g n = absurd g
 both_go (initial_end r ∷ ls) ms at b c (e ∷ es) ds l k p q g n = absurd g
 
-streams_join : (h : History) (v : View) (a b c : ℕ) (ls ms : List Line) → a ≤ b → b ≤ c → IsStream h v a b ls → IsStream h v b c ms → IsStream h v a c (ls ++ ms)
+pub streams_join : (h : History) (v : View) (a b c : ℕ) (ls ms : List Line) → a ≤ b → b ≤ c → IsStream h v a b ls → IsStream h v b c ms → IsStream h v a c (ls ++ ms)
 streams_join h v a b c ls ms l k s t =
-    subst (λ cs. Goes a c cs (ls ++ ms)) (sym (goes_on h v a b c l k))
+    subst (λ cs. AreEventsWithBookmarks a c cs (ls ++ ms)) (sym (goes_on h v a b c l k))
     (both_go ls ms a b c (events h v a b) (events h v b c) l k (lie_between h v a b) (lie_between h v b c) s t)
 
 -- from a revision to itself there is nothing
-none_at : (h : History) (v : View) (a : ℕ) → events h v a a ≡ []
-none_at h v a = let few = length-take (a - 1) (writes h) in ap (changes_after v (up_to a h)) (drop_all (a - 1) (up_to a h) (omega (arith, few)))
+pub none_at : (h : History) (v : View) (a : ℕ) → events h v a a ≡ []
+none_at h v a = let few = length-take (a - 1) (writes h) in ap (events_after v (up_to a h)) (drop_all (a - 1) (up_to a h) (omega (arith, few)))
 
 -- ---- looks
 
@@ -70,12 +70,12 @@ goes_further size v h a (l ∷ ls) is =
     (is.0.0 ++ rest.0, rest.1 ∙ ap (λ z. z ++ rest.0) is.0.1 ∙ append_assoc h is.0.0 rest.0)
 
 -- what was a stream of what had happened by a look is one of all that happened
-still_streams : (h more : History) (v : View) (a b : ℕ) (ls : List Line) → a ≤ b → b ≤ present h → IsStream h v a b ls → IsStream (h ++ more) v a b ls
-still_streams h more v a b ls l k s = subst (λ cs. Goes a b cs ls) (sym (changes_past h more v a b l k)) s
+pub still_streams : (h more : History) (v : View) (a b : ℕ) (ls : List Line) → a ≤ b → b ≤ present h → IsStream h v a b ls → IsStream (h ++ more) v a b ls
+still_streams h more v a b ls l k s = subst (λ cs. AreEventsWithBookmarks a b cs ls) (sym (changes_past h more v a b l k)) s
 
 looks_stream : (size : ℕ) (h : History) (v : View) (a : ℕ) (ls : List Look) → AreLooks size v h a ls
     → (a ≤ last_stand a ls) × IsStream (last_history h ls) v a (last_stand a ls) (look_lines a ls)
-looks_stream size h v a [] is = (omega arith, subst (λ cs. Goes a a cs []) (sym (none_at h v a)) tt)
+looks_stream size h v a [] is = (omega arith, subst (λ cs. AreEventsWithBookmarks a a cs []) (sym (none_at h v a)) tt)
 looks_stream size h v a (l ∷ ls) is =
     let s = (given_stands size l.history v a l.most l.given is.1).3 in
     let far = goes_further size v l.history l.given.stands ls is.2 in
@@ -127,7 +127,7 @@ looks_ask_for_any_number size h v a n = (
 
 -- ---- the list first
 
-as_added : (v : View) (ms : Members) → map (frame_of v.kind) (added_lines ms) ≡ map (λ m. record { kind = Added; object = m.1 }) ms
+as_added : (v : View) (ms : Entries) → map (frame_of v.kind) (added_lines ms) ≡ map (λ m. record { kind = Added; object = m.1 }) ms
 as_added v [] = refl
 as_added v (m ∷ ms) = ap (λ z. record { kind = Added; object = m.1 } ∷ z) (as_added v ms)
 

@@ -14,15 +14,15 @@ use Rattle.definitions.specs.declared.schemas.Schema.{Schema}
 use Rattle.definitions.specs.declared.schemas.Schema.TheVariants.{Root, Metadata}
 use Rattle.definitions.specs.Metadata.{metadata_of}
 use Rattle.definitions.specs.Reading.{fits, members_fit, is_absent, reading, tidied, tidied_members, is_body, filled}
-use Rattle.definitions.specs.Schemas.{member_at}
+use Rattle.definitions.specs.Schemas.{property_at}
 use Rattle.definitions.specs.Values.{members_of, inner_of, without, is_null}
-use Rattle.definitions.specs.Replacements.{as_held, keeping}
+use Rattle.definitions.specs.Replacements.{as_stored, keeping}
 use Rattle.definitions.proofs.NoFloatsRead.{has_float-tidied, has_float-filled, has_float-is_body}
 use Rattle.laws.proofs.ReadAgain.{IsTidy, MembersTidy, MembersTidy-tidied, members_fit-tidied, members_depth-tidied, Good, Good-of, Good-filled, Has-put, Filled, HasSpec, filled_members, filled-object, opened, same_name}
 
 -- a member that may stand, nested no deeper than n
 abbrev pub One : ℕ → Schema → List ℕ → Data → Type 0
-One n p k d = ((is_null d || fits (member_at p k).shape d) ≡ true) × (is_absent (member_at p k) d ≡ false) × IsTidy (member_at p k).shape d × (depth d ≤ n) × (has_float d ≡ false)
+One n p k d = ((is_null d || fits (property_at p k).shape d) ≡ true) × (is_absent (property_at p k) d ≡ false) × IsTidy (property_at p k).shape d × (depth d ≤ n) × (has_float d ≡ false)
 
 abbrev pub Neat : ℕ → Schema → Members → Type 0
 Neat n p no_members = Unit {0}
@@ -57,13 +57,13 @@ module _ (n : ℕ) (p : Schema) where
   Neat-get k no_members d h g = cc
   Neat-get k (member l e ms) d h g = get_at (slice_cmp nat_cmp k l) k l d e ms refl h g (λ later. Neat-get k ms d later g.1)
 
-  held_at : (k : List ℕ) (o : Option Data) (existing ms : Members) → get_member k existing ≡ o → Neat n p existing → Neat n p ms → Neat n p (as_held k o ms)
+  held_at : (k : List ℕ) (o : Option Data) (existing ms : Members) → get_member k existing ≡ o → Neat n p existing → Neat n p ms → Neat n p (as_stored k o ms)
   held_at k None existing ms is f g = Neat-without k ms g
   held_at k (Some d) existing ms is f g = Neat-put k d ms (Neat-get k existing d is f) g
 
   pub Neat-keeping : (ks : List (List ℕ)) (existing ms : Members) → Neat n p existing → Neat n p ms → Neat n p (keeping ks existing ms)
   Neat-keeping [] existing ms f g = g
-  Neat-keeping (k ∷ ks) existing ms f g = Neat-keeping ks existing (as_held k (get_member k existing) ms) f (held_at k (get_member k existing) existing ms refl f g)
+  Neat-keeping (k ∷ ks) existing ms f g = Neat-keeping ks existing (as_stored k (get_member k existing) ms) f (held_at k (get_member k existing) existing ms refl f g)
 
   pub Neat-depth : (ms : Members) → Neat n p ms → members_depth ms ≤ n
   Neat-depth no_members g = omega arith
@@ -84,7 +84,7 @@ module _ (n : ℕ) (p : Schema) where
   pub Neat-of : (ms : Members) → members_fit p ms ≡ true → MembersTidy p ms → members_depth ms ≤ n → members_have_float ms ≡ false → Neat n p ms
   Neat-of no_members f t d w = tt
   Neat-of (member k e ms) f t d w =
-      let both = both_true (is_null e || fits (member_at p k).shape e) (members_fit p ms) f in
+      let both = both_true (is_null e || fits (property_at p k).shape e) (members_fit p ms) f in
       let floats = or_parts (has_float e) (members_have_float ms) w in
       let here : depth e ≤ n = omega arith in
       let below : members_depth ms ≤ n = omega arith in

@@ -9,8 +9,8 @@ use Rattle.serde_json.specs.View.{items_of}
 use Rattle.definitions.specs.declared.kinds.Kind.{Kind}
 use Rattle.definitions.specs.declared.versions.At.{At}
 use Rattle.definitions.specs.declared.versions.At.TheVariants.{Present, NotOlder, Exact}
-use Rattle.definitions.specs.Collections.{ListOptions, going_on}
-use Rattle.definitions.specs.History.{History, View, Members, present, viewed, list}
+use Rattle.definitions.specs.ListQueries.{ListOptions, going_on}
+use Rattle.definitions.specs.History.{History, View, Entries, present, viewed, list}
 use Rattle.definitions.specs.Lists.{list_answer, page_body, told_count, token_after}
 use Rattle.definitions.specs.Metadata.{metadata_text}
 use Rattle.definitions.specs.Keys.{Key}
@@ -73,10 +73,10 @@ page_at (NotOlder r) size v h o ok = (omega arith, newer_at (nat_lt (present h) 
 page_at (Exact r) size v h o ok = exact_at (nat_lt r (floor v.kind size h)) (nat_lt (present h) r) size v h o r refl refl ok
 
 -- the body of a page
-abbrev paged : View → ListOptions → ℕ → Members → Data
+abbrev paged : View → ListOptions → ℕ → Entries → Data
 paged v o r ms = page_body v.kind r (told_count v o (listed_as r ms)) (page_of ms o.limit o.after)
 
-body_is : (size : ℕ) (v : View) (a : Asked) (r : ℕ) (ms : Members) → list_for size a.history v a.options.at ≡ Ok (listed_as r ms) → body_of size v a ≡ paged v a.options r ms
+body_is : (size : ℕ) (v : View) (a : Asked) (r : ℕ) (ms : Entries) → list_for size a.history v a.options.at ≡ Ok (listed_as r ms) → body_of size v a ≡ paged v a.options r ms
 body_is size v a r ms is = ap (λ z. outcome_body (list_answer v a.options z)) is
 
 -- ---- what a body says
@@ -84,16 +84,16 @@ body_is size v a r ms is = ap (λ z. outcome_body (list_answer v a.options z)) i
 no_text : (t : List ℕ) → Some t ≡ None → ⊥
 no_text t h = cc
 
-no_next : (n : Option Place) (k : Kind) (r : ℕ) (count : Option ℕ) (items : Members) → continue_in (page_body k r count (record { items = items; next = n })) ≡ None → n ≡ None
+no_next : (n : Option Place) (k : Kind) (r : ℕ) (count : Option ℕ) (items : Entries) → continue_in (page_body k r count (record { items = items; next = n })) ≡ None → n ≡ None
 no_next None k r count items h = refl
 no_next (Some q) k r count items h = absurd (no_text (token_text (token_after r q)) h)
 
-a_next : (n : Option Place) (k : Kind) (r : ℕ) (count : Option ℕ) (items : Members) (text : List ℕ) → continue_in (page_body k r count (record { items = items; next = n })) ≡ Some text
+a_next : (n : Option Place) (k : Kind) (r : ℕ) (count : Option ℕ) (items : Entries) (text : List ℕ) → continue_in (page_body k r count (record { items = items; next = n })) ≡ Some text
     → (q : Place) × (n ≡ Some q) × (text ≡ token_text (token_after r q))
 a_next None k r count items text h = absurd (no_text text (sym h))
 a_next (Some q) k r count items text h = (q, refl, (let same : Some text ≡ Some (token_text (token_after r q)) = sym h in cc same))
 
-says_revision : (n : Option Place) (k : Kind) (r : ℕ) (count : Option ℕ) (items : Members)
+says_revision : (n : Option Place) (k : Kind) (r : ℕ) (count : Option ℕ) (items : Entries)
     → metadata_text (codes "resourceVersion") (page_body k r count (record { items = items; next = n })) ≡ Some (decimal r)
 says_revision None k r count items = refl
 says_revision (Some q) k r None items = refl
@@ -102,25 +102,25 @@ says_revision (Some q) k r (Some c) items = refl
 -- ---- the place where a page ends
 
 -- names of which a token can be made
-abbrev HasTexts : Members → Type 0
+abbrev HasTexts : Entries → Type 0
 HasTexts ms = AllByRecursion (λ (m : Key × Data). IsUtf8 m.0.namespace × IsUtf8 m.0.name) ms
 
-are_texts : (ms : Members) → AllByRecursion (λ (m : Key × Data). IsValid m.0) ms → HasTexts ms
+are_texts : (ms : Entries) → AllByRecursion (λ (m : Key × Data). IsValid m.0) ms → HasTexts ms
 are_texts [] a = tt
 are_texts (m ∷ ms) a = ((namespace_text m.0.namespace a.0.0, name_text m.0.name a.0.1), are_texts ms a.1)
 
 listed_texts : (h : History) (v : View) (r : ℕ) → IsReached h → HasTexts (list h v r)
 listed_texts h v r reached = are_texts (list h v r) (listed_put IsValidAt h v r (all_valid h reached))
 
-texts_cond : (b : Bool) (m : Key × Data) (ms : Members) → IsUtf8 m.0.namespace × IsUtf8 m.0.name → HasTexts ms → HasTexts (cond b (m ∷ ms) ms)
+texts_cond : (b : Bool) (m : Key × Data) (ms : Entries) → IsUtf8 m.0.namespace × IsUtf8 m.0.name → HasTexts ms → HasTexts (cond b (m ∷ ms) ms)
 texts_cond true m ms h t = (h, t)
 texts_cond false m ms h t = t
 
-texts_after : (p : Option Place) (ms : Members) → HasTexts ms → HasTexts (after_place p ms)
+texts_after : (p : Option Place) (ms : Entries) → HasTexts ms → HasTexts (after_place p ms)
 texts_after p [] t = tt
 texts_after p (m ∷ ms) t = texts_cond (is_after p m.0) m (after_place p ms) t.0 (texts_after p ms t.1)
 
-texts_taken : (n : ℕ) (ms : Members) → HasTexts ms → HasTexts (take n ms)
+texts_taken : (n : ℕ) (ms : Entries) → HasTexts ms → HasTexts (take n ms)
 texts_taken zero ms t = tt
 texts_taken (suc n) [] t = tt
 texts_taken (suc n) (m ∷ ms) t = (t.0, texts_taken n ms t.1)
@@ -128,19 +128,19 @@ texts_taken (suc n) (m ∷ ms) t = (t.0, texts_taken n ms t.1)
 abbrev IsText : Place → Type 0
 IsText q = IsUtf8 q.namespace × IsUtf8 q.name
 
-last_text : (ms : Members) (q : Place) → HasTexts ms → last_place ms ≡ Some q → IsText q
+last_text : (ms : Entries) (q : Place) → HasTexts ms → last_place ms ≡ Some q → IsText q
 last_text [] q t h = cc
 last_text (m ∷ []) q t h = let same : place_of m.0 ≡ q = cc in subst IsText same t.0
 last_text (m ∷ n ∷ ms) q t h = last_text (n ∷ ms) q t.1 h
 
-end_text : (ms : Members) (n : ℕ) (p : Option Place) (q : Place) → HasTexts ms → (page_of ms n p).next ≡ Some q → IsText q
+end_text : (ms : Entries) (n : ℕ) (p : Option Place) (q : Place) → HasTexts ms → (page_of ms n p).next ≡ Some q → IsText q
 end_text ms n p q t h =
     last_text (take n (after_place p ms)) q (texts_taken n (after_place p ms) (texts_after p ms t))
     (has_next ms n p q (nat_eq n 0) (nat_le (length (after_place p ms)) n) refl refl h).1
 
 -- ---- one page after another
 
-items_append : (xs ys : Members) → items_of (map (λ m. as_item m.1) (xs ++ ys)) ≡ then_items (items_of (map (λ m. as_item m.1) xs)) (items_of (map (λ m. as_item m.1) ys))
+items_append : (xs ys : Entries) → items_of (map (λ m. as_item m.1) (xs ++ ys)) ≡ then_items (items_of (map (λ m. as_item m.1) xs)) (items_of (map (λ m. as_item m.1) ys))
 items_append [] ys = refl
 items_append (x ∷ xs) ys = ap (item (as_item x.1)) (items_append xs ys)
 
@@ -148,7 +148,7 @@ answered_first : (size : ℕ) (v : View) (a : Asked) (bs : List Asked) → GoOn 
 answered_first size v a [] on = on.0
 answered_first size v a (b ∷ bs) on = on.0
 
-one_more : (ms : Members) (n : ℕ) (p : Option Place) (q : Place) (gs : List Page) → (page_of ms n p).next ≡ Some q → ArePages ms (Some q) gs → ArePages ms p (page_of ms n p ∷ gs)
+one_more : (ms : Entries) (n : ℕ) (p : Option Place) (q : Place) (gs : List Page) → (page_of ms n p).next ≡ Some q → ArePages ms (Some q) gs → ArePages ms p (page_of ms n p ∷ gs)
 one_more ms n p q [] next are = absurd are
 one_more ms n p q (g ∷ gs) next are = ((n, refl), (q, next, are))
 
@@ -157,7 +157,7 @@ by_token : (limit : ℕ) (t : Token) (text : List ℕ) (o : ListOptions) → tok
 by_token limit t text o is h = let same : going_on limit (Some t) ≡ Ok o = subst (λ z. going_on limit z ≡ Ok o) is h in cc
 
 module _ (size : ℕ) (v : View) (h : History) (r : ℕ) (reached : r ≤ present h) (low : r ≤ greatest_revision) (texts : HasTexts (list h v r)) where
-  abbrev all : Members
+  abbrev all : Entries
   all = list h v r
 
   -- it is asked when that much and maybe more has happened, and is a page of the list at r
@@ -194,7 +194,7 @@ module _ (size : ℕ) (v : View) (h : History) (r : ℕ) (reached : r ≤ presen
   last_items : (a : Asked) → IsAt a → items_in (body_of size v a) ≡ items_of (map (λ m. as_item m.1) ((page a).items ++ []))
   last_items a is = items_are a is ∙ ap (λ ms. items_of (map (λ m. as_item m.1) ms)) (sym (append-nil (page a).items))
 
-  more_items : (a : Asked) (others : Items) (ms : Members) → IsAt a → others ≡ items_of (map (λ m. as_item m.1) ms) → then_items (items_in (body_of size v a)) others ≡ items_of (map (λ m. as_item m.1) ((page a).items ++ ms))
+  more_items : (a : Asked) (others : Items) (ms : Entries) → IsAt a → others ≡ items_of (map (λ m. as_item m.1) ms) → then_items (items_in (body_of size v a)) others ≡ items_of (map (λ m. as_item m.1) ((page a).items ++ ms))
   more_items a others ms is same = ap₂ then_items (items_are a is) same ∙ sym (items_append (page a).items ms)
 
   follows : (a : Asked) (bs : List Asked) → IsAt a → GoOn size v a bs → Follows a bs

@@ -14,11 +14,11 @@ use Rattle.definitions.specs.declared.schemas.Schema.{Schema}
 use Rattle.definitions.specs.declared.schemas.Schema.TheVariants.{Root}
 use Rattle.definitions.specs.declared.schemas.Shape.{Shape}
 use Rattle.definitions.specs.Defaults as defaults
-use Rattle.definitions.specs.Defaults.{whole, replica_set_defaults, deployment_defaults, strategy_defaults, rolling_defaults, is_rolling_update}
+use Rattle.definitions.specs.Defaults.{unsigned_value, replica_set_defaults, deployment_defaults, strategy_defaults, rolling_defaults, is_rolling_update}
 use Rattle.definitions.proofs.FoundMembers.{with_found}
 use Rattle.definitions.specs.Kinds.{api_version, kind_text}
 use Rattle.definitions.specs.Reading.{is_absent, schema_of, item_of, tidied, tidied_items, tidied_members, empty, reading}
-use Rattle.definitions.specs.Schemas.{member_at}
+use Rattle.definitions.specs.Schemas.{property_at}
 use Rattle.definitions.specs.Values.{data_of, members_of, inner_of, without, found_or_null, is_null, merged, merged_members, with_member, with_default}
 use Rattle.definitions.specs.Verbs.{object_in}
 use Rattle.definitions.proofs.VerbSteps.{with_defaults}
@@ -129,7 +129,7 @@ mutual
   all_tidied : (p : Schema) (ms : Members) → All ms → All (tidied_members p ms)
   all_tidied p no_members h = tt
   all_tidied p (member k d ms) h =
-      unless_absent (is_absent (member_at p k) (tidied (member_at p k).shape d)) k (tidied (member_at p k).shape d) (tidied_members p ms) h.2 (parsed_tidied (member_at p k).shape d h.0) (all_tidied p ms h.1)
+      unless_absent (is_absent (property_at p k) (tidied (property_at p k).shape d)) k (tidied (property_at p k).shape d) (tidied_members p ms) h.2 (parsed_tidied (property_at p k).shape d h.0) (all_tidied p ms h.1)
 
 -- ---- what is filled in
 
@@ -208,20 +208,20 @@ strategy d a =
     (changed (codes "rollingUpdate") refl rolling_defaults based rolling (parsed_default (codes "rollingUpdate") refl empty typed tt b)) b
 
 -- a number that may be filled in
-small : (n : ℕ) → n ≤ 10 → IsParsed (whole n)
+small : (n : ℕ) → n ≤ 10 → IsParsed (unsigned_value n)
 small n h = omega (arith, h)
 
 deployment : (d : Data) → IsParsed d → IsParsed (deployment_defaults d)
 deployment d a =
-    let one = with_default (codes "replicas") (whole 1) d in
-    let two = with_default (codes "revisionHistoryLimit") (whole 10) one in
+    let one = with_default (codes "replicas") (unsigned_value 1) d in
+    let two = with_default (codes "revisionHistoryLimit") (unsigned_value 10) one in
     changed (codes "strategy") refl strategy_defaults (with_default (codes "strategy") empty two) strategy
-    (parsed_default (codes "strategy") refl empty two tt (parsed_default (codes "revisionHistoryLimit") refl (whole 10) one (small 10 (omega arith)) (parsed_default (codes "replicas") refl (whole 1) d (small 1 (omega arith)) a)))
+    (parsed_default (codes "strategy") refl empty two tt (parsed_default (codes "revisionHistoryLimit") refl (unsigned_value 10) one (small 10 (omega arith)) (parsed_default (codes "replicas") refl (unsigned_value 1) d (small 1 (omega arith)) a)))
 
 parsed_defaults : (k : Kind) (d : Data) → IsParsed d → IsParsed (defaults.defaulted k d)
 parsed_defaults ConfigMap d a = a
 parsed_defaults Pod d a = a
-parsed_defaults ReplicaSet d a = changed (codes "spec") refl replica_set_defaults d (λ e h. parsed_default (codes "replicas") refl (whole 1) e (small 1 (omega arith)) h) a
+parsed_defaults ReplicaSet d a = changed (codes "spec") refl replica_set_defaults d (λ e h. parsed_default (codes "replicas") refl (unsigned_value 1) e (small 1 (omega arith)) h) a
 parsed_defaults Deployment d a = changed (codes "spec") refl deployment_defaults d deployment a
 
 said_as : (k : Kind) (d o : Data) (r : Result Data Part) → reading k d ≡ r → with_defaults k r ≡ Ok o → IsParsed d → IsParsed o

@@ -7,7 +7,7 @@ use Rattle.definitions.specs.History.{History, Write, writes}
 use Rattle.definitions.specs.Checks.{in_spec}
 use Rattle.definitions.specs.Metadata.{metadata_of}
 use Rattle.definitions.specs.Reading.{empty}
-use Rattle.definitions.specs.Replacements.{as_held, keeping}
+use Rattle.definitions.specs.Replacements.{as_stored, keeping}
 use Rattle.definitions.specs.Keys.{Key}
 use Rattle.definitions.specs.Values.{members_of, inner_of, without}
 use Rattle.laws.proofs.EachWrite.{AllPut, there_put, listed_put}
@@ -20,7 +20,7 @@ use Rattle.laws.proofs.Parsed.{Both, joined, inside, Both-put, Both-set, Both-wi
 
 -- ---- what is written
 
-abbrev IsParsedAt : Key → Data → Type 0
+abbrev pub IsParsedAt : Key → Data → Type 0
 IsParsedAt k d = IsParsed d
 
 one_parsed : (k : Key) (r : ℕ) (o : Option Data) → IfSome o (IsStored k r) → IfSome o IsParsed
@@ -31,7 +31,7 @@ each_parsed : (r : ℕ) (ws : List Write) → AreStored r ws → AllPut IsParsed
 each_parsed r [] a = tt
 each_parsed r (w ∷ ws) a = (one_parsed w.key r w.put a.0, each_parsed (r + 1) ws a.1)
 
-all_put : (h : History) → IsReached h → AllPut IsParsedAt (writes h)
+pub all_put : (h : History) → IsReached h → AllPut IsParsedAt (writes h)
 all_put h reached = each_parsed 2 (writes h) (all_stored h reached)
 
 pub stored_parsed : StoredAreParsed
@@ -77,4 +77,4 @@ pods_made d refs named u p f =
     let all = put (codes "ownerReferences") (array refs) named_too in
     let b : Both all = Both-set (codes "ownerReferences") refl (array refs) named_too f (Both-set (codes "generateName") refl (string named) ms u (keeps copied from no_members refl fb (tt, tt))) in
     let root = member (codes "metadata") (object all) no_members in
-    joined (as_held (codes "spec") (get (codes "spec") t) root) (held_put (codes "spec") (get (codes "spec") t) root refl (found (codes "spec") t tp) ((tt, tt), (joined all b, tt, IsUtf8-are_ascii (codes "metadata") refl)))
+    joined (as_stored (codes "spec") (get (codes "spec") t) root) (held_put (codes "spec") (get (codes "spec") t) root refl (found (codes "spec") t tp) ((tt, tt), (joined all b, tt, IsUtf8-are_ascii (codes "metadata") refl)))

@@ -18,12 +18,12 @@ use Rattle.definitions.specs.declared.kinds.Kind.TheVariants.{ConfigMap, Pod, Re
 use Rattle.definitions.specs.declared.policies.Policy.{Policy}
 use Rattle.definitions.specs.declared.policies.Policy.TheVariants.{Orphan, Foreground, Background}
 use Rattle.definitions.specs.Checks.{finalizers}
-use Rattle.definitions.specs.Defaults.{whole}
+use Rattle.definitions.specs.Defaults.{unsigned_value}
 use Rattle.definitions.specs.Deletion.{left_by, with_deletion, others_then, of_policy, are_of, is_of_policy}
 use Rattle.definitions.specs.Kinds.{has_generation}
 use Rattle.definitions.specs.Metadata.{metadata, metadata_of, with_metadata, at_revision, is_being_deleted}
 use Rattle.definitions.specs.NewObjects.{new_metadata, first_status, with_status}
-use Rattle.definitions.specs.Replacements.{as_held, keeping, kept, kept_of, in_place, status_in, with_status_in, with_next_generation, next_generation, generation}
+use Rattle.definitions.specs.Replacements.{as_stored, keeping, unchanged_metadata, unchanged_members, in_place, status_in, with_status_in, with_next_generation, next_generation, generation}
 use Rattle.definitions.specs.Uids.{hex, uid_text, cluster_word}
 use Rattle.definitions.specs.Values.{members_of, without}
 use Rattle.definitions.specs.Reached.{IsInRange, IsParsed, AreParsed}
@@ -80,14 +80,14 @@ new_meta k r ns named moment ms space called now b =
     Both-set (codes "uid") refl (string (uid_text cluster_word r)) _ (uid_is_text r)
     (Both-set (codes "creationTimestamp") refl (string moment) _ now
     (Both-set (codes "namespace") refl (string ns) _ space
-    (Both-set (codes "name") refl (string named) _ called (both_if (has_generation k) (put (codes "generation") (whole 1) left) left (Both-set (codes "generation") refl (whole 1) left (omega arith) c) c))))
+    (Both-set (codes "name") refl (string named) _ called (both_if (has_generation k) (put (codes "generation") (unsigned_value 1) left) left (Both-set (codes "generation") refl (unsigned_value 1) left (omega arith) c) c))))
 
 pub new_members : (k : Kind) (o : Data) → IsParsed o → IsParsed (object (with_status (first_status k) (members_of o)))
 new_members k o p = joined (with_status (first_status k) (members_of o)) (status_put (first_status k) (members_of o) (first k) (inside o p))
 
 -- ---- in the place of another
 
-pub held_put : (k : List ℕ) (o : Option Data) (ms : Members) → are_ascii k ≡ true → IfSome o IsParsed → Both ms → Both (as_held k o ms)
+pub held_put : (k : List ℕ) (o : Option Data) (ms : Members) → are_ascii k ≡ true → IfSome o IsParsed → Both ms → Both (as_stored k o ms)
 held_put k None ms u h b = Both-without k ms b
 held_put k (Some d) ms u h b = Both-set k u d ms h b
 
@@ -95,9 +95,9 @@ pub keeps : (ks : List (List ℕ)) (existing ms : Members) → list_all are_asci
 keeps [] existing ms u h b = b
 keeps (k ∷ ks) existing ms u h b =
     let all = both_true (are_ascii k) (list_all are_ascii ks) u in
-    keeps ks existing (as_held k (get_member k existing) ms) all.1 h (held_put k (get_member k existing) ms all.0 (found_in k existing h) b)
+    keeps ks existing (as_stored k (get_member k existing) ms) all.1 h (held_put k (get_member k existing) ms all.0 (found_in k existing h) b)
 
-kept_ascii : (k : Kind) → list_all are_ascii (kept_of k) ≡ true
+kept_ascii : (k : Kind) → list_all are_ascii (unchanged_members k) ≡ true
 kept_ascii ConfigMap = refl
 kept_ascii Pod = refl
 kept_ascii ReplicaSet = refl
@@ -105,9 +105,9 @@ kept_ascii Deployment = refl
 
 pub placed : (k : Kind) (existing o : Data) → IsParsed existing → IsParsed o → IsParsed (in_place k existing o)
 placed k existing o h p =
-    let ms = keeping (kept_of k) (members_of existing) (members_of o) in
-    with_meta (keeping kept (metadata_of existing) (metadata_of o)) (object ms) (keeps kept (metadata_of existing) (metadata_of o) refl (meta existing h) (meta o p))
-    (joined ms (keeps (kept_of k) (members_of existing) (members_of o) (kept_ascii k) (inside existing h) (inside o p)))
+    let ms = keeping (unchanged_members k) (members_of existing) (members_of o) in
+    with_meta (keeping unchanged_metadata (metadata_of existing) (metadata_of o)) (object ms) (keeps unchanged_metadata (metadata_of existing) (metadata_of o) refl (meta existing h) (meta o p))
+    (joined ms (keeps (unchanged_members k) (members_of existing) (members_of o) (kept_ascii k) (inside existing h) (inside o p)))
 
 -- ---- generations
 
@@ -142,7 +142,7 @@ counts existing h =
 
 pub counted : (b : Bool) (existing : Data) (ms : Members) → IsParsed existing → Both ms → Both (with_next_generation b existing ms)
 counted b existing ms h m =
-    both_if b (put (codes "generation") (whole (next_generation (generation existing))) ms) ms (Both-set (codes "generation") refl (whole (next_generation (generation existing))) ms (counts existing h) m) m
+    both_if b (put (codes "generation") (unsigned_value (next_generation (generation existing))) ms) ms (Both-set (codes "generation") refl (unsigned_value (next_generation (generation existing))) ms (counts existing h) m) m
 
 -- ---- statuses
 

@@ -7,9 +7,9 @@ use Rattle.definitions.proofs.Truths.{both_true}
 use Rattle.definitions.specs.declared.kinds.Kind.{Kind}
 use Rattle.definitions.specs.declared.kinds.Group.{Group}
 use Rattle.definitions.specs.declared.kinds.Group.TheVariants.{Core, Apps}
-use Rattle.definitions.specs.Kinds.{kinds, group, text_of_group, group_name, plural, has_status, kind_named}
+use Rattle.definitions.specs.Kinds.{kinds, group, text_of_group, group_name, plural, has_status, kind_with_plural}
 use Rattle.laws.specs.HistoryLaws.{PathsAreRoutes}
-use Rattle.definitions.specs.Targets.{Route, collection, object_at, status_of, prefix, collection_text, path_text, segments, after_words, is_filled, with_status}
+use Rattle.definitions.specs.Targets.{Route, collection, object_at, status_of, prefix, collection_text, path_text, segments, after_words, is_filled, kind_with_status}
 use Rattle.definitions.proofs.PathForms.{Form, all_form, namespace_form, object_form, status_form, below, by_prefix, form_of, route_of, by_form}
 
 -- the parts with a `/` before each
@@ -146,7 +146,7 @@ group_tells Apps Core is = cc
 group_tells Apps Apps is = refl
 
 -- the plural that was read is that of the kind, and its group the one that was asked
-named : (g : Group) (p : List ℕ) (k : Kind) → kind_named g p ≡ Some k → (group k ≡ g) × (p ≡ plural k)
+named : (g : Group) (p : List ℕ) (k : Kind) → kind_with_plural g p ≡ Some k → (group k ≡ g) × (p ≡ plural k)
 named g p k is =
     let passed = both_true (bytes_eq (text_of_group g) (group_name k)) (bytes_eq p (plural k)) (passes_found (λ k. bytes_eq (text_of_group g) (group_name k) && bytes_eq p (plural k)) kinds k is) in
     (group_tells g (group k) ((bytes_eq-Decides (text_of_group g) (group_name k)).0 passed.0), (bytes_eq-Decides p (plural k)).0 passed.1)
@@ -155,7 +155,7 @@ one_route : {A : Type 0} (f : A → Route) (o : Option A) (r : Route) → option
 one_route f None r is = cc
 one_route f (Some k) r is = (k, refl, cc)
 
-with_status_is : (o : Option Kind) (k : Kind) → option_and_then with_status o ≡ Some k → o ≡ Some k
+with_status_is : (o : Option Kind) (k : Kind) → option_and_then kind_with_status o ≡ Some k → o ≡ Some k
 with_status_is None k is = cc
 with_status_is (Some j) k is = ap (λ i. Some i) (some_is (has_status j) j k is)
 
@@ -173,22 +173,22 @@ moved g h p q F a b = λ i. F (a i) (b i)
 route-text : (f : Form) (r : Route) → route_of f ≡ Some r → path_text r ≡ form_text f
 unfolding form_text rest_text
 route-text (all_form g p) r is =
-    let one = one_route (λ k. collection k None) (kind_named g p) r is in
+    let one = one_route (λ k. collection k None) (kind_with_plural g p) r is in
     let same = named g p one.0 one.1 in
     ap path_text (sym one.2) ∙ ap (λ l. prefix (group one.0) ++ (47 ∷ l)) (sym (to_end (plural one.0))) ∙ moved (group one.0) g (plural one.0) p (λ h q. prefix h ++ rest_text (q ∷ [])) same.0 (sym same.1)
 route-text (namespace_form g n p) r is =
-    let one = one_route (λ k. collection k (Some n)) (kind_named g p) r is in
+    let one = one_route (λ k. collection k (Some n)) (kind_with_plural g p) r is in
     let same = named g p one.0 one.1 in
     ap path_text (sym one.2) ∙ sym (to_end _) ∙ in_kind one.0 n []
     ∙ moved (group one.0) g (plural one.0) p (λ h q. prefix h ++ rest_text (codes "namespaces" ∷ n ∷ q ∷ [])) same.0 (sym same.1)
 route-text (object_form g n p o) r is =
-    let one = one_route (λ k. object_at (record { kind = k; namespace = n; name = o })) (kind_named g p) r is in
+    let one = one_route (λ k. object_at (record { kind = k; namespace = n; name = o })) (kind_with_plural g p) r is in
     let same = named g p one.0 one.1 in
     ap path_text (sym one.2) ∙ ap (λ l. collection_text one.0 (Some n) ++ (47 ∷ l)) (sym (to_end o)) ∙ in_kind one.0 n (o ∷ [])
     ∙ moved (group one.0) g (plural one.0) p (λ h q. prefix h ++ rest_text (codes "namespaces" ∷ n ∷ q ∷ o ∷ [])) same.0 (sym same.1)
 route-text (status_form g n p o) r is =
-    let one = one_route (λ k. status_of (record { kind = k; namespace = n; name = o })) (option_and_then with_status (kind_named g p)) r is in
-    let same = named g p one.0 (with_status_is (kind_named g p) one.0 one.1) in
+    let one = one_route (λ k. status_of (record { kind = k; namespace = n; name = o })) (option_and_then kind_with_status (kind_with_plural g p)) r is in
+    let same = named g p one.0 (with_status_is (kind_with_plural g p) one.0 one.1) in
     ap path_text (sym one.2) ∙ append_assoc (collection_text one.0 (Some n)) (47 ∷ o) (codes "/status") ∙ in_kind one.0 n (o ∷ codes "status" ∷ [])
     ∙ moved (group one.0) g (plural one.0) p (λ h q. prefix h ++ rest_text (codes "namespaces" ∷ n ∷ q ∷ o ∷ codes "status" ∷ [])) same.0 (sym same.1)
 

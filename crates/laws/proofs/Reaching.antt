@@ -3,11 +3,11 @@ use Rattle.std.proofs.Common.{◌≡◌, ◌≤◌, ℕ, List, [], ◌∷◌, �
 use Rattle.definitions.specs.History.{History, Entry, Write, write, compaction, present}
 use Rattle.definitions.specs.Verbs.{accept, with_write, write_of}
 use Rattle.definitions.specs.ObjectRequests.{Request}
-use Rattle.definitions.specs.Reached.{IsAsked, IsTime, IsReached, opened, asks, compacts}
+use Rattle.definitions.specs.Reached.{CanBeRead, IsTimestamp, IsReached, opened, asks, compacts}
 use Rattle.laws.specs.ReachedLaws.{PastsAreReached}
 
 -- a property of histories that a request leaves, and a compaction
-module _ (P : History → Type 0) (each : (q : Request) (h : History) (moment : List ℕ) → IsAsked q → IsTime moment → P h → P (with_write h (write_of (accept q h moment)))) (still : (h : History) (r : ℕ) → r ≤ present h → P h → P (h ++ compaction r ∷ [])) where
+module _ (P : History → Type 0) (each : (q : Request) (h : History) (moment : List ℕ) → CanBeRead q → IsTimestamp moment → P h → P (with_write h (write_of (accept q h moment)))) (still : (h : History) (r : ℕ) → r ≤ present h → P h → P (h ++ compaction r ∷ [])) where
   pub by_reached : (h : History) → IsReached h → P [] → P h
   by_reached h opened p = p
   by_reached h (asks g q moment r a t) p = each q g moment a t (by_reached g r p)

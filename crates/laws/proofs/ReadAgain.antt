@@ -14,13 +14,13 @@ use Rattle.definitions.specs.declared.refusals.Part.{Part}
 use Rattle.definitions.specs.declared.refusals.Part.TheVariants as part
 use Rattle.definitions.specs.declared.kinds.Kind.{Kind}
 use Rattle.definitions.specs.declared.kinds.Kind.TheVariants.{ConfigMap, Pod, ReplicaSet, Deployment}
-use Rattle.definitions.specs.declared.schemas.Member.{Member}
+use Rattle.definitions.specs.declared.schemas.Property.{Property}
 use Rattle.definitions.specs.declared.schemas.Shape.{Shape}
 use Rattle.definitions.specs.declared.schemas.Shape.TheVariants.{Text, TextList, List as ListOf, Object}
 use Rattle.definitions.specs.declared.schemas.Schema.{Schema}
 use Rattle.definitions.specs.declared.schemas.Schema.TheVariants.{Root}
 use Rattle.definitions.specs.Kinds.{api_version, kind_text}
-use Rattle.definitions.specs.Schemas.{member_at}
+use Rattle.definitions.specs.Schemas.{property_at}
 use Rattle.definitions.specs.Values.{with_default, is_null}
 use Rattle.definitions.specs.Reading.{fits, items_fit, members_fit, tidied, tidied_items, tidied_members, is_absent, item_of, schema_of, filled, with_spec, is_body, empty, reading}
 use Rattle.definitions.proofs.NoFloatsRead.{has_float-tidied, has_float-filled, has_float-is_body}
@@ -42,9 +42,9 @@ abbrev mutual
 
   pub MembersTidy : Schema → Members → Type 0
   MembersTidy p no_members = Unit {0}
-  MembersTidy p (member k d ms) = (is_absent (member_at p k) d ≡ false) × IsTidy (member_at p k).shape d × MembersTidy p ms
+  MembersTidy p (member k d ms) = (is_absent (property_at p k) d ≡ false) × IsTidy (property_at p k).shape d × MembersTidy p ms
 
-unless_absent : (p : Schema) (b : Bool) (k : List ℕ) (d : Data) (ms : Members) → is_absent (member_at p k) d ≡ b → IsTidy (member_at p k).shape d → MembersTidy p ms → MembersTidy p (cond b ms (member k d ms))
+unless_absent : (p : Schema) (b : Bool) (k : List ℕ) (d : Data) (ms : Members) → is_absent (property_at p k) d ≡ b → IsTidy (property_at p k).shape d → MembersTidy p ms → MembersTidy p (cond b ms (member k d ms))
 unless_absent p true k d ms is h g = g
 unless_absent p false k d ms is h g = (is, h, g)
 
@@ -64,9 +64,9 @@ mutual
   pub MembersTidy-tidied : (p : Schema) (ms : Members) → MembersTidy p (tidied_members p ms)
   MembersTidy-tidied p no_members = tt
   MembersTidy-tidied p (member k d ms) =
-      unless_absent p (is_absent (member_at p k) (tidied (member_at p k).shape d)) k (tidied (member_at p k).shape d) (tidied_members p ms) refl (IsTidy-tidied (member_at p k).shape d) (MembersTidy-tidied p ms)
+      unless_absent p (is_absent (property_at p k) (tidied (property_at p k).shape d)) k (tidied (property_at p k).shape d) (tidied_members p ms) refl (IsTidy-tidied (property_at p k).shape d) (MembersTidy-tidied p ms)
 
-kept_there : (m : Member) (k : List ℕ) (d e : Data) (ms ns : Members) → e ≡ d → ns ≡ ms → is_absent m d ≡ false → cond (is_absent m e) ns (member k e ns) ≡ member k d ms
+kept_there : (m : Property) (k : List ℕ) (d e : Data) (ms ns : Members) → e ≡ d → ns ≡ ms → is_absent m d ≡ false → cond (is_absent m e) ns (member k e ns) ≡ member k d ms
 kept_there m k d e ms ns p q h = rw (p, q, h) refl
 
 mutual
@@ -85,7 +85,7 @@ mutual
   pub tidied_members-MembersTidy : (p : Schema) (ms : Members) → MembersTidy p ms → tidied_members p ms ≡ ms
   tidied_members-MembersTidy p no_members h = refl
   tidied_members-MembersTidy p (member k d ms) h =
-      kept_there (member_at p k) k d (tidied (member_at p k).shape d) ms (tidied_members p ms) (tidied-IsTidy (member_at p k).shape d h.1) (tidied_members-MembersTidy p ms h.2) h.0
+      kept_there (property_at p k) k d (tidied (property_at p k).shape d) ms (tidied_members p ms) (tidied-IsTidy (property_at p k).shape d h.1) (tidied_members-MembersTidy p ms h.2) h.0
 
 -- ---- what fits still fits once tidied
 
@@ -101,9 +101,9 @@ is_null-tidied s (string t) = refl
 is_null-tidied s (array ds) = refl
 is_null-tidied s (object ms) = refl
 
-fits_unless : (p : Schema) (b : Bool) (k : List ℕ) (d : Data) (ms : Members) → (is_null d || fits (member_at p k).shape d) ≡ true → members_fit p ms ≡ true → members_fit p (cond b ms (member k d ms)) ≡ true
+fits_unless : (p : Schema) (b : Bool) (k : List ℕ) (d : Data) (ms : Members) → (is_null d || fits (property_at p k).shape d) ≡ true → members_fit p ms ≡ true → members_fit p (cond b ms (member k d ms)) ≡ true
 fits_unless p true k d ms h g = g
-fits_unless p false k d ms h g = and_true (is_null d || fits (member_at p k).shape d) (members_fit p ms) h g
+fits_unless p false k d ms h g = and_true (is_null d || fits (property_at p k).shape d) (members_fit p ms) h g
 
 mutual
   fits-tidied : (s : Shape) (d : Data) → fits s d ≡ true → fits s (tidied s d) ≡ true
@@ -126,9 +126,9 @@ mutual
   pub members_fit-tidied : (p : Schema) (ms : Members) → members_fit p ms ≡ true → members_fit p (tidied_members p ms) ≡ true
   members_fit-tidied p no_members h = refl
   members_fit-tidied p (member k d ms) h =
-      let s = (member_at p k).shape in
+      let s = (property_at p k).shape in
       let both = both_true (is_null d || fits s d) (members_fit p ms) h in
-      fits_unless p (is_absent (member_at p k) (tidied s d)) k (tidied s d) (tidied_members p ms)
+      fits_unless p (is_absent (property_at p k) (tidied s d)) k (tidied s d) (tidied_members p ms)
       (ap (λ b. b || fits s (tidied s d)) (is_null-tidied s d) ∙ either_true (is_null d) (fits s d) (fits s (tidied s d)) (fits-tidied s d) both.0) (members_fit-tidied p ms both.1)
 
 -- ---- depth
@@ -153,14 +153,14 @@ mutual
   pub members_depth-tidied : (p : Schema) (ms : Members) → members_depth (tidied_members p ms) ≤ members_depth ms
   members_depth-tidied p no_members = omega arith
   members_depth-tidied p (member k d ms) =
-      let e = tidied (member_at p k).shape d in
-      let f : members_depth (tidied_members p (member k d ms)) ≤ max (depth e) (members_depth (tidied_members p ms)) = depth_unless (is_absent (member_at p k) e) k e (tidied_members p ms) in
-      let h : depth e ≤ depth d = depth-tidied (member_at p k).shape d in let g = members_depth-tidied p ms in omega arith
+      let e = tidied (property_at p k).shape d in
+      let f : members_depth (tidied_members p (member k d ms)) ≤ max (depth e) (members_depth (tidied_members p ms)) = depth_unless (is_absent (property_at p k) e) k e (tidied_members p ms) in
+      let h : depth e ≤ depth d = depth-tidied (property_at p k).shape d in let g = members_depth-tidied p ms in omega arith
 
 -- ---- members that fit, are tidy and not too deep, and what is put among them
 
 abbrev pub Fine : Schema → List ℕ → Data → Type 0
-Fine p k d = ((is_null d || fits (member_at p k).shape d) ≡ true) × (is_absent (member_at p k) d ≡ false) × IsTidy (member_at p k).shape d × (depth d ≤ 99)
+Fine p k d = ((is_null d || fits (property_at p k).shape d) ≡ true) × (is_absent (property_at p k) d ≡ false) × IsTidy (property_at p k).shape d × (depth d ≤ 99)
 
 abbrev pub Good : Schema → Members → Type 0
 Good p no_members = Unit {0}
@@ -169,14 +169,14 @@ Good p (member k d ms) = Fine p k d × Good p ms
 pub Good-of : (p : Schema) (ms : Members) → members_fit p ms ≡ true → MembersTidy p ms → members_depth ms ≤ 99 → Good p ms
 Good-of p no_members f t d = tt
 Good-of p (member k e ms) f t d =
-    let both = both_true (is_null e || fits (member_at p k).shape e) (members_fit p ms) f in
+    let both = both_true (is_null e || fits (property_at p k).shape e) (members_fit p ms) f in
     let here : depth e ≤ 99 = omega arith in
     let below : members_depth ms ≤ 99 = omega arith in
     ((both.0, t.0, t.1, here), Good-of p ms both.1 t.2 below)
 
 pub Good-fits : (p : Schema) (ms : Members) → Good p ms → members_fit p ms ≡ true
 Good-fits p no_members g = refl
-Good-fits p (member k d ms) g = and_true (is_null d || fits (member_at p k).shape d) (members_fit p ms) g.0.0 (Good-fits p ms g.1)
+Good-fits p (member k d ms) g = and_true (is_null d || fits (property_at p k).shape d) (members_fit p ms) g.0.0 (Good-fits p ms g.1)
 
 pub Good-tidy : (p : Schema) (ms : Members) → Good p ms → MembersTidy p ms
 Good-tidy p no_members g = tt

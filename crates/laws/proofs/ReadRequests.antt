@@ -15,8 +15,8 @@ use Rattle.line_protocol.specs.Lines.{history_of, Line, ask, at, compact, compac
 use Rattle.definitions.specs.Moments as moments
 use Rattle.definitions.specs.Moments.{has_form, is_day, is_digit, is_moment}
 use Rattle.definitions.specs.Keys.{Key}
-use Rattle.definitions.specs.Collections as collections
-use Rattle.definitions.specs.Collections.{Read}
+use Rattle.definitions.specs.ListQueries as collections
+use Rattle.definitions.specs.ListQueries.{Read}
 use Rattle.definitions.specs.Revisions.{revision_of}
 use Rattle.definitions.specs.Values.{data_of}
 use Rattle.definitions.specs.Refusals.{Refusal, bad_request, method_not_allowed, too_large}
@@ -27,12 +27,12 @@ use Rattle.definitions.specs.DeleteOptions.{Options}
 use Rattle.definitions.specs.History as history
 use Rattle.laws.proofs.Parsed.{parsed_data}
 use Rattle.laws.proofs.Runs.{kept_asked, kept_watched, by_compaction}
-use Rattle.definitions.specs.Reached.{IsParsed, IsAsked, IsTime, IsReached, opened, asks, compacts}
+use Rattle.definitions.specs.Reached.{IsParsed, CanBeRead, IsTimestamp, IsReached, opened, asks, compacts}
 use Rattle.laws.specs.ReachedLaws.{RunsAreReached, RequestsAreAsked, MomentsAreTimes}
 
 abbrev AsksWell : Result Asked Refusal → Type 0
 AsksWell (Err f) = Unit {0}
-AsksWell (Ok (request q)) = IsAsked q
+AsksWell (Ok (request q)) = CanBeRead q
 AsksWell (Ok (list v o)) = Unit {0}
 AsksWell (Ok (watch v o)) = Unit {0}
 
@@ -51,11 +51,11 @@ ordered_or (Some d) h = h
 ordered_body : (text : List ℕ) → IsOrderedBody (body_of text)
 ordered_body text = ordered_or (data_of text) (parsed_data text)
 
-well_with : (f : Data → Request) (r : Result Data Refusal) → ((d : Data) → IsParsed d → IsAsked (f d)) → IsOrderedBody r → AsksWell (asks_with f r)
+well_with : (f : Data → Request) (r : Result Data Refusal) → ((d : Data) → IsParsed d → CanBeRead (f d)) → IsOrderedBody r → AsksWell (asks_with f r)
 well_with f (Err e) each h = tt
 well_with f (Ok d) each h = each d h
 
-well_body : (f : Data → Request) (text : List ℕ) → ((d : Data) → IsParsed d → IsAsked (f d)) → AsksWell (asks_with f (body_of text))
+well_body : (f : Data → Request) (text : List ℕ) → ((d : Data) → IsParsed d → CanBeRead (f d)) → AsksWell (asks_with f (body_of text))
 well_body f text each = well_with f (body_of text) each (ordered_body text)
 
 well_deletes : (n : Key) (r : Result Options Refusal) → AsksWell (asks_with (delete_object n) r)
@@ -104,9 +104,9 @@ well_request method target text = well_at method (decoded target) text (route (p
 
 -- ---- the moments
 
-abbrev IsTimed : Line → Type 0
+abbrev pub IsTimed : Line → Type 0
 IsTimed (ask method target body) = Unit {0}
-IsTimed (at moment) = IsTime moment
+IsTimed (at moment) = IsTimestamp moment
 IsTimed (compact r) = Unit {0}
 IsTimed unreadable = Unit {0}
 
@@ -141,7 +141,7 @@ form_ascii (f ∷ fs) (b ∷ bs) low h =
     let byte = byte_ascii (f == 48) f b (ltb-true f 128 lows.0) here.0 in
     rw (lt-ltb b 128 byte) (form_ascii fs bs lows.1 here.1)
 
-timed_moment : (t : List ℕ) → is_moment t ≡ true → IsTime t
+timed_moment : (t : List ℕ) → is_moment t ≡ true → IsTimestamp t
 timed_moment t h =
     let long : length t ≡ 20 = as_long (codes "0000-00-00T00:00:00Z") t (has_moment_form t h) in
     (omega arith, omega arith, IsUtf8-are_ascii t (form_ascii (codes "0000-00-00T00:00:00Z") t refl (has_moment_form t h)))
@@ -165,12 +165,12 @@ timed_compact : (o : Option ℕ) → IsTimed (compact_at o)
 timed_compact None = tt
 timed_compact (Some r) = tt
 
-timed_at : (a b : Bool) (t : List ℕ) (y : Line) → (b ≡ true → IsTime t) → IsTimed y → IsTimed (cond (a && b) (at t) y)
+timed_at : (a b : Bool) (t : List ℕ) (y : Line) → (b ≡ true → IsTimestamp t) → IsTimed y → IsTimed (cond (a && b) (at t) y)
 timed_at true true t y h q = h refl
 timed_at true false t y h q = q
 timed_at false b t y h q = q
 
-timed_from : (o : Option (List ℕ × List ℕ)) → IsTimed (line_from o)
+pub timed_from : (o : Option (List ℕ × List ℕ)) → IsTimed (line_from o)
 timed_from None = tt
 timed_from (Some p) =
     timed_either (bytes_eq p.0 (codes "GET")) (target_alone Get p.1 (cut p.1)) _ (timed_alone Get p.1 (cut p.1))
@@ -184,9 +184,9 @@ timed_from (Some p) =
 -- ---- after any lines
 
 -- a property of histories that a write leaves, where requests come of lines
-module _ (P : History → Type 0) (each : (q : Request) (h : History) (moment : List ℕ) → IsAsked q → IsTime moment → P h → P (with_write h (write_of (accept q h moment)))) (still : (h : History) (r : ℕ) → r ≤ present h → P h → P (h ++ compaction r ∷ [])) where
-  abbrev Holds : Session → Type 0
-  Holds s = IsTime s.moment × P s.history
+module _ (P : History → Type 0) (each : (q : Request) (h : History) (moment : List ℕ) → CanBeRead q → IsTimestamp moment → P h → P (with_write h (write_of (accept q h moment)))) (still : (h : History) (r : ℕ) → r ≤ present h → P h → P (h ++ compaction r ∷ [])) where
+  abbrev pub Holds : Session → Type 0
+  Holds s = IsTimestamp s.moment × P s.history
 
   by_request : (s : Session) (r : Result Asked Refusal) → AsksWell r → Holds s → P (history_from s.history (reply_for s r))
   by_request s (Err f) well p = p.1
@@ -194,7 +194,7 @@ module _ (P : History → Type 0) (each : (q : Request) (h : History) (moment : 
   by_request s (Ok (list v o)) well p = subst P (sym (kept_asked s v o)) p.1
   by_request s (Ok (watch v o)) well p = subst P (sym (kept_watched s v o)) p.1
 
-  by_line : (s : Session) (line : Line) → IsTimed line → Holds s → Holds (session_after s line)
+  pub by_line : (s : Session) (line : Line) → IsTimed line → Holds s → Holds (session_after s line)
   by_line s (ask method target body) timed p = (p.0, by_request s (read_request method target body) (well_request method target body) p)
   by_line s (at moment) timed p = (timed, p.1)
   by_line s (compact r) timed p = (p.0, by_compaction P still s.history r p.1)
@@ -211,7 +211,7 @@ module _ (P : History → Type 0) (each : (q : Request) (h : History) (moment : 
   by_asked : (lines : List (List ℕ)) → P [] → P (history_of lines)
   by_asked lines p = (by_session (start default_window) lines ((omega arith, omega arith, IsUtf8-are_ascii (codes "2026-01-01T00:00:00Z") refl), p)).1
 
-asks_of : (q : Request) (r : Result Asked Refusal) → r ≡ Ok (request q) → AsksWell r → IsAsked q
+asks_of : (q : Request) (r : Result Asked Refusal) → r ≡ Ok (request q) → AsksWell r → CanBeRead q
 asks_of q r is well = subst AsksWell is well
 
 pub requests_asked : RequestsAreAsked

@@ -7,8 +7,8 @@ use Rattle.std.proofs.lemmas.Bool.{lt-ltb, le-ltb}
 use Rattle.serde_json.specs.Data.{Data}
 use Rattle.definitions.specs.declared.kinds.Kind.{Kind}
 use Rattle.definitions.specs.Keys.{Key}
-use Rattle.definitions.specs.History.{Write, View, Members, last_of, viewed, after_all, put_or_remove, seen}
-use Rattle.definitions.specs.Events.{Event, changes_after, write_change, applied}
+use Rattle.definitions.specs.History.{Write, View, Entries, last_of, viewed, after_all, put_or_remove, seen}
+use Rattle.definitions.specs.Events.{Event, events_after, event_of_write, applied}
 use Rattle.definitions.specs.Windows.{Change, is_of, change_of, changes_after as kept_after, all_but, last_n, last_revision, IsRising}
 use Rattle.server_state.specs.Recorded.{above, events_recorded, undone}
 use Rattle.laws.proofs.AppliedEvents.{one_more}
@@ -103,22 +103,22 @@ unlike : (v : View) (k : Key) (o : Option Data) → is_of v.kind k ≡ false →
 unlike v k None h = refl
 unlike v k (Some d) h = rw h refl
 
-no_change : (v : View) (before : List Write) (w : Write) → is_of v.kind w.key ≡ false → write_change v before w ≡ []
+no_change : (v : View) (before : List Write) (w : Write) → is_of v.kind w.key ≡ false → event_of_write v before w ≡ []
 no_change v before w is = rw (unlike v w.key (last_of None w.key before) is, unlike v w.key w.put is) refl
 
 one_change : (b : Bool) (v : View) (before : List Write) (w : Write) (ks : List Change) (cs : List Event) → is_of v.kind w.key ≡ b → events_recorded v ks ≡ cs
-    → events_recorded v (cond b (change_of before w ∷ []) [] ++ ks) ≡ write_change v before w ++ cs
-one_change true v before w ks cs is later = ap (λ z. write_change v before w ++ z) later
+    → events_recorded v (cond b (change_of before w ∷ []) [] ++ ks) ≡ event_of_write v before w ++ cs
+one_change true v before w ks cs is later = ap (λ z. event_of_write v before w ++ z) later
 one_change false v before w ks cs is later = later ∙ sym (ap (λ z. z ++ cs) (no_change v before w is))
 
-pub changes_of_kept : (v : View) (ws before : List Write) → events_recorded v (kept_after v.kind before ws) ≡ changes_after v before ws
+pub changes_of_kept : (v : View) (ws before : List Write) → events_recorded v (kept_after v.kind before ws) ≡ events_after v before ws
 changes_of_kept v [] before = refl
 changes_of_kept v (w ∷ ws) before =
-    one_change (is_of v.kind w.key) v before w (kept_after v.kind (before ++ w ∷ []) ws) (changes_after v (before ++ w ∷ []) ws) refl (changes_of_kept v ws (before ++ w ∷ []))
+    one_change (is_of v.kind w.key) v before w (kept_after v.kind (before ++ w ∷ []) ws) (events_after v (before ++ w ∷ []) ws) refl (changes_of_kept v ws (before ++ w ∷ []))
 
 -- ---- what undoing them gives
 
-one_undone : (b : Bool) (v : View) (before : List Write) (w : Write) (ms : Members) (ks : List Change) → is_of v.kind w.key ≡ b → undone v ms ks ≡ viewed v (after_all [] (before ++ w ∷ []))
+one_undone : (b : Bool) (v : View) (before : List Write) (w : Write) (ms : Entries) (ks : List Change) → is_of v.kind w.key ≡ b → undone v ms ks ≡ viewed v (after_all [] (before ++ w ∷ []))
     → undone v ms (cond b (change_of before w ∷ []) [] ++ ks) ≡ viewed v (after_all [] before)
 one_undone true v before w ms ks is later = ap (λ z. put_or_remove z w.key (seen v w.key (last_of None w.key before))) later ∙ write_undone v before w
 one_undone false v before w ms ks is later = later ∙ sym (one_more v before w) ∙ ap (λ cs. applied (viewed v (after_all [] before)) cs) (no_change v before w is)

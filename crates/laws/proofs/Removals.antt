@@ -12,7 +12,7 @@ use Rattle.definitions.specs.declared.policies.Policy.{Policy}
 use Rattle.definitions.specs.Checks.{finalizers, has_text, text_is, checks, update_fault, adds_no_finalizer, is_selector_kept}
 use Rattle.definitions.specs.DeleteOptions.{Options}
 use Rattle.definitions.specs.Deletion.{left_by, being_deleted, others_then, of_policy, are_of, is_of_policy, with_deletion}
-use Rattle.definitions.specs.History.{History, found, members, present, state}
+use Rattle.definitions.specs.History.{History, found, entries_at, present, state}
 use Rattle.laws.specs.HistoryLaws.{KeepsText, is_delete}
 use Rattle.laws.specs.LifecycleLaws.{OfReplaced, OfRemoved, all_of_policy, DeletesSpareFinalizers, LastFinalizersRemove, WritesKeepDeletions, NoFinalizerIsAdded}
 use Rattle.definitions.specs.Metadata.{metadata, metadata_of, metadata_text, at_revision, is_being_deleted}
@@ -20,7 +20,7 @@ use Rattle.definitions.specs.Keys.{Key}
 use Rattle.definitions.specs.NewObjects.{created}
 use Rattle.definitions.specs.Reading.{reading}
 use Rattle.definitions.specs.Replacements.{in_place, is_finalized, is_new_generation, updated, with_next_generation, with_status_in, next_generation, generation}
-use Rattle.definitions.specs.Defaults.{whole}
+use Rattle.definitions.specs.Defaults.{unsigned_value}
 use Rattle.definitions.specs.SelectorValues.{all_items, items_in}
 use Rattle.definitions.specs.Verbs.{Outcome, shown, outcome_body, object_in, new_name}
 use Rattle.definitions.specs.ObjectRequests.{Request, get_object, list_objects, create_object, update_object, update_status, patch_object, delete_object}
@@ -58,7 +58,7 @@ none_left (Some p) ds h = (none_cond (are_of p ds) (of_policy p) ds h, λ is. cc
 pub spared : DeletesSpareFinalizers
 spared k o h moment =
     of_delete (λ u. OfRemoved h u (λ gone existing. (gone ≡ k) × (all_of_policy (finalizers existing) ≡ true) × (o.policy ≡ None → finalizers existing ≡ no_items))) (λ f. tt) (λ code body. tt) k o
-    (members h (present h)) (present h) moment (λ existing at same same_version low. tt)
+    (entries_at h (present h)) (present h) moment (λ existing at same same_version low. tt)
     (λ existing at same same_version none low. let left = none_left o.policy (finalizers existing) none in (existing, sym (found-state h k) ∙ at, (refl, left.0, left.1)))
 
 -- ---- what another request removes
@@ -70,24 +70,24 @@ not_there (Some d) h = cc
 abbrev TakesTheLast : History → Outcome → Type 0
 TakesTheLast h o = OfRemoved h o (λ k existing. (is_being_deleted existing ≡ true) × (metadata (codes "finalizers") (outcome_body o) ≡ None))
 
-let_go_of : (h : History) (k : Key) (existing new : Data) → found k (members h (present h)) ≡ Some existing → is_finalized existing new ≡ true
+let_go_of : (h : History) (k : Key) (existing new : Data) → found k (entries_at h (present h)) ≡ Some existing → is_finalized existing new ≡ true
     → (was : Data) × (state h (present h) k ≡ Some was) × ((is_being_deleted was ≡ true) × (metadata (codes "finalizers") new ≡ None))
 let_go_of h k existing new at free =
     let parts = both_true (is_being_deleted existing) (not (is_some (metadata (codes "finalizers") new))) free in
     (existing, sym (found-state h k) ∙ at, (parts.0, not_there (metadata (codes "finalizers") new) parts.1))
 
 pub last_removes : LastFinalizersRemove
-last_removes (get_object k) h moment other = there (TakesTheLast h) (λ f. tt) k shown (found k (members h (present h))) (λ d is. tt)
+last_removes (get_object k) h moment other = there (TakesTheLast h) (λ f. tt) k shown (found k (entries_at h (present h))) (λ d is. tt)
 last_removes (list_objects v) h moment other = tt
 last_removes (create_object kind ns d) h moment other =
-    of_create (TakesTheLast h) (λ f. tt) kind ns (object_in kind d) (members h (present h)) (present h) moment (λ o read valid fits free room. tt)
+    of_create (TakesTheLast h) (λ f. tt) kind ns (object_in kind d) (entries_at h (present h)) (present h) moment (λ o read valid fits free room. tt)
 last_removes (update_object k d) h moment other =
-    of_update (TakesTheLast h) (λ f. tt) (λ d. tt) k (object_in k.kind d) (members h (present h)) (present h) (λ o existing read at equal valid fits low. tt)
+    of_update (TakesTheLast h) (λ f. tt) (λ d. tt) k (object_in k.kind d) (entries_at h (present h)) (present h) (λ o existing read at equal valid fits low. tt)
     (λ o existing read at equal free low. let_go_of h k existing (updated k.kind (present h + 1) existing (in_place k.kind existing o)) at free)
 last_removes (update_status k d) h moment other =
-    of_status (TakesTheLast h) (λ f. tt) (λ d. tt) k (reading k.kind d) (members h (present h)) (present h) (λ o existing read at equal fits low. tt)
+    of_status (TakesTheLast h) (λ f. tt) (λ d. tt) k (reading k.kind d) (entries_at h (present h)) (present h) (λ o existing read at equal fits low. tt)
 last_removes (patch_object k d) h moment other =
-    of_patch (TakesTheLast h) (λ f. tt) (λ d. tt) k d (members h (present h)) (present h) (λ o existing read at equal valid fits low. tt)
+    of_patch (TakesTheLast h) (λ f. tt) (λ d. tt) k d (entries_at h (present h)) (present h) (λ o existing read at equal valid fits low. tt)
     (λ o existing read at equal free low. let_go_of h k existing (updated k.kind (present h + 1) existing (in_place k.kind existing o)) at free)
 last_removes (delete_object k o) h moment other = absurd (true≢false other)
 
@@ -118,8 +118,8 @@ stand q h moment =
     let r = present h + 1 in
     of_accept (λ u. OfReplaced h u (λ k existing new. KeepsText since existing new)) (λ f. tt) (λ code body. tt) q h moment
     (λ kind ns d o read valid fits free room.
-    let k = new_name kind ns o (members h (present h)) (present h) in
-    of_none (λ existing. KeepsText since existing (created kind r ns k.name moment o)) (state h (present h) k) (sym (found-state h k) ∙ none_from (found k (members h (present h))) free))
+    let k = new_name kind ns o (entries_at h (present h)) (present h) in
+    of_none (λ existing. KeepsText since existing (created kind r ns k.name moment o)) (state h (present h) k) (sym (found-state h k) ∙ none_from (found k (entries_at h (present h))) free))
     (λ k o existing at valid fits low.
     of_held (λ was. KeepsText since was (updated k.kind r existing (in_place k.kind existing o))) (state h (present h) k) existing (sym (found-state h k) ∙ at) (since_in_place k.kind r existing o))
     (λ k o existing at free low. tt)
@@ -140,7 +140,7 @@ member-at_revision q r meta d other =
 
 pub member-with_next_generation : (q : List ℕ) (is_new : Bool) (existing : Data) (meta : Members) → bytes_eq q (codes "generation") ≡ false
     → get_member q (with_next_generation is_new existing meta) ≡ get_member q meta
-member-with_next_generation q true existing meta other = get_member-put_other q (codes "generation") (whole (next_generation (generation existing))) meta (apart q (codes "generation") other)
+member-with_next_generation q true existing meta other = get_member-put_other q (codes "generation") (unsigned_value (next_generation (generation existing))) meta (apart q (codes "generation") other)
 member-with_next_generation q false existing meta other = refl
 
 pub member-updated : (q : List ℕ) (k : Kind) (r : ℕ) (existing d : Data) → bytes_eq q (codes "resourceVersion") ≡ false → bytes_eq q (codes "generation") ≡ false → metadata q (updated k r existing d) ≡ metadata q d
@@ -249,25 +249,25 @@ added_marked k l o r moment existing t deleted h =
     by_policy (inl a) = inl (refl, a.0, a.1)
     by_policy (inr a) = inr a
 
-pub at_held : (h : History) (k : Key) (existing : Data) (P : Data → Type 0) → found k (members h (present h)) ≡ Some existing → P existing → IfSome (state h (present h) k) P
+pub at_held : (h : History) (k : Key) (existing : Data) (P : Data → Type 0) → found k (entries_at h (present h)) ≡ Some existing → P existing → IfSome (state h (present h) k) P
 at_held h k existing P at p = of_held P (state h (present h) k) existing (sym (found-state h k) ∙ at) p
 
 pub adds_no_other : NoFinalizerIsAdded
-adds_no_other (get_object k) h moment = there (AddedBy (get_object k) h) (λ f. tt) k shown (found k (members h (present h))) (λ d is. tt)
+adds_no_other (get_object k) h moment = there (AddedBy (get_object k) h) (λ f. tt) k shown (found k (entries_at h (present h))) (λ d is. tt)
 adds_no_other (list_objects v) h moment = tt
 adds_no_other (create_object kind ns d) h moment =
-    of_create (AddedBy (create_object kind ns d) h) (λ f. tt) kind ns (object_in kind d) (members h (present h)) (present h) moment
+    of_create (AddedBy (create_object kind ns d) h) (λ f. tt) kind ns (object_in kind d) (entries_at h (present h)) (present h) moment
     (λ o read valid fits free room.
-    let k = new_name kind ns o (members h (present h)) (present h) in
-    of_none (λ existing. Added (create_object kind ns d) existing (created kind (present h + 1) ns k.name moment o)) (state h (present h) k) (sym (found-state h k) ∙ none_from (found k (members h (present h))) free))
+    let k = new_name kind ns o (entries_at h (present h)) (present h) in
+    of_none (λ existing. Added (create_object kind ns d) existing (created kind (present h + 1) ns k.name moment o)) (state h (present h) k) (sym (found-state h k) ∙ none_from (found k (entries_at h (present h))) free))
 adds_no_other (update_object k d) h moment =
-    of_update (AddedBy (update_object k d) h) (λ f. tt) (λ d. tt) k (object_in k.kind d) (members h (present h)) (present h)
+    of_update (AddedBy (update_object k d) h) (λ f. tt) (λ d. tt) k (object_in k.kind d) (entries_at h (present h)) (present h)
     (λ o existing read at equal valid fits low.
     let new = updated k.kind (present h + 1) existing (in_place k.kind existing o) in
     at_held h k existing (λ was. Added (update_object k d) was new) at (added_none (update_object k d) existing new (update_adds k (present h) existing (in_place k.kind existing o) valid)))
     (λ o existing read at equal free low. tt)
 adds_no_other (update_status k d) h moment =
-    of_status (AddedBy (update_status k d) h) (λ f. tt) (λ d. tt) k (reading k.kind d) (members h (present h)) (present h)
+    of_status (AddedBy (update_status k d) h) (λ f. tt) (λ d. tt) k (reading k.kind d) (entries_at h (present h)) (present h)
     (λ o existing read at equal fits low.
     let made = with_status_in k.kind existing o in
     let new = at_revision (present h + 1) (metadata_of made) made in
@@ -275,13 +275,13 @@ adds_no_other (update_status k d) h moment =
     (added_none (update_status k d) existing new
     (λ t deleted has. sym (ap (λ m. has_text (items_in m) t) (member-restated (codes "finalizers") k.kind (present h + 1) existing o refl)) ∙ has)))
 adds_no_other (patch_object k d) h moment =
-    of_patch (AddedBy (patch_object k d) h) (λ f. tt) (λ d. tt) k d (members h (present h)) (present h)
+    of_patch (AddedBy (patch_object k d) h) (λ f. tt) (λ d. tt) k d (entries_at h (present h)) (present h)
     (λ o existing read at equal valid fits low.
     let new = updated k.kind (present h + 1) existing (in_place k.kind existing o) in
     at_held h k existing (λ was. Added (patch_object k d) was new) at (added_none (patch_object k d) existing new (update_adds k (present h) existing (in_place k.kind existing o) valid)))
     (λ o existing read at equal free low. tt)
 adds_no_other (delete_object k o) h moment =
-    of_delete (AddedBy (delete_object k o) h) (λ f. tt) (λ code body. tt) k o (members h (present h)) (present h) moment
+    of_delete (AddedBy (delete_object k o) h) (λ f. tt) (λ code body. tt) k o (entries_at h (present h)) (present h) moment
     (λ existing at same same_version low.
     let d = being_deleted k.kind moment (left_by o.policy (finalizers existing)) existing in
     at_held h k existing (λ was. Added (delete_object k o) was (at_revision (present h + 1) (metadata_of d) d)) at (added_marked k k o (present h + 1) moment existing))

@@ -14,7 +14,7 @@ use Rattle.serde_json.specs.View.{items_of}
 use Rattle.serde_json.specs.Written.{compact_text, has_float, items_have_float, members_have_float}
 use Rattle.definitions.proofs.Truths.{left_false, right_false}
 use Rattle.definitions.specs.declared.kinds.Kind.{Kind}
-use Rattle.definitions.specs.History.{History, Write, View, Members, writes, present, list}
+use Rattle.definitions.specs.History.{History, Write, View, Entries, writes, present, list}
 use Rattle.definitions.specs.Kinds.{api_version, kind_text}
 use Rattle.definitions.specs.Keys.{Key}
 use Rattle.definitions.specs.Reached.{IsParsed, AreParsed, IsReached}
@@ -60,7 +60,7 @@ no_floats_in (object ms) h = h
 no_floats_item : (d : Data) → has_float d ≡ false → has_float (as_item d) ≡ false
 no_floats_item d h = no_floats_without (codes "kind") (without (codes "apiVersion") (members_of d)) (no_floats_without (codes "apiVersion") (members_of d) (no_floats_in d h))
 
-no_floats_items : (k : Kind) (ms : Members) → AllByRecursion (Lists k) ms → items_have_float (items_of (map (λ m. as_item m.1) ms)) ≡ false
+no_floats_items : (k : Kind) (ms : Entries) → AllByRecursion (Lists k) ms → items_have_float (items_of (map (λ m. as_item m.1) ms)) ≡ false
 no_floats_items k [] a = refl
 no_floats_items k (m ∷ ms) a =
     let reads = a.0.1.1.kept.reads in
@@ -77,7 +77,7 @@ item_parsed d p =
     joined (without (codes "kind") (without (codes "apiVersion") (members_of d)))
     (Both-without (codes "kind") (without (codes "apiVersion") (members_of d)) (Both-without (codes "apiVersion") (members_of d) (inside d p)))
 
-items_parsed : (ms : Members) → AllByRecursion (λ (m : Key × Data). IsParsed m.1) ms → AreParsed (items_of (map (λ m. as_item m.1) ms))
+items_parsed : (ms : Entries) → AllByRecursion (λ (m : Key × Data). IsParsed m.1) ms → AreParsed (items_of (map (λ m. as_item m.1) ms))
 items_parsed [] a = tt
 items_parsed (m ∷ ms) a = (item_parsed m.1 a.0, items_parsed ms a.1)
 

@@ -2,7 +2,7 @@
 use Rattle.std.proofs.Common.{◌≡◌, ◌≤◌, ℕ, ◌==◌, List, [], ◌∷◌, ◌++◌, length, Bool, true, false, cond, nat_lt, Option, Some, None, Result, Ok, Err, append_assoc, subst, refl, sym, ap, ◌∙◌}
 use Rattle.std.proofs.lemmas.Bool.{ltb-false}
 use Rattle.definitions.specs.declared.kinds.Kind.{Kind}
-use Rattle.definitions.specs.Collections.{ListOptions, WatchOptions}
+use Rattle.definitions.specs.ListQueries.{ListOptions, WatchOptions}
 use Rattle.definitions.specs.History.{History, Entry, Write, View, write, compaction, present}
 use Rattle.laws.specs.HistoryLaws.{RunsOnlyAdd, WindowsOnlyForget}
 use Rattle.definitions.specs.Replies.{Session, start, outcome, reply_for, watch_reply, compact_reply, history_from}
@@ -62,18 +62,18 @@ module _ (P : History → Type 0) (each : (q : Request) (h : History) (moment : 
   by_lines s [] p = p
   by_lines s (t ∷ ts) p = by_lines (next s t) ts (by_text (length t == 0) s t p)
 
-abbrev Begins : History → History → Type 0
+abbrev pub Begins : History → History → Type 0
 Begins h whole = (more : History) × (whole ≡ h ++ more)
 
-nothing : (h : History) → h ≡ h ++ []
+pub nothing : (h : History) → h ≡ h ++ []
 nothing [] = refl
 nothing (e ∷ h) = ap (λ l. e ∷ l) (nothing h)
 
-begins-write : (h whole : History) (w : Option Write) → Begins h whole → Begins h (with_write whole w)
+pub begins-write : (h whole : History) (w : Option Write) → Begins h whole → Begins h (with_write whole w)
 begins-write h whole None b = b
 begins-write h whole (Some w) b = (b.0 ++ write w ∷ [], ap (λ l. l ++ write w ∷ []) b.1 ∙ append_assoc h b.0 (write w ∷ []))
 
-begins-entry : (h whole : History) (e : Entry) → Begins h whole → Begins h (whole ++ e ∷ [])
+pub begins-entry : (h whole : History) (e : Entry) → Begins h whole → Begins h (whole ++ e ∷ [])
 begins-entry h whole e b = (b.0 ++ e ∷ [], ap (λ l. l ++ e ∷ []) b.1 ∙ append_assoc h b.0 (e ∷ []))
 
 pub only_add : RunsOnlyAdd

@@ -8,7 +8,7 @@ use Rattle.serde_json.specs.Find.{get, get_member}
 use Rattle.serde_json.specs.Written.{compact_text}
 use Rattle.definitions.specs.Metadata.{metadata, metadata_of, with_metadata}
 use Rattle.laws.specs.ReplacementLaws.{without_version, IsReadBack, SameButForTheVersion, UpdatesAreAtTheVersion}
-use Rattle.definitions.specs.Replacements.{as_held, keeping, kept, kept_of, status_in}
+use Rattle.definitions.specs.Replacements.{as_stored, keeping, unchanged_metadata, unchanged_members, status_in}
 use Rattle.definitions.specs.Values.{data_of, members_of, inner_of, without}
 use Rattle.serde_json.proofs.Views.{get_member-put}
 use Rattle.definitions.proofs.JsonMembers.{metadata_of-with}
@@ -80,17 +80,17 @@ same_objects stored d h g version =
 first_kept : List (List ℕ)
 first_kept = codes "namespace" ∷ codes "uid" ∷ codes "creationTimestamp" ∷ codes "deletionTimestamp" ∷ codes "generation" ∷ []
 
-last_kept : (was ms : Members) (v : Data) → get_member (codes "resourceVersion") was ≡ Some v → get_member (codes "resourceVersion") (keeping kept was ms) ≡ Some v
+last_kept : (was ms : Members) (v : Data) → get_member (codes "resourceVersion") was ≡ Some v → get_member (codes "resourceVersion") (keeping unchanged_metadata was ms) ≡ Some v
 unfolding first_kept
 last_kept was ms v h =
     let k = codes "resourceVersion" in
     let before = keeping first_kept was ms in
-    ap (λ o. get_member k (as_held k o before)) h ∙ get_member-put k v before
+    ap (λ o. get_member k (as_stored k o before)) h ∙ get_member-put k v before
 
 pub at_the_version : UpdatesAreAtTheVersion
 at_the_version k stored o v h =
     let rv = codes "resourceVersion" in
-    let said = keeping kept (metadata_of stored) (metadata_of o) in (
-      ap (get_member rv) (metadata_of-with said (object (keeping (kept_of k) (members_of stored) (members_of o)))) ∙ last_kept (metadata_of stored) (metadata_of o) v h,
+    let said = keeping unchanged_metadata (metadata_of stored) (metadata_of o) in (
+      ap (get_member rv) (metadata_of-with said (object (keeping (unchanged_members k) (members_of stored) (members_of o)))) ∙ last_kept (metadata_of stored) (metadata_of o) v h,
       ap (get_member rv) (metadata_of-status (status_in k (get (codes "status") o)) stored) ∙ h,
     )

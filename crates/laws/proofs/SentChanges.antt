@@ -11,7 +11,7 @@ use Rattle.definitions.specs.declared.kinds.Kind.{Kind}
 use Rattle.definitions.specs.declared.schemas.Shape.TheVariants.{Object}
 use Rattle.definitions.specs.declared.schemas.Schema.TheVariants.{Root}
 use Rattle.definitions.specs.Kinds.{rank}
-use Rattle.definitions.specs.Events.{Event, event_of, changes_after, gone_at}
+use Rattle.definitions.specs.Events.{Event, event_of, events_after, gone_at}
 use Rattle.definitions.specs.History.{Write, writes, present, up_to, last_of, in_view, seen}
 use Rattle.definitions.specs.Metadata.{at_revision, metadata_of, metadata_text, name, namespace, uid}
 use Rattle.definitions.specs.Keys.{Key}
@@ -126,7 +126,7 @@ stored_joined r [] ws a b = subst (λ n. AreStored n ws) (omega arith) b
 stored_joined r (u ∷ us) ws a b = (a.0, stored_joined (r + 1) us ws a.1 (subst (λ n. AreStored n ws) (omega arith) b))
 
 after_told : (k : Kind) (before ws : List Write) → AreStored 2 before → AreStored (length before + 2) ws → length before + length ws + 1 ≤ 9007199254740991
-    → AllByRecursion (Tells k) (changes_after (whole k) before ws)
+    → AllByRecursion (Tells k) (events_after (whole k) before ws)
 after_told k before [] a b low = tt
 after_told k before (w ∷ ws) a b low =
     let r = length before + 2 in
@@ -134,7 +134,7 @@ after_told k before (w ∷ ws) a b low =
     let place : 2 + length before ≡ length before + 2 = omega arith in
     let further : length before + 2 + 1 ≡ length (before ++ w ∷ []) + 2 = omega (arith, long) in
     let here : AreStored (2 + length before) (w ∷ []) = subst (λ n. AreStored n (w ∷ [])) (sym place) (b.0, tt) in
-    all_told k r w.key (seen (whole k) w.key (last_of None w.key before)) (seen (whole k) w.key w.put) (changes_after (whole k) (before ++ w ∷ []) ws) (omega (arith, low))
+    all_told k r w.key (seen (whole k) w.key (last_of None w.key before)) (seen (whole k) w.key w.put) (events_after (whole k) (before ++ w ∷ []) ws) (omega (arith, low))
     (seen_of k w.key (IsHeld w.key) (last_of None w.key before) (last_held w.key 2 before None tt a)) (seen_of k w.key (IsStored w.key r) w.put b.0)
     (after_told k (before ++ w ∷ []) ws (stored_joined 2 before (w ∷ []) a here) (subst (λ n. AreStored n ws) further b.1) (omega (arith, long, low)))
 

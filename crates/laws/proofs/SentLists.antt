@@ -12,15 +12,15 @@ use Rattle.serde_json.specs.Read.{read}
 use Rattle.serde_json.specs.View.{items_of}
 use Rattle.definitions.specs.declared.kinds.Kind.{Kind}
 use Rattle.definitions.specs.declared.kinds.Kind.TheVariants.{ConfigMap, Pod, ReplicaSet, Deployment}
-use Rattle.definitions.specs.declared.schemas.Member.{Member}
+use Rattle.definitions.specs.declared.schemas.Property.{Property}
 use Rattle.definitions.specs.declared.schemas.Shape.TheVariants.{NameOf, VersionOf, Object as ObjectOf}
 use Rattle.definitions.specs.declared.schemas.Schema.TheVariants.{Root}
 use Rattle.definitions.specs.Kinds.{api_version, kind_text}
-use Rattle.definitions.specs.History.{History, Members, present, up_to, after_all, put_or_remove, in_view, viewed, list}
+use Rattle.definitions.specs.History.{History, Entries, present, up_to, after_all, put_or_remove, in_view, viewed, list}
 use Rattle.definitions.specs.Keys.{Key, key_cmp, is_same_key}
 use Rattle.definitions.specs.Objects.{Object}
 use Rattle.definitions.specs.Reading.{reading, is_body, is_absent, fits, tidied, filled, empty}
-use Rattle.definitions.specs.Schemas.{kept, member_at}
+use Rattle.definitions.specs.Schemas.{with_shape, property_at}
 use Rattle.definitions.specs.Values.{members_of, without, is_null}
 use Rattle.definitions.specs.Verbs.{as_item, list_body}
 use Rattle.controllers.specs.Reflectors.{Shown, shown, shown_read, name_in, all_shown, apart, items_shown, repeats, is_list, revision, list_in, list_of, put_all}
@@ -43,7 +43,7 @@ use Rattle.laws.proofs.Streamed.{put_last, list_ascending}
 -- ---- an item says what the object says
 
 module _ (k : Kind) where
-  is_kind : (s : Data) (m : Member) → m ≡ kept (NameOf k) → (is_null s || fits m.shape s) ≡ true → is_absent m s ≡ false → s ≡ string (kind_text k)
+  is_kind : (s : Data) (m : Property) → m ≡ with_shape (NameOf k) → (is_null s || fits m.shape s) ≡ true → is_absent m s ≡ false → s ≡ string (kind_text k)
   is_kind (string s) m is f n = let g : bytes_eq s (kind_text k) ≡ true = subst (λ x. fits x.shape (string s) ≡ true) is f in ap string ((bytes_eq-Decides s (kind_text k)).0 g)
   is_kind null m is f n = cc
   is_kind (boolean b) m is f n = let g : fits (NameOf k) (boolean b) ≡ true = subst (λ x. fits x.shape (boolean b) ≡ true) is f in cc
@@ -51,7 +51,7 @@ module _ (k : Kind) where
   is_kind (array b) m is f n = let g : fits (NameOf k) (array b) ≡ true = subst (λ x. fits x.shape (array b) ≡ true) is f in cc
   is_kind (object b) m is f n = let g : fits (NameOf k) (object b) ≡ true = subst (λ x. fits x.shape (object b) ≡ true) is f in cc
 
-  is_version : (s : Data) (m : Member) → m ≡ kept (VersionOf k) → (is_null s || fits m.shape s) ≡ true → is_absent m s ≡ false → s ≡ string (api_version k)
+  is_version : (s : Data) (m : Property) → m ≡ with_shape (VersionOf k) → (is_null s || fits m.shape s) ≡ true → is_absent m s ≡ false → s ≡ string (api_version k)
   is_version (string s) m is f n = let g : bytes_eq s (api_version k) ≡ true = subst (λ x. fits x.shape (string s) ≡ true) is f in ap string ((bytes_eq-Decides s (api_version k)).0 g)
   is_version null m is f n = cc
   is_version (boolean b) m is f n = let g : fits (VersionOf k) (boolean b) ≡ true = subst (λ x. fits x.shape (boolean b) ≡ true) is f in cc
@@ -59,13 +59,13 @@ module _ (k : Kind) where
   is_version (array b) m is f n = let g : fits (VersionOf k) (array b) ≡ true = subst (λ x. fits x.shape (array b) ≡ true) is f in cc
   is_version (object b) m is f n = let g : fits (VersionOf k) (object b) ≡ true = subst (λ x. fits x.shape (object b) ≡ true) is f in cc
 
-at_kind : (k : Kind) → member_at (Root k) (codes "kind") ≡ kept (NameOf k)
+at_kind : (k : Kind) → property_at (Root k) (codes "kind") ≡ with_shape (NameOf k)
 at_kind ConfigMap = refl
 at_kind Pod = refl
 at_kind ReplicaSet = refl
 at_kind Deployment = refl
 
-at_version : (k : Kind) → member_at (Root k) (codes "apiVersion") ≡ kept (VersionOf k)
+at_version : (k : Kind) → property_at (Root k) (codes "apiVersion") ≡ with_shape (VersionOf k)
 at_version ConfigMap = refl
 at_version Pod = refl
 at_version ReplicaSet = refl
@@ -79,13 +79,13 @@ kind_there : (k : Kind) (ms : json.Members) → Neat 99 (Root k) ms → Has (cod
 kind_there k ms g h =
     let there = some_there (get_member (codes "kind") ms) h in
     let one = Neat-get 99 (Root k) (codes "kind") ms there.0 there.1 g in
-    there.1 ∙ ap Some (is_kind k there.0 (member_at (Root k) (codes "kind")) (at_kind k) one.0 one.1)
+    there.1 ∙ ap Some (is_kind k there.0 (property_at (Root k) (codes "kind")) (at_kind k) one.0 one.1)
 
 version_there : (k : Kind) (ms : json.Members) → Neat 99 (Root k) ms → Has (codes "apiVersion") ms → get_member (codes "apiVersion") ms ≡ Some (string (api_version k))
 version_there k ms g h =
     let there = some_there (get_member (codes "apiVersion") ms) h in
     let one = Neat-get 99 (Root k) (codes "apiVersion") ms there.0 there.1 g in
-    there.1 ∙ ap Some (is_version k there.0 (member_at (Root k) (codes "apiVersion")) (at_version k) one.0 one.1)
+    there.1 ∙ ap Some (is_version k there.0 (property_at (Root k) (codes "apiVersion")) (at_version k) one.0 one.1)
 
 default_there : (q : List ℕ) (d : Data) (ms : json.Members) → Has q ms → defaulted q d ms ≡ ms
 default_there q d ms h = rw h refl
@@ -154,11 +154,11 @@ item_shown k n d same existing =
 abbrev pub Lists : Kind → Key × Data → Type 0
 Lists k m = (k ≡ m.0.kind) × IsHeld m.0 m.1
 
-view_at : (k : Kind) (b : Bool) (m : Key × Data) (ms : Members) → in_view (whole k) m.0 m.1 ≡ b → IsHeld m.0 m.1 → AllByRecursion (Lists k) ms → AllByRecursion (Lists k) (cond b (m ∷ ms) ms)
+view_at : (k : Kind) (b : Bool) (m : Key × Data) (ms : Entries) → in_view (whole k) m.0 m.1 ≡ b → IsHeld m.0 m.1 → AllByRecursion (Lists k) ms → AllByRecursion (Lists k) (cond b (m ∷ ms) ms)
 view_at k true m ms is h a = ((same_kind k m.0.kind is, h), a)
 view_at k false m ms is h a = a
 
-in_list : (k : Kind) (ms : Members) → Held IsHeld ms → AllByRecursion (Lists k) (viewed (whole k) ms)
+in_list : (k : Kind) (ms : Entries) → Held IsHeld ms → AllByRecursion (Lists k) (viewed (whole k) ms)
 in_list k [] a = tt
 in_list k (m ∷ ms) a = view_at k (in_view (whole k) m.0 m.1) m (viewed (whole k) ms) refl a.0 (in_list k ms a.1)
 
@@ -167,37 +167,37 @@ all_listed h k r reached = in_list k (after_all [] (up_to r h)) (held_all IsHeld
 
 -- ---- the body
 
-all_items : (k : Kind) (ms : Members) → AllByRecursion (Lists k) ms → all_shown k (items_of (map (λ m. as_item m.1) ms)) ≡ Some (objects_in k ms)
+all_items : (k : Kind) (ms : Entries) → AllByRecursion (Lists k) ms → all_shown k (items_of (map (λ m. as_item m.1) ms)) ≡ Some (objects_in k ms)
 all_items k [] a = refl
 all_items k (m ∷ ms) a =
     ap (option_and_then (λ (s : Shown). option_map (λ os. s.object ∷ os) (all_shown k (items_of (map (λ m. as_item m.1) ms))))) (item_shown k m.0 m.1 a.0.0 a.0.1)
     ∙ ap (option_map (λ os. record { kind = k; value = m.1 } ∷ os)) (all_items k ms a.1)
 
-names_in : (k : Kind) (ms : Members) → AllByRecursion (Lists k) ms → map name_in (objects_in k ms) ≡ map (λ m. m.0) ms
+names_in : (k : Kind) (ms : Entries) → AllByRecursion (Lists k) ms → map name_in (objects_in k ms) ≡ map (λ m. m.0) ms
 names_in k [] a = refl
 names_in k (m ∷ ms) a =
     ap (λ n. n ∷ map name_in (objects_in k ms)) (name_is k m.0 a.0.1.0 m.1 a.0.0 a.0.1.1.kept) ∙ ap (λ ns. m.0 ∷ ns) (names_in k ms a.1)
 
-none_named : (n : Key) (ms : Members) → IsAbove key_cmp n ms → list_any (λ m. is_same_key m n) (map (λ m. m.0) ms) ≡ false
+none_named : (n : Key) (ms : Entries) → IsAbove key_cmp n ms → list_any (λ m. is_same_key m n) (map (λ m. m.0) ms) ≡ false
 none_named n [] a = refl
 none_named n (m ∷ ms) a =
     let above : key_cmp m.0 n ≡ Greater = name_cmp_total.antisymm m.0 n ∙ ap ordering_reverse a.0 in
     rw above (none_named n ms a.1)
 
-no_repeats : (ms : Members) → IsAscending key_cmp ms → repeats (map (λ m. m.0) ms) ≡ false
+no_repeats : (ms : Entries) → IsAscending key_cmp ms → repeats (map (λ m. m.0) ms) ≡ false
 no_repeats [] a = refl
 no_repeats (m ∷ ms) a = rw (none_named m.0 ms a.0) (no_repeats ms a.1)
 
 apart_is : (os : List Object) → repeats (map name_in os) ≡ false → apart os ≡ Some os
 apart_is os h = rw h refl
 
-calls_itself : (k : Kind) (r : ℕ) (ms : Members) → is_list k (list_body k r ms) ≡ true
+calls_itself : (k : Kind) (r : ℕ) (ms : Entries) → is_list k (list_body k r ms) ≡ true
 calls_itself ConfigMap r ms = refl
 calls_itself Pod r ms = refl
 calls_itself ReplicaSet r ms = refl
 calls_itself Deployment r ms = refl
 
-list_is : (k : Kind) (r : ℕ) (ms : Members) → AllByRecursion (Lists k) ms → IsAscending key_cmp ms → r ≤ 9007199254740991
+list_is : (k : Kind) (r : ℕ) (ms : Entries) → AllByRecursion (Lists k) ms → IsAscending key_cmp ms → r ≤ 9007199254740991
     → list_in k (list_body k r ms) ≡ Some (record { revision = r; objects = objects_in k ms })
 list_is k r ms a ascending low =
     let says : revision (list_body k r ms) ≡ Some r = revision_is r (omega arith) in
@@ -211,7 +211,7 @@ list_of_is k body d u r = rw (u, r) refl
 
 -- ---- the map that it makes
 
-pub put_all_on : (k : Kind) (ms done : Members) → AllByRecursion (Lists k) ms → IsAscending key_cmp (done ++ ms) → put_all done (objects_in k ms) ≡ done ++ ms
+pub put_all_on : (k : Kind) (ms done : Entries) → AllByRecursion (Lists k) ms → IsAscending key_cmp (done ++ ms) → put_all done (objects_in k ms) ≡ done ++ ms
 put_all_on k [] done a ascending = sym (append-nil done)
 put_all_on k (m ∷ ms) done a ascending =
     ap (λ n. put_all (put_or_remove done n (Some m.1)) (objects_in k ms)) (name_is k m.0 a.0.1.0 m.1 a.0.0 a.0.1.1.kept)
@@ -229,7 +229,7 @@ lists_read h k r body reached text =
 
 -- ---- how deep it nests
 
-items_nest : (k : Kind) (ms : Members) → AllByRecursion (Lists k) ms → items_depth (items_of (map (λ m. as_item m.1) ms)) ≤ 100
+items_nest : (k : Kind) (ms : Entries) → AllByRecursion (Lists k) ms → items_depth (items_of (map (λ m. as_item m.1) ms)) ≤ 100
 items_nest k [] a = omega arith
 items_nest k (m ∷ ms) a =
     let stored = a.0.1.1 in

@@ -12,7 +12,7 @@ use Rattle.definitions.specs.declared.refusals.Field.TheVariants as field
 use Rattle.definitions.specs.declared.refusals.Mismatch.TheVariants as mismatch
 use Rattle.definitions.specs.declared.schemas.Schema.TheVariants.{Metadata}
 use Rattle.definitions.specs.Checks.{create_fault, generate_name, generates, is_generating_byte, is_name_valid, is_generate_name_valid, passes_if_there}
-use Rattle.definitions.specs.Defaults.{whole}
+use Rattle.definitions.specs.Defaults.{unsigned_value}
 use Rattle.definitions.specs.GeneratedNames.{name_from}
 use Rattle.definitions.specs.Kinds.{has_generation}
 use Rattle.definitions.specs.Keys.{Key, is_subdomain}
@@ -118,7 +118,7 @@ met : (b : Bool) (f : Field) (rest : Option Field) → cond b rest (Some f) ≡ 
 met true f rest h = (refl, h)
 met false f rest h = cc
 
-pub created_valid : (kind : Kind) (ns : List ℕ) (o : Data) (ms : history.Members) (r now : ℕ) → create_fault kind (new_name kind ns o ms r).name now (with_first_status kind o) ≡ None → is_subdomain (new_name kind ns o ms r).name ≡ true
+pub created_valid : (kind : Kind) (ns : List ℕ) (o : Data) (ms : history.Entries) (r now : ℕ) → create_fault kind (new_name kind ns o ms r).name now (with_first_status kind o) ≡ None → is_subdomain (new_name kind ns o ms r).name ≡ true
 created_valid kind ns o ms r now none =
     let made = (new_name kind ns o ms r).name in
     let d = with_first_status kind o in
@@ -129,17 +129,17 @@ created_valid kind ns o ms r now none =
     valid_name (is_free kind ns ms) (name o) (generate_name o) (r + 1) d (sym given) (ap (λ n. unwrap_or (option_map is_subdomain n) (is_some (generate_name d))) named ∙ first.0)
     (ap₂ (λ n g. is_some n || passes_if_there (generates made) g) named given ∙ second.0)
 
-pub filled_new : (kind : Kind) (ns : List ℕ) (o : Data) (ms : history.Members) (r now : ℕ) → create_fault kind (new_name kind ns o ms r).name now (with_first_status kind o) ≡ None → IsFilled (new_name kind ns o ms r).name
+pub filled_new : (kind : Kind) (ns : List ℕ) (o : Data) (ms : history.Entries) (r now : ℕ) → create_fault kind (new_name kind ns o ms r).name now (with_first_status kind o) ≡ None → IsFilled (new_name kind ns o ms r).name
 filled_new kind ns o ms r now none = filled_name (new_name kind ns o ms r).name (created_valid kind ns o ms r now none)
 
 one_name : (t : List ℕ) → IsFilled t → One 98 Metadata (codes "name") (string t)
 one_name t h = (refl, h, tt, omega arith, refl)
 
-one_generation : (n : ℕ) → One 98 Metadata (codes "generation") (whole n)
+one_generation : (n : ℕ) → One 98 Metadata (codes "generation") (unsigned_value n)
 one_generation n = (refl, refl, tt, omega arith, refl)
 
-pub neat_generation : (b : Bool) (n : ℕ) (meta : Members) → Neat 98 Metadata meta → Neat 98 Metadata (cond b (put (codes "generation") (whole n) meta) meta)
-neat_generation true n meta m = Neat-put 98 Metadata (codes "generation") (whole n) meta (one_generation n) m
+pub neat_generation : (b : Bool) (n : ℕ) (meta : Members) → Neat 98 Metadata meta → Neat 98 Metadata (cond b (put (codes "generation") (unsigned_value n) meta) meta)
+neat_generation true n meta m = Neat-put 98 Metadata (codes "generation") (unsigned_value n) meta (one_generation n) m
 neat_generation false n meta m = m
 
 filled_uid : (r : ℕ) → IsFilled (uid_text cluster_word r)

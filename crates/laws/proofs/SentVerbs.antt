@@ -19,7 +19,7 @@ use Rattle.definitions.specs.Deletion.{Fate, remove, mark, keep, decided, fate, 
 use Rattle.definitions.specs.Kinds.{has_generation, has_status}
 use Rattle.definitions.specs.Keys.{Key, is_namespace}
 use Rattle.definitions.specs.History as history
-use Rattle.definitions.specs.History.{History, members, found, present}
+use Rattle.definitions.specs.History.{History, entries_at, found, present}
 use Rattle.definitions.specs.Metadata.{is_other, differs, metadata_of, name, namespace, uid, version, at_revision, is_being_deleted}
 use Rattle.definitions.specs.NewObjects.{first_status, new_metadata, with_status}
 use Rattle.definitions.specs.Reading.{reading, is_body}
@@ -38,7 +38,7 @@ use Rattle.laws.proofs.LeftFinalizers.{one_finalizers, texts_held, texts_left}
 use Rattle.laws.proofs.DeletionTimestamps.{marked_fits, room_marked, with_finalizers}
 use Rattle.laws.proofs.NameBytes.{namespace_text, name_text}
 use Rattle.laws.proofs.NeatMembers.{Neat, Neat-put, IsFilled, One}
-use Rattle.definitions.specs.Reached.{IsParsed, IsAsked, IsTime}
+use Rattle.definitions.specs.Reached.{IsParsed, CanBeRead, IsTimestamp}
 use Rattle.laws.proofs.Parsed.{parsed_said, parsed_reading, parsed_merged}
 use Rattle.laws.proofs.ParsedObjects.{meta as meta_of, new_meta, new_members, placed, counted, restated, marked_meta}
 use Rattle.laws.proofs.TextLengths.{put_twice}
@@ -53,7 +53,7 @@ filled_namespace (b ∷ bs) h = filled_long (b ∷ bs) (omega arith)
 
 -- ---- create
 
-by_create : (kind : Kind) (ns : List ℕ) (d : Data) (ms : history.Members) (r : ℕ) (moment : List ℕ) → is_namespace ns ≡ true → IsTime moment → IsParsed d
+by_create : (kind : Kind) (ns : List ℕ) (d : Data) (ms : history.Entries) (r : ℕ) (moment : List ℕ) → is_namespace ns ≡ true → IsTimestamp moment → IsParsed d
     → Stores (r + 1) (create_read kind ns (object_in kind d) ms r moment)
 by_create kind ns d ms r moment space now a =
     of_create (Stores (r + 1)) (λ f. tt) kind ns (object_in kind d) ms r moment
@@ -122,7 +122,7 @@ by_replace k o r s existing w p path was =
     let d = in_place k.kind existing o in
     by_if_same (r + 1) k o existing (replace_with k existing d r) (behind_field (r + 1) k (update_fault k.kind k.name r existing d) (replace_changed k existing d r) (λ _. by_changed k o r s existing w p path was))
 
-by_update : (k : Key) (d : Data) (read : Result Data Part) (ms : history.Members) (r : ℕ) → object_in k.kind d ≡ read → IsParsed d → IfSome (found k ms) (IsHeld k)
+by_update : (k : Key) (d : Data) (read : Result Data Part) (ms : history.Entries) (r : ℕ) → object_in k.kind d ≡ read → IsParsed d → IfSome (found k ms) (IsHeld k)
     → Stores (r + 1) (update_read k read ms r)
 by_update k d (Err p) ms r is a existing = tt
 by_update k d (Ok o) ms r is a existing =
@@ -150,7 +150,7 @@ by_restate k o r s existing w p was =
     (λ _. either (Stores (r + 1)) (says_the_same existing d) (shown existing) _ (λ _. tt)
     (λ _. by_put k (at_revision (r + 1) (metadata_of d) d) r (λ fits low. stored_at k (r + 1) (metadata_of d) d made (neat_metadata k.kind d made) whole (meta_of d whole) says low fits)))
 
-by_status_put : (k : Key) (d : Data) (read : Result Data Part) (ms : history.Members) (r : ℕ) → reading k.kind d ≡ read → IsParsed d → IfSome (found k ms) (IsHeld k)
+by_status_put : (k : Key) (d : Data) (read : Result Data Part) (ms : history.Entries) (r : ℕ) → reading k.kind d ≡ read → IsParsed d → IfSome (found k ms) (IsHeld k)
     → Stores (r + 1) (status_put k read ms r)
 by_status_put k d (Err p) ms r is a existing = tt
 by_status_put k d (Ok o) ms r is a existing =
@@ -160,7 +160,7 @@ by_status_put k d (Ok o) ms r is a existing =
     let there_is = subst (λ x. IfSome x (IsHeld k)) at existing in
     by_if_same (r + 1) k o was (restate k was (with_status_in k.kind was o) r) (by_restate k o r there_is.0 was (whole_read k.kind d o is) (parsed_reading k.kind d o is a) there_is.1)))
 
-by_status : (k : Key) (d : Data) (read : Result Data Part) (ms : history.Members) (r : ℕ) → reading k.kind d ≡ read → IsParsed d → IfSome (found k ms) (IsHeld k)
+by_status : (k : Key) (d : Data) (read : Result Data Part) (ms : history.Entries) (r : ℕ) → reading k.kind d ≡ read → IsParsed d → IfSome (found k ms) (IsHeld k)
     → Stores (r + 1) (status_read k read ms r)
 by_status k d read ms r is a existing = behind (r + 1) (not (has_status k.kind)) (not_found k) (status_put k read ms r) (λ _. by_status_put k d read ms r is a existing)
 
@@ -172,7 +172,7 @@ by_patched k d (Ok o) r s existing is a was =
     behind (r + 1) (not (names_path k o)) (bad_request part.Object) (replace k o r existing)
     (λ path. by_replace k o r s existing (whole_said k.kind (merged existing d) o is) (parsed_said k.kind (merged existing d) o is (parsed_merged existing d was.parsed a)) path was)
 
-by_patch : (k : Key) (d : Data) (ms : history.Members) (r : ℕ) → IsParsed d → IfSome (found k ms) (IsHeld k) → Stores (r + 1) (patch k d ms r)
+by_patch : (k : Key) (d : Data) (ms : history.Entries) (r : ℕ) → IsParsed d → IfSome (found k ms) (IsHeld k) → Stores (r + 1) (patch k d ms r)
 by_patch k d ms r a existing =
     behind (r + 1) (not (is_body d)) (bad_request part.Body) _
     (λ _. there (Stores (r + 1)) (λ f. tt) k (λ was. patch_read k r was (object_in k.kind (merged was d))) (found k ms)
@@ -212,7 +212,7 @@ marked_at k r moment left existing =
     let now = put (codes "resourceVersion") (string (decimal r)) meta in
     ap (λ m. at_revision r m (being_deleted k moment left existing)) (metadata_of-with meta existing) ∙ ap object (put_twice (codes "metadata") (object meta) (object now) (members_of existing))
 
-by_mark : (k : Key) (o : Option Policy) (r s : ℕ) (moment : List ℕ) (existing : Data) → IsTime moment → IsStored k s existing → (items_len (left_by o (finalizers existing)) == 0) ≡ false → r ≤ 9007199254740991
+by_mark : (k : Key) (o : Option Policy) (r s : ℕ) (moment : List ℕ) (existing : Data) → IsTimestamp moment → IsStored k s existing → (items_len (left_by o (finalizers existing)) == 0) ≡ false → r ≤ 9007199254740991
     → IsStored k r (at_revision r (metadata_of (being_deleted k.kind moment (left_by o (finalizers existing)) existing)) (being_deleted k.kind moment (left_by o (finalizers existing)) existing))
 by_mark k o r s moment existing now was some low =
     let left = left_by o (finalizers existing) in
@@ -241,7 +241,7 @@ by_decided k code existing r true changed f each = tt
 by_decided k code existing r false true f each = tt
 by_decided k code existing r false false f each = each
 
-by_delete : (k : Key) (o : Options) (ms : history.Members) (r : ℕ) (moment : List ℕ) → IsTime moment → IfSome (found k ms) (IsHeld k) → Stores (r + 1) (delete k o ms r moment)
+by_delete : (k : Key) (o : Options) (ms : history.Entries) (r : ℕ) (moment : List ℕ) → IsTimestamp moment → IfSome (found k ms) (IsHeld k) → Stores (r + 1) (delete k o ms r moment)
 by_delete k o ms r moment now existing =
     there (Stores (r + 1)) (λ f. tt) k (λ was. by_decision k (kept_code o.policy) was r (decided k.kind o moment was)) (found k ms)
     (λ was at.
@@ -254,11 +254,11 @@ by_delete k o ms r moment now existing =
 -- ---- the verbs
 
 -- what is written is stored as it should be, where what is there is
-pub stores : (q : Request) (h : History) (moment : List ℕ) → IsAsked q → IsTime moment → ((k : Key) → IfSome (found k (members h (present h))) (IsHeld k)) → Stores (present h + 1) (accept q h moment)
-stores (get_object k) h moment asked now existing = there (Stores (present h + 1)) (λ f. tt) k shown (found k (members h (present h))) (λ d is. tt)
+pub stores : (q : Request) (h : History) (moment : List ℕ) → CanBeRead q → IsTimestamp moment → ((k : Key) → IfSome (found k (entries_at h (present h))) (IsHeld k)) → Stores (present h + 1) (accept q h moment)
+stores (get_object k) h moment asked now existing = there (Stores (present h + 1)) (λ f. tt) k shown (found k (entries_at h (present h))) (λ d is. tt)
 stores (list_objects v) h moment asked now existing = tt
-stores (create_object kind ns d) h moment asked now existing = by_create kind ns d (members h (present h)) (present h) moment asked.0 now asked.1
-stores (update_object k d) h moment asked now existing = by_update k d (object_in k.kind d) (members h (present h)) (present h) refl asked (existing k)
-stores (update_status k d) h moment asked now existing = by_status k d (reading k.kind d) (members h (present h)) (present h) refl asked (existing k)
-stores (patch_object k d) h moment asked now existing = by_patch k d (members h (present h)) (present h) asked (existing k)
-stores (delete_object k o) h moment asked now existing = by_delete k o (members h (present h)) (present h) moment now (existing k)
+stores (create_object kind ns d) h moment asked now existing = by_create kind ns d (entries_at h (present h)) (present h) moment asked.0 now asked.1
+stores (update_object k d) h moment asked now existing = by_update k d (object_in k.kind d) (entries_at h (present h)) (present h) refl asked (existing k)
+stores (update_status k d) h moment asked now existing = by_status k d (reading k.kind d) (entries_at h (present h)) (present h) refl asked (existing k)
+stores (patch_object k d) h moment asked now existing = by_patch k d (entries_at h (present h)) (present h) asked (existing k)
+stores (delete_object k o) h moment asked now existing = by_delete k o (entries_at h (present h)) (present h) moment now (existing k)

@@ -4,7 +4,7 @@ use Rattle.std.specs.Prelude.{◌↔◌, nat_lt, Ok, IsOk, None}
 use Rattle.std.proofs.lemmas.List.{take-append-drop, take_all}
 use Rattle.std.proofs.lemmas.Bool.{le-ltb, ltb-false}
 use Rattle.definitions.specs.History.{History, compaction, View, writes, present, up_to, last_of, viewed, after_all, list}
-use Rattle.definitions.specs.Events.{events, changes_after}
+use Rattle.definitions.specs.Events.{events, events_after}
 use Rattle.laws.specs.WindowLaws.{WatchesAreServed, ListsAreUndone, RevisionsAreServed, CompactionsChangeNothing, WideWindowsServeAll}
 use Rattle.definitions.specs.Windows.{changes_after as kept_after, changes_of, last_n, last_revision, all_but, floor, within}
 use Rattle.server_state.specs.Recorded.{above, events_recorded, undone, Window, IsWindowAfter}
@@ -34,7 +34,7 @@ watch_served s h v a n f is =
     ap (λ z. within z (present h) a (take n (events_recorded v (above a s.kept)))) (floor_is s h v f is)
     ∙ within_same (floor v.kind s.size h) (present h) a (take n (events_recorded v (above a s.kept))) (take n (events h v a (present h)))
     (λ l m. ap (λ z. take n (events_recorded v z)) (held_above s h v a f is l m) ∙ ap (take n) (changes_of_kept v (drop (a - 1) (writes h)) (up_to a h))
-    ∙ ap (λ ws. take n (changes_after v (up_to a h) (drop (a - 1) ws))) (sym (all_now h)))
+    ∙ ap (λ ws. take n (events_after v (up_to a h) (drop (a - 1) ws))) (sym (all_now h)))
 
 pub list_undone : ListsAreUndone
 list_undone s h v r f is =

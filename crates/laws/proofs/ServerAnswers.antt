@@ -3,7 +3,7 @@ use Rattle.std.proofs.Common.{◌≡◌, ◌≤◌, ℕ, ◌+◌, Bool, true, fa
 use Rattle.std.specs.Prelude.{nat_lt, ◌↔◌, Option, Some, None, Result, Ok, Err, IsOk}
 use Rattle.std.specs.Result.{result_map_both}
 use Rattle.std.proofs.lemmas.Bool.{le-ltb, ltb-false}
-use Rattle.definitions.specs.History.{History, View, Members, present, viewed, list}
+use Rattle.definitions.specs.History.{History, View, Entries, present, viewed, list}
 use Rattle.definitions.specs.Refusals.{Refusal}
 use Rattle.server_state.specs.Recorded.{recorded_list, recorded_since}
 use Rattle.definitions.specs.Windows.{list_within, since}
@@ -17,7 +17,7 @@ use Rattle.definitions.specs.Streams.{added_lines}
 use Rattle.laws.specs.ServerLaws.{ServersList, ServersWatch, ServersAnswerLists, ServersShow, ListsAreServed}
 use Rattle.laws.proofs.ServedWindows.{watch_served, list_undone, revisions_served}
 
-earlier_same : (at : At) (now : ℕ) (ms : Members) (f g : ℕ → Result Members Refusal) → ((r : ℕ) → f r ≡ g r) → listed_at now ms f at ≡ listed_at now ms g at
+earlier_same : (at : At) (now : ℕ) (ms : Entries) (f g : ℕ → Result Entries Refusal) → ((r : ℕ) → f r ≡ g r) → listed_at now ms f at ≡ listed_at now ms g at
 earlier_same Present now ms f g same = refl
 earlier_same (NotOlder r) now ms f g same = refl
 earlier_same (Exact r) now ms f g same = ap (result_map_both (listed_as r) (λ e. e)) (same r)

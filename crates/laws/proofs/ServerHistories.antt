@@ -5,7 +5,7 @@ use Rattle.std.proofs.lemmas.Bool.{ltb-false}
 use Rattle.serde_json.specs.Data.{Data}
 use Rattle.definitions.specs.declared.kinds.Kind.{Kind}
 use Rattle.definitions.specs.Kinds.{rank}
-use Rattle.definitions.specs.History.{History, Write, write, compaction, Members, writes, present, members, found, after, after_all}
+use Rattle.definitions.specs.History.{History, Write, write, compaction, Entries, writes, present, entries_at, found, after, after_all}
 use Rattle.laws.specs.Happening.{CanHappen}
 use Rattle.definitions.specs.Refusals.{too_new}
 use Rattle.definitions.specs.Verbs.{accept_at, accept, write_of, with_write}
@@ -22,13 +22,13 @@ use Rattle.laws.proofs.FollowedWindows.{follows_new, follows_recorded, follows_s
 
 -- ---- what is there now
 
-members_now : (h : History) → members h (present h) ≡ after_all [] (writes h)
+members_now : (h : History) → entries_at h (present h) ≡ after_all [] (writes h)
 members_now h = ap (after_all []) (whole (present h - 1) (writes h) (omega arith))
 
-abbrev snapshot_with : Members → ℕ → Snapshot
+abbrev snapshot_with : Entries → ℕ → Snapshot
 snapshot_with ms r = record { members = ms; revision = r }
 
-after_all-last : (ms : Members) (ws : List Write) (w : Write) → after_all ms (ws ++ w ∷ []) ≡ after (after_all ms ws) w
+after_all-last : (ms : Entries) (ws : List Write) (w : Write) → after_all ms (ws ++ w ∷ []) ≡ after (after_all ms ws) w
 after_all-last ms [] w = refl
 after_all-last ms (u ∷ ws) w = after_all-last (after ms u) ws w
 

@@ -3,10 +3,10 @@ use Rattle.std.proofs.Common.{◌≡◌, ◌≤◌, ℕ, List, Bool, true, false
 use Rattle.serde_json.specs.Data.{Data, null, boolean, number, string, array, object, Members, put}
 use Rattle.serde_json.specs.Find.{get_member, as_str}
 use Rattle.definitions.specs.declared.kinds.Kind.{Kind}
-use Rattle.definitions.specs.Defaults.{whole}
+use Rattle.definitions.specs.Defaults.{unsigned_value}
 use Rattle.definitions.specs.Metadata.{metadata, metadata_of, metadata_text, name, namespace, uid, version, at_revision}
 use Rattle.definitions.specs.NewObjects.{created, first_status, new_metadata, with_generation, with_status}
-use Rattle.definitions.specs.Replacements.{as_held, generation, in_place, is_new_generation, keeping, kept, kept_of, next_generation, updated, with_next_generation}
+use Rattle.definitions.specs.Replacements.{as_stored, generation, in_place, is_new_generation, keeping, unchanged_metadata, unchanged_members, next_generation, updated, with_next_generation}
 use Rattle.definitions.specs.Uids.{uid_text, cluster_word}
 use Rattle.definitions.specs.Values.{members_of, without}
 use Rattle.serde_json.proofs.Views.{get_member-put, get_member-put_other}
@@ -60,21 +60,21 @@ uid-created k r ns named moment o =
 
 -- ---- of the stored object
 
-pub text-as_held_other : (q k : List ℕ) (o : Option Data) (ms : Members) → bytes_eq q k ≡ false → text_in q (as_held k o ms) ≡ text_in q ms
+pub text-as_held_other : (q k : List ℕ) (o : Option Data) (ms : Members) → bytes_eq q k ≡ false → text_in q (as_stored k o ms) ≡ text_in q ms
 text-as_held_other q k None ms other = text_in-without_other q k ms other
 text-as_held_other q k (Some d) ms other = text_in-put_other q k d ms other
 
-pub member-as_held_other : (q k : List ℕ) (o : Option Data) (ms : Members) → bytes_eq q k ≡ false → get_member q (as_held k o ms) ≡ get_member q ms
+pub member-as_held_other : (q k : List ℕ) (o : Option Data) (ms : Members) → bytes_eq q k ≡ false → get_member q (as_stored k o ms) ≡ get_member q ms
 member-as_held_other q k None ms other = get_member-without_other q k ms other
 member-as_held_other q k (Some d) ms other = get_member-put_other q k d ms (apart q k other)
 
 -- the stored object's member is there after
-pub held_member : (k : List ℕ) (o : Option Data) (ms : Members) → is_some o ≡ true → get_member k (as_held k o ms) ≡ o
+pub held_member : (k : List ℕ) (o : Option Data) (ms : Members) → is_some o ≡ true → get_member k (as_stored k o ms) ≡ o
 held_member k None ms h = cc
 held_member k (Some d) ms h = get_member-put k d ms
 
 -- the stored object's member is there after, if it is a text
-pub held_text : (k : List ℕ) (o : Option Data) (ms : Members) → IfSome (option_and_then as_str o) (λ t. text_in k (as_held k o ms) ≡ Some t)
+pub held_text : (k : List ℕ) (o : Option Data) (ms : Members) → IfSome (option_and_then as_str o) (λ t. text_in k (as_stored k o ms) ≡ Some t)
 held_text k None ms = tt
 held_text k (Some null) ms = tt
 held_text k (Some (boolean b)) ms = tt
@@ -94,25 +94,25 @@ module _ (k : Kind) (existing o : Data) where
   from = metadata_of existing
 
   abbrev m1 : Members
-  m1 = as_held (codes "namespace") (get_member (codes "namespace") from) (metadata_of o)
+  m1 = as_stored (codes "namespace") (get_member (codes "namespace") from) (metadata_of o)
 
   abbrev m2 : Members
-  m2 = as_held (codes "uid") (get_member (codes "uid") from) m1
+  m2 = as_stored (codes "uid") (get_member (codes "uid") from) m1
 
   abbrev m3 : Members
-  m3 = as_held (codes "creationTimestamp") (get_member (codes "creationTimestamp") from) m2
+  m3 = as_stored (codes "creationTimestamp") (get_member (codes "creationTimestamp") from) m2
 
   abbrev m4 : Members
-  m4 = as_held (codes "deletionTimestamp") (get_member (codes "deletionTimestamp") from) m3
+  m4 = as_stored (codes "deletionTimestamp") (get_member (codes "deletionTimestamp") from) m3
 
   abbrev m5 : Members
-  m5 = as_held (codes "generation") (get_member (codes "generation") from) m4
+  m5 = as_stored (codes "generation") (get_member (codes "generation") from) m4
 
   -- what stands after the time of creation leaves a text as it is
   after_creation : (q : List ℕ) → bytes_eq q (codes "resourceVersion") ≡ false → bytes_eq q (codes "generation") ≡ false → bytes_eq q (codes "deletionTimestamp") ≡ false
       → metadata_text q (in_place k existing o) ≡ text_in q m3
   after_creation q a b c =
-      metadata_text-with q (keeping kept from (metadata_of o)) (object (keeping (kept_of k) (members_of existing) (members_of o)))
+      metadata_text-with q (keeping unchanged_metadata from (metadata_of o)) (object (keeping (unchanged_members k) (members_of existing) (members_of o)))
       ∙ text-as_held_other q (codes "resourceVersion") (get_member (codes "resourceVersion") from) m5 a
       ∙ text-as_held_other q (codes "generation") (get_member (codes "generation") from) m4 b
       ∙ text-as_held_other q (codes "deletionTimestamp") (get_member (codes "deletionTimestamp") from) m3 c
@@ -146,7 +146,7 @@ module _ (k : Kind) (existing o : Data) where
   pub deletion-in_place : IfSome (metadata_text (codes "deletionTimestamp") existing) (λ t. metadata_text (codes "deletionTimestamp") (in_place k existing o) ≡ Some t)
   deletion-in_place =
       moved (metadata_text (codes "deletionTimestamp") existing) (metadata_text (codes "deletionTimestamp") (in_place k existing o)) (text_in (codes "deletionTimestamp") m4)
-      (metadata_text-with (codes "deletionTimestamp") (keeping kept from (metadata_of o)) (object (keeping (kept_of k) (members_of existing) (members_of o)))
+      (metadata_text-with (codes "deletionTimestamp") (keeping unchanged_metadata from (metadata_of o)) (object (keeping (unchanged_members k) (members_of existing) (members_of o)))
       ∙ text-as_held_other (codes "deletionTimestamp") (codes "resourceVersion") (get_member (codes "resourceVersion") from) m5 refl
       ∙ text-as_held_other (codes "deletionTimestamp") (codes "generation") (get_member (codes "generation") from) m4 refl)
       (held_text (codes "deletionTimestamp") (get_member (codes "deletionTimestamp") from) m3)
@@ -154,13 +154,13 @@ module _ (k : Kind) (existing o : Data) where
   -- what was there as the generation is there after
   pub generation-in_place : is_some (metadata (codes "generation") existing) ≡ true → metadata (codes "generation") (in_place k existing o) ≡ metadata (codes "generation") existing
   generation-in_place there =
-      ap (get_member (codes "generation")) (metadata_of-with (keeping kept from (metadata_of o)) (object (keeping (kept_of k) (members_of existing) (members_of o))))
+      ap (get_member (codes "generation")) (metadata_of-with (keeping unchanged_metadata from (metadata_of o)) (object (keeping (unchanged_members k) (members_of existing) (members_of o))))
       ∙ member-as_held_other (codes "generation") (codes "resourceVersion") (get_member (codes "resourceVersion") from) m5 refl ∙ held_member (codes "generation") (get_member (codes "generation") from) m4 there
 
 -- the next generation leaves a text as it is
 pub text-with_next_generation : (q : List ℕ) (is_new : Bool) (existing : Data) (meta : Members) → bytes_eq q (codes "generation") ≡ false
     → text_in q (with_next_generation is_new existing meta) ≡ text_in q meta
-text-with_next_generation q true existing meta other = text_in-put_other q (codes "generation") (whole (next_generation (generation existing))) meta other
+text-with_next_generation q true existing meta other = text_in-put_other q (codes "generation") (unsigned_value (next_generation (generation existing))) meta other
 text-with_next_generation q false existing meta other = refl
 
 -- a text that an update leaves as its object has it

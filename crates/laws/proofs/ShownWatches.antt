@@ -7,7 +7,7 @@ use Rattle.definitions.specs.Events.{Event, events}
 use Rattle.definitions.specs.History.{History, View, present}
 use Rattle.definitions.specs.Refusals.{Refusal}
 use Rattle.laws.specs.SentLaws.{WatchesAreStreams}
-use Rattle.definitions.specs.Streams.{Line, event, Goes, IsStream}
+use Rattle.definitions.specs.Streams.{Line, event, AreEventsWithBookmarks, IsStream}
 use Rattle.definitions.specs.Versions.{Watched, watched, watched_from}
 use Rattle.definitions.specs.WatchReplies.{lines_from, told_lines}
 use Rattle.laws.specs.WatchLaws.{AreBetween}
@@ -30,7 +30,7 @@ all_stand size h v a w is =
     let few = few_between (events h v a (present h)) a (present h) given.1 (lie_between h v a (present h)) in
     ap (λ z. z.stands) (sym given.2) ∙ stands_there (present h) a (present h) (events h v a (present h)) (omega (arith, few))
 
-goes_alone : (at b : ℕ) (cs : List Event) → Goes at b cs (map event cs)
+goes_alone : (at b : ℕ) (cs : List Event) → AreEventsWithBookmarks at b cs (map event cs)
 goes_alone at b [] = tt
 goes_alone at b (c ∷ cs) = (refl, goes_alone c.revision b cs)
 
@@ -39,7 +39,7 @@ lines_told true size h v a w is = subst (λ b. IsStream h v a b (lines_from a w)
 lines_told false size h v a w is =
     let s = (given_stands size h v a (present h) w is).3 in
     let same : events h v a (present h) ≡ w.events = ap (λ b. events h v a b) (sym (all_stand size h v a w is)) ∙ s.3 in
-    subst (λ cs. Goes a (present h) cs (map event w.events)) (sym same) (goes_alone a (present h) w.events)
+    subst (λ cs. AreEventsWithBookmarks a (present h) cs (map event w.events)) (sym same) (goes_alone a (present h) w.events)
 
 shown_at : (r : Result Watched Refusal) (bookmarks : Bool) (size : ℕ) (h : History) (v : View) (a : ℕ) (ls : List Line) → watched_from size h v a (present h) ≡ r
     → result_map_both (told_lines bookmarks a) (λ f. f) r ≡ Ok ls → (a ≤ present h) × IsStream h v a (present h) ls

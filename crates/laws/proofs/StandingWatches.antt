@@ -6,8 +6,8 @@ use Rattle.std.proofs.lemmas.Bool.{ltb-false, ltb-true, le-ltb, leb-true, leb-fa
 use Rattle.std.proofs.lemmas.List.{take-append-drop, take-append-le, take-take, take_all, length-take}
 use Rattle.std.proofs.lemmas.List.Elements.{filter-append}
 use Rattle.definitions.specs.History.{History, View, writes, present, up_to, list}
-use Rattle.definitions.specs.Events.{Event, events, changes_after, applied}
-use Rattle.definitions.specs.Streams.{Line, event, bookmark, Goes, IsStream}
+use Rattle.definitions.specs.Events.{Event, events, events_after, applied}
+use Rattle.definitions.specs.Streams.{Line, event, bookmark, AreEventsWithBookmarks, IsStream}
 use Rattle.laws.specs.WatchLaws.{AreBetween}
 use Rattle.definitions.specs.Windows.{floor, within}
 use Rattle.definitions.specs.Versions.{Watched, last_change, watched, watched_from}
@@ -97,17 +97,17 @@ given_at false false floor now a f cs w l m is = (ltb-false a floor l, ltb-false
 
 -- ---- its lines
 
-bookmark_goes : (c : Bool) (at b : ℕ) → nat_lt at b ≡ c → Goes at b [] (cond c (bookmark b ∷ []) [])
+bookmark_goes : (c : Bool) (at b : ℕ) → nat_lt at b ≡ c → AreEventsWithBookmarks at b [] (cond c (bookmark b ∷ []) [])
 bookmark_goes true at b l = let below = ltb-true at b l in (omega (arith, below), omega arith, tt)
 bookmark_goes false at b l = tt
 
-lines_go : (cs : List Event) (a b : ℕ) (ls : List Line) → Goes (last_change a cs) b [] ls → Goes a b cs (map event cs ++ ls)
+lines_go : (cs : List Event) (a b : ℕ) (ls : List Line) → AreEventsWithBookmarks (last_change a cs) b [] ls → AreEventsWithBookmarks a b cs (map event cs ++ ls)
 lines_go [] a b ls g = g
 lines_go (c ∷ cs) a b ls g = (refl, lines_go cs c.revision b ls g)
 
 pub lines_stream : (h : History) (v : View) (a : ℕ) (w : Watched) → Stands h v a w → IsStream h v a w.stands (lines_from a w)
 lines_stream h v a w s =
-    subst (λ cs. Goes a w.stands cs (lines_from a w)) (sym s.3)
+    subst (λ cs. AreEventsWithBookmarks a w.stands cs (lines_from a w)) (sym s.3)
     (lines_go w.events a w.stands (cond (nat_lt (last_change a w.events) w.stands) (bookmark w.stands ∷ []) []) (bookmark_goes (nat_lt (last_change a w.events) w.stands) (last_change a w.events) w.stands refl))
 
 -- a watch that is given something stands
@@ -138,7 +138,7 @@ writes_past : (h more : History) (r : ℕ) → r ≤ present h → up_to r (h ++
 writes_past h more r le = ap (take (r - 1)) (writes-append h more) ∙ take-append-le (r - 1) (writes h) (writes more) (omega arith)
 
 pub changes_past : (h more : History) (v : View) (a b : ℕ) → a ≤ b → b ≤ present h → events (h ++ more) v a b ≡ events h v a b
-changes_past h more v a b le lt = ap₂ (λ before ws. changes_after v before (drop (a - 1) ws)) (writes_past h more a (omega (arith, le, lt))) (writes_past h more b lt)
+changes_past h more v a b le lt = ap₂ (λ before ws. events_after v before (drop (a - 1) ws)) (writes_past h more a (omega (arith, le, lt))) (writes_past h more b lt)
 
 pub watches_go_on : WatchesGoOn
 watches_go_on size h more v a n b w is le =

@@ -2,7 +2,7 @@
 use Rattle.std.proofs.Common.{◌≡◌, ◌+◌, ◌-◌, ℕ, List, [], ◌∷◌, ◌++◌, length, drop, IfSome, Option, Some, None, decimal, sym, subst, arith}
 use Rattle.std.proofs.lemmas.List.{take-append-drop}
 use Rattle.serde_json.specs.Data.{Data}
-use Rattle.definitions.specs.History.{History, Write, write, writes, last_of, members, found, present, up_to}
+use Rattle.definitions.specs.History.{History, Write, write, writes, last_of, entries_at, found, present, up_to}
 use Rattle.definitions.specs.Metadata.{version}
 use Rattle.definitions.specs.Keys.{Key}
 use Rattle.definitions.specs.Reached.{IsReached}
@@ -55,7 +55,7 @@ held_puts r (w ∷ ws) a = (some_held w.key r w.put a.0, held_puts (r + 1) ws a.
 pub last_held : (k : Key) (r : ℕ) (ws : List Write) (before : Option Data) → IfSome before (IsHeld k) → AreStored r ws → IfSome (last_of before k ws) (IsHeld k)
 last_held k r ws before h a = last_put IsHeld k ws before h (held_puts r ws a)
 
-pub found_held : (h : History) (r : ℕ) (k : Key) → AreStored 2 (writes h) → IfSome (found k (members h r)) (IsHeld k)
+pub found_held : (h : History) (r : ℕ) (k : Key) → AreStored 2 (writes h) → IfSome (found k (entries_at h r)) (IsHeld k)
 found_held h r k a = subst (λ o. IfSome o (IsHeld k)) (sym (found-after_all k [] (up_to r h) tt)) (last_held k 2 (up_to r h) None tt (AreStored-up_to h r a))
 
 pub all_stored : (h : History) → IsReached h → AreStored 2 (writes h)

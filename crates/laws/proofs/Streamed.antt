@@ -4,14 +4,14 @@ use Rattle.std.specs.Ordering.{ordering_reverse}
 use Rattle.std.specs.BTreeMap.{insert_entry}
 use Rattle.serde_json.specs.Data.{Data}
 use Rattle.definitions.specs.Keys.{Key, key_cmp}
-use Rattle.definitions.specs.History.{History, View, Members, up_to, in_view, after_all, list}
+use Rattle.definitions.specs.History.{History, View, Entries, up_to, in_view, after_all, list}
 use Rattle.definitions.proofs.PutLaws.{name_cmp_total, IsAbove, IsAscending, IsAscending-after_all, IsAscending-filter}
 use Rattle.definitions.specs.Events.{Event, events, applied}
-use Rattle.definitions.specs.Streams.{Line, event, bookmark, initial, initial_end, Goes, IsStream, IsInitialStream, apply_line, applied_lines}
+use Rattle.definitions.specs.Streams.{Line, event, bookmark, initial, initial_end, AreEventsWithBookmarks, IsStream, IsInitialStream, apply_line, applied_lines}
 use Rattle.laws.proofs.AppliedEvents.{list_applied}
 
 -- the changes among the lines are the changes
-goes_applied : (ls : List Line) (at b : ℕ) (cs : List Event) (ms : Members) → Goes at b cs ls → applied_lines ms ls ≡ applied ms cs
+goes_applied : (ls : List Line) (at b : ℕ) (cs : List Event) (ms : Entries) → AreEventsWithBookmarks at b cs ls → applied_lines ms ls ≡ applied ms cs
 goes_applied [] at b [] ms h = refl
 goes_applied [] at b (c ∷ cs) ms h = absurd h
 goes_applied (event d ∷ ls) at b [] ms h = absurd h
@@ -28,17 +28,17 @@ stream_applied h v a b ls le s = goes_applied ls a b (events h v a b) (list h v 
 
 -- ---- entries that go in by rising key
 
-in_middle : (j : Key) (es : Members) (e : Key × Data) (more : Members) → IsAbove key_cmp j (es ++ e ∷ more) → key_cmp j e.0 ≡ Less
+in_middle : (j : Key) (es : Entries) (e : Key × Data) (more : Entries) → IsAbove key_cmp j (es ++ e ∷ more) → key_cmp j e.0 ≡ Less
 in_middle j [] e more h = h.0
 in_middle j (f ∷ es) e more h = in_middle j es e more h.1
 
-pub put_last : (es : Members) (e : Key × Data) (more : Members) → IsAscending key_cmp (es ++ e ∷ more) → insert_entry key_cmp es e.0 e.1 ≡ es ++ e ∷ []
+pub put_last : (es : Entries) (e : Key × Data) (more : Entries) → IsAscending key_cmp (es ++ e ∷ more) → insert_entry key_cmp es e.0 e.1 ≡ es ++ e ∷ []
 put_last [] e more a = refl
 put_last (f ∷ es) e more a =
     let above : key_cmp e.0 f.0 ≡ Greater = name_cmp_total.antisymm e.0 f.0 ∙ ap ordering_reverse (in_middle f.0 es e more a.0) in
     rw above (ap (λ z. f ∷ z) (put_last es e more a.1))
 
-pub all_put : (ms es : Members) (ls : List Line) → IsAscending key_cmp (es ++ ms) → applied_lines es (map (λ m. initial m.0 m.1) ms ++ ls) ≡ applied_lines (es ++ ms) ls
+pub all_put : (ms es : Entries) (ls : List Line) → IsAscending key_cmp (es ++ ms) → applied_lines es (map (λ m. initial m.0 m.1) ms ++ ls) ≡ applied_lines (es ++ ms) ls
 all_put [] es ls a = ap (λ z. applied_lines z ls) (sym (append-nil es))
 all_put (e ∷ ms) es ls a =
     ap (λ z. applied_lines z (map (λ m. initial m.0 m.1) ms ++ ls)) (put_last es e ms a) ∙ all_put ms (es ++ e ∷ []) ls (subst (IsAscending key_cmp) (sym (append_assoc es (e ∷ []) ms)) a)

@@ -3,7 +3,7 @@ use Rattle.std.proofs.Common.{◌≡◌, ◌≤◌, ◌<◌, ◌+◌, ◌-◌, �
 use Rattle.std.proofs.lemmas.Bool.{leb-true, leb-false}
 use Rattle.std.proofs.lemmas.List.{take-append-le}
 use Rattle.serde_json.specs.Data.{Data}
-use Rattle.definitions.specs.History.{History, Write, write, writes, present, last_of, state, members}
+use Rattle.definitions.specs.History.{History, Write, write, writes, present, last_of, state, entries_at}
 use Rattle.laws.specs.HistoryLaws.{OfStored, KeepsText}
 use Rattle.definitions.specs.Metadata.{metadata_text, uid}
 use Rattle.definitions.specs.Keys.{Key, is_same_key}
@@ -60,7 +60,7 @@ origin q h moment =
     let r = present h + 1 in
     of_accept (λ o. OfStored o (Origin h)) (λ f. tt) (λ code body. tt) q h moment
     (λ kind ns d o read valid fits free room.
-    inl (uid-created kind r ns (new_name kind ns o (members h (present h)) (present h)).name moment o, sym (found-state h (new_name kind ns o (members h (present h)) (present h))) ∙ none_from _ free))
+    inl (uid-created kind r ns (new_name kind ns o (entries_at h (present h)) (present h)).name moment o, sym (found-state h (new_name kind ns o (entries_at h (present h)) (present h))) ∙ none_from _ free))
     (λ k o was at valid fits low. inr (was, sym (found-state h k) ∙ at))
     (λ k o was at free low. tt)
     (λ k o was at fits low. inr (was, sym (found-state h k) ∙ at))

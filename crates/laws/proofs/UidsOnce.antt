@@ -3,7 +3,7 @@ use Rattle.std.proofs.Common.{◌≡◌, ◌≤◌, ◌+◌, ℕ, List, [], ◌�
 use Rattle.serde_json.specs.Data.{Data}
 use Rattle.definitions.specs.Checks.{finalizers}
 use Rattle.definitions.specs.Deletion.{left_by, being_deleted}
-use Rattle.definitions.specs.History.{History, Write, writes, found, members, present}
+use Rattle.definitions.specs.History.{History, Write, writes, found, entries_at, present}
 use Rattle.laws.specs.HistoryLaws.{OfStored, KeepsText}
 use Rattle.laws.specs.LifecycleLaws.{NoneHas, NewUidsAreUnused}
 use Rattle.definitions.specs.Reached.{IsReached}
@@ -41,7 +41,7 @@ later_all n m [] le b = tt
 later_all n m (w ∷ ws) le b = (later_one n m w.put le b.0, later_all n m ws le b.1)
 
 -- what is there was born
-found_born : (h : History) (k : Key) (d : Data) → AreBorn (present h) (writes h) → found k (members h (present h)) ≡ Some d → IsBorn (present h) d
+found_born : (h : History) (k : Key) (d : Data) → AreBorn (present h) (writes h) → found k (entries_at h (present h)) ≡ Some d → IsBorn (present h) d
 found_born h k d b at = there_put (IsBornAt (present h)) h (present h) k d b (sym (found-state h k) ∙ at)
 
 -- who keeps the uid stays born
@@ -52,7 +52,7 @@ born_by : (q : Request) (h : History) (moment : List ℕ) → AreBorn (present h
 born_by q h moment b =
     let r = present h + 1 in
     of_accept (λ o. OfStored o (λ k d. IsBorn (present h + 1) d)) (λ f. tt) (λ code body. tt) q h moment
-    (λ kind ns d o read valid fits free room. (r, uid-created kind r ns (new_name kind ns o (members h (present h)) (present h)).name moment o, omega arith))
+    (λ kind ns d o read valid fits free room. (r, uid-created kind r ns (new_name kind ns o (entries_at h (present h)) (present h)).name moment o, omega arith))
     (λ k o was at valid fits low. born_kept (present h) was (updated k.kind r was (in_place k.kind was o)) (found_born h k was b at) (kept_in_place k.kind r was o).0)
     (λ k o was at free low. tt)
     (λ k o was at fits low.
@@ -93,6 +93,6 @@ none_has n (w ∷ ws) low b = (one_has_not n w.put low b.0, none_has n ws low b.
 
 pub unused : NewUidsAreUnused
 unused h kind ns d moment reached =
-    of_create (λ u. OfStored u (λ k new. (t : List ℕ) × (uid new ≡ Some t) × NoneHas t (writes h))) (λ f. tt) kind ns (object_in kind d) (members h (present h)) (present h) moment
+    of_create (λ u. OfStored u (λ k new. (t : List ℕ) × (uid new ≡ Some t) × NoneHas t (writes h))) (λ f. tt) kind ns (object_in kind d) (entries_at h (present h)) (present h) moment
     (λ o read valid fits free room.
-    (uid_text cluster_word (present h + 1), uid-created kind (present h + 1) ns (new_name kind ns o (members h (present h)) (present h)).name moment o, none_has (present h) (writes h) (limited h reached).1 (born h reached)))
+    (uid_text cluster_word (present h + 1), uid-created kind (present h + 1) ns (new_name kind ns o (entries_at h (present h)) (present h)).name moment o, none_has (present h) (writes h) (limited h reached).1 (born h reached)))

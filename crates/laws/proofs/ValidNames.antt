@@ -1,7 +1,7 @@
 -- What is stored has a name and a namespace as they have to be.
 use Rattle.std.proofs.Common.{◌≡◌, ℕ, List, true, Some, sym, ◌∙◌}
 use Rattle.serde_json.specs.Data.{Data}
-use Rattle.definitions.specs.History.{History, writes, found, members, present, state}
+use Rattle.definitions.specs.History.{History, writes, found, entries_at, present, state}
 use Rattle.laws.specs.HistoryLaws.{OfStored}
 use Rattle.definitions.specs.Keys.{Key, is_namespace, is_subdomain}
 use Rattle.definitions.specs.Reading.{reading}
@@ -12,7 +12,7 @@ use Rattle.laws.proofs.Compacted.{same_writes}
 use Rattle.laws.proofs.Guards.{there}
 use Rattle.laws.proofs.EachWrite.{AllPut, put_write, there_put}
 use Rattle.laws.proofs.VerbLaws.{found-state}
-use Rattle.definitions.specs.Reached.{IsAsked, IsReached}
+use Rattle.definitions.specs.Reached.{CanBeRead, IsReached}
 use Rattle.laws.specs.ParsedLaws.{NamesAreValid}
 use Rattle.laws.proofs.Reaching.{by_reached}
 use Rattle.laws.proofs.SentObjects.{created_valid}
@@ -24,22 +24,22 @@ module _ (h : History) (moment : List ℕ) (all : (k : Key) (d : Data) → state
   abbrev P : Outcome → Type 0
   P o = OfStored o (λ k d. IsValid k)
 
-  there_now : (k : Key) (existing : Data) → found k (members h (present h)) ≡ Some existing → IsValid k
+  there_now : (k : Key) (existing : Data) → found k (entries_at h (present h)) ≡ Some existing → IsValid k
   there_now k existing is = all k existing (sym (found-state h k) ∙ is)
 
-  valid_by : (q : Request) → IsAsked q → P (accept q h moment)
-  valid_by (get_object k) a = there P (λ f. tt) k shown (found k (members h (present h))) (λ d is. tt)
+  valid_by : (q : Request) → CanBeRead q → P (accept q h moment)
+  valid_by (get_object k) a = there P (λ f. tt) k shown (found k (entries_at h (present h))) (λ d is. tt)
   valid_by (list_objects v) a = tt
   valid_by (create_object kind ns d) a =
-      of_create P (λ f. tt) kind ns (object_in kind d) (members h (present h)) (present h) moment
-      (λ o read valid fits free room. (a.0, created_valid kind ns o (members h (present h)) (present h) (present h) valid))
+      of_create P (λ f. tt) kind ns (object_in kind d) (entries_at h (present h)) (present h) moment
+      (λ o read valid fits free room. (a.0, created_valid kind ns o (entries_at h (present h)) (present h) (present h) valid))
   valid_by (update_object k d) a =
-      of_update P (λ f. tt) (λ d. tt) k (object_in k.kind d) (members h (present h)) (present h) (λ o existing read is equal valid fits low. there_now k existing is) (λ o existing read is equal free low. tt)
-  valid_by (update_status k d) a = of_status P (λ f. tt) (λ d. tt) k (reading k.kind d) (members h (present h)) (present h) (λ o existing read is equal fits low. there_now k existing is)
+      of_update P (λ f. tt) (λ d. tt) k (object_in k.kind d) (entries_at h (present h)) (present h) (λ o existing read is equal valid fits low. there_now k existing is) (λ o existing read is equal free low. tt)
+  valid_by (update_status k d) a = of_status P (λ f. tt) (λ d. tt) k (reading k.kind d) (entries_at h (present h)) (present h) (λ o existing read is equal fits low. there_now k existing is)
   valid_by (patch_object k d) a =
-      of_patch P (λ f. tt) (λ d. tt) k d (members h (present h)) (present h) (λ o existing read is equal valid fits low. there_now k existing is) (λ o existing read is equal free low. tt)
+      of_patch P (λ f. tt) (λ d. tt) k d (entries_at h (present h)) (present h) (λ o existing read is equal valid fits low. there_now k existing is) (λ o existing read is equal free low. tt)
   valid_by (delete_object k o) a =
-      of_delete P (λ f. tt) (λ code body. tt) k o (members h (present h)) (present h) moment (λ existing is same_uid equal low. there_now k existing is) (λ existing is same_uid equal none low. tt)
+      of_delete P (λ f. tt) (λ code body. tt) k o (entries_at h (present h)) (present h) moment (λ existing is same_uid equal low. there_now k existing is) (λ existing is same_uid equal none low. tt)
 
 -- ---- what is written
 

@@ -16,7 +16,7 @@ use Rattle.definitions.specs.Checks.{finalizers}
 use Rattle.definitions.specs.Deletion.{left_by, being_deleted, with_deletion}
 use Rattle.definitions.specs.Kinds.{has_generation}
 use Rattle.definitions.specs.Keys.{Key}
-use Rattle.definitions.specs.History.{History, Write, write, writes, up_to, members, found, present, state}
+use Rattle.definitions.specs.History.{History, Write, write, writes, up_to, entries_at, found, present, state}
 use Rattle.laws.specs.HistoryLaws.{OfStored, KeepsText, WritesCarryTheirRevision, CreatesAreNew, NamedVersionsAreReplaced, RefusalsWriteNothing, AnswersAreRead, WritesFit, WritesKeepIdentity}
 use Rattle.definitions.specs.Metadata.{metadata_of, metadata_text, uid, version, at_revision, is_being_deleted, differs}
 use Rattle.definitions.specs.NewObjects.{new_metadata, created, first_status, with_status}
@@ -39,7 +39,7 @@ pub versions : WritesCarryTheirRevision
 versions q h moment =
     of_accept (λ o. OfStored o (λ k d. version d ≡ Some (decimal (present h + 1)))) (λ f. tt) (λ code body. tt) q h moment
     (λ kind ns d o read valid fits free room.
-    let k = new_name kind ns o (members h (present h)) (present h) in
+    let k = new_name kind ns o (entries_at h (present h)) (present h) in
     version-at_revision (present h + 1) (new_metadata kind (present h + 1) ns k.name moment (metadata_of o)) (object (with_status (first_status kind) (members_of o))))
     (λ k o existing at valid fits low.
     let d = in_place k.kind existing o in version-at_revision (present h + 1) (with_next_generation (is_new_generation k.kind existing d) existing (metadata_of d)) d)
@@ -50,13 +50,13 @@ pub none_from : (o : Option Data) → is_some o ≡ false → o ≡ None
 none_from None h = refl
 none_from (Some d) h = absurd (true≢false h)
 
-pub found-state : (h : History) (k : Key) → found k (members h (present h)) ≡ state h (present h) k
+pub found-state : (h : History) (k : Key) → found k (entries_at h (present h)) ≡ state h (present h) k
 found-state h k = found-after_all k [] (up_to (present h) h) tt
 
 pub creates : CreatesAreNew
 creates kind ns d h moment =
-    of_create (λ o. OfStored o (λ k new. (state h (present h) k ≡ None) × (uid new ≡ Some (uid_text cluster_word (present h + 1))))) (λ f. tt) kind ns (object_in kind d) (members h (present h)) (present h) moment
-    (λ o read valid fits free room. (sym (found-state h _) ∙ none_from _ free, uid-created kind (present h + 1) ns (new_name kind ns o (members h (present h)) (present h)).name moment o))
+    of_create (λ o. OfStored o (λ k new. (state h (present h) k ≡ None) × (uid new ≡ Some (uid_text cluster_word (present h + 1))))) (λ f. tt) kind ns (object_in kind d) (entries_at h (present h)) (present h) moment
+    (λ o read valid fits free room. (sym (found-state h _) ∙ none_from _ free, uid-created kind (present h + 1) ns (new_name kind ns o (entries_at h (present h)) (present h)).name moment o))
 
 same_at : (b : Bool) (s t : List ℕ) → bytes_eq s t ≡ b → not b ≡ false → t ≡ s
 same_at true s t is h = sym ((bytes_eq-Decides s t).0 is)
@@ -95,7 +95,7 @@ version-defaulted k d = ap (text_in (codes "resourceVersion")) (metadata_of-defa
 
 pub replaced : NamedVersionsAreReplaced
 replaced k d o named h moment read names =
-    of_update (λ u. OfStored u (λ written new. (existing : Data) × (written ≡ k) × (state h (present h) k ≡ Some existing) × (version existing ≡ Some named))) (λ f. tt) (λ shown. tt) k (object_in k.kind d) (members h (present h)) (present h)
+    of_update (λ u. OfStored u (λ written new. (existing : Data) × (written ≡ k) × (state h (present h) k ≡ Some existing) × (version existing ≡ Some named))) (λ f. tt) (λ shown. tt) k (object_in k.kind d) (entries_at h (present h)) (present h)
     (λ p existing is at equal valid fits room.
     let one : p ≡ defaulted k.kind o = one_object (object_in k.kind d) p (defaulted k.kind o) is (ap (with_defaults k.kind) read) in
     let says : version p ≡ Some named = ap version one ∙ version-defaulted k.kind o ∙ names in
@@ -123,16 +123,16 @@ abbrev IsFit : Outcome → Type 0
 IsFit o = OfStored o (λ k d. length (compact_text d) ≤ 1572864)
 
 pub writes_fit : WritesFit
-writes_fit (get_object k) h moment other = there IsFit (λ f. tt) k shown (found k (members h (present h))) (λ d is. tt)
+writes_fit (get_object k) h moment other = there IsFit (λ f. tt) k shown (found k (entries_at h (present h))) (λ d is. tt)
 writes_fit (list_objects v) h moment other = tt
 writes_fit (create_object kind ns d) h moment other =
-    of_create IsFit (λ f. tt) kind ns (object_in kind d) (members h (present h)) (present h) moment (λ o read valid fits free room. at_most 1572864 _ fits)
+    of_create IsFit (λ f. tt) kind ns (object_in kind d) (entries_at h (present h)) (present h) moment (λ o read valid fits free room. at_most 1572864 _ fits)
 writes_fit (update_object k d) h moment other =
-    of_update IsFit (λ f. tt) (λ d. tt) k (object_in k.kind d) (members h (present h)) (present h) (λ o existing read is same valid fits low. at_most 1572864 _ fits) (λ o existing read is same free low. tt)
+    of_update IsFit (λ f. tt) (λ d. tt) k (object_in k.kind d) (entries_at h (present h)) (present h) (λ o existing read is same valid fits low. at_most 1572864 _ fits) (λ o existing read is same free low. tt)
 writes_fit (update_status k d) h moment other =
-    of_status IsFit (λ f. tt) (λ d. tt) k (reading k.kind d) (members h (present h)) (present h) (λ o existing read is same fits low. at_most 1572864 _ fits)
+    of_status IsFit (λ f. tt) (λ d. tt) k (reading k.kind d) (entries_at h (present h)) (present h) (λ o existing read is same fits low. at_most 1572864 _ fits)
 writes_fit (patch_object k d) h moment other =
-    of_patch IsFit (λ f. tt) (λ d. tt) k d (members h (present h)) (present h) (λ o existing read is same valid fits low. at_most 1572864 _ fits) (λ o existing read is same free low. tt)
+    of_patch IsFit (λ f. tt) (λ d. tt) k d (entries_at h (present h)) (present h) (λ o existing read is same valid fits low. at_most 1572864 _ fits) (λ o existing read is same free low. tt)
 writes_fit (delete_object k o) h moment other = absurd (true≢false other)
 
 -- ---- what a write leaves as it is
@@ -196,8 +196,8 @@ identity q h moment =
     let r = present h + 1 in
     of_accept (λ u. OfStored u (λ k new. IfSome (state h (present h) k) (KeepsBoth new))) (λ f. tt) (λ code body. tt) q h moment
     (λ kind ns d o read valid fits free room.
-    let k = new_name kind ns o (members h (present h)) (present h) in
-    of_none (KeepsBoth (created kind r ns k.name moment o)) (state h (present h) k) (sym (found-state h k) ∙ none_from (found k (members h (present h))) free))
+    let k = new_name kind ns o (entries_at h (present h)) (present h) in
+    of_none (KeepsBoth (created kind r ns k.name moment o)) (state h (present h) k) (sym (found-state h k) ∙ none_from (found k (entries_at h (present h))) free))
     (λ k o existing at valid fits low. of_held (KeepsBoth (updated k.kind r existing (in_place k.kind existing o))) (state h (present h) k) existing (sym (found-state h k) ∙ at) (kept_in_place k.kind r existing o))
     (λ k o existing at free low. tt)
     (λ k o existing at fits low.

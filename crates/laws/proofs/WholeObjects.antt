@@ -10,7 +10,7 @@ use Rattle.definitions.specs.Defaults.{defaulted}
 use Rattle.definitions.specs.Metadata.{metadata_of, at_revision}
 use Rattle.definitions.specs.NewObjects.{first_status, with_status}
 use Rattle.definitions.specs.Reading.{reading}
-use Rattle.definitions.specs.Replacements.{as_held, in_place, keeping, kept, kept_of, status_in, with_status_in}
+use Rattle.definitions.specs.Replacements.{as_stored, in_place, keeping, unchanged_metadata, unchanged_members, status_in, with_status_in}
 use Rattle.definitions.specs.Values.{members_of, without}
 use Rattle.definitions.specs.Verbs.{object_in}
 use Rattle.definitions.proofs.VerbSteps.{with_defaults}
@@ -97,11 +97,11 @@ whole_without k ms w =
       filled = (stays (codes "metadata") ms refl f.0, spec_stays k ms f.1, stays (codes "kind") ms refl f.2, stays (codes "apiVersion") ms refl f.3);
     }
 
-whole_held : (k : Kind) (s : Option Data) (existing ms : Members) → get_member (codes "status") existing ≡ s → AreWhole k existing → AreWhole k ms → AreWhole k (as_held (codes "status") s ms)
+whole_held : (k : Kind) (s : Option Data) (existing ms : Members) → get_member (codes "status") existing ≡ s → AreWhole k existing → AreWhole k ms → AreWhole k (as_stored (codes "status") s ms)
 whole_held k None existing ms is h w = whole_without k ms w
 whole_held k (Some d) existing ms is h w = whole_put k (codes "status") d ms (Neat-get 99 (Root k) (codes "status") existing d is h.neat) w
 
-whole_kept : (k : Kind) (existing ms : Members) → AreWhole k existing → AreWhole k ms → AreWhole k (keeping (kept_of k) existing ms)
+whole_kept : (k : Kind) (existing ms : Members) → AreWhole k existing → AreWhole k ms → AreWhole k (keeping (unchanged_members k) existing ms)
 whole_kept ConfigMap existing ms h w = w
 whole_kept Pod existing ms h w = whole_held Pod (get_member (codes "status") existing) existing ms refl h w
 whole_kept ReplicaSet existing ms h w = whole_held ReplicaSet (get_member (codes "status") existing) existing ms refl h w
@@ -109,8 +109,8 @@ whole_kept Deployment existing ms h w = whole_held Deployment (get_member (codes
 
 pub whole_in_place : (k : Kind) (existing o : Data) → AreWhole k (members_of existing) → AreWhole k (members_of o) → AreWhole k (members_of (in_place k existing o))
 whole_in_place k existing o h w =
-    whole_with k (keeping kept (metadata_of existing) (metadata_of o)) (keeping (kept_of k) (members_of existing) (members_of o))
-    (Neat-keeping 98 Metadata kept (metadata_of existing) (metadata_of o) (neat_metadata k existing h) (neat_metadata k o w)) (whole_kept k (members_of existing) (members_of o) h w)
+    whole_with k (keeping unchanged_metadata (metadata_of existing) (metadata_of o)) (keeping (unchanged_members k) (members_of existing) (members_of o))
+    (Neat-keeping 98 Metadata unchanged_metadata (metadata_of existing) (metadata_of o) (neat_metadata k existing h) (neat_metadata k o w)) (whole_kept k (members_of existing) (members_of o) h w)
 
 -- ---- what is read
 

@@ -9,7 +9,7 @@ use Rattle.definitions.specs.declared.methods.Method.{Method}
 use Rattle.definitions.specs.Replies.{Session, start}
 use Rattle.line_protocol.specs.Lines.{after_lines}
 use Rattle.definitions.specs.Keys.{Key, key_cmp, is_same_key}
-use Rattle.definitions.specs.History.{History, Members, Write, write, present, found, members, state, View, list, seen}
+use Rattle.definitions.specs.History.{History, Entries, Write, write, present, found, entries_at, state, View, list, seen}
 use Rattle.definitions.specs.Refusals.{Refusal}
 use Rattle.definitions.specs.Metadata.{metadata_text, uid, version}
 use Rattle.definitions.specs.Reading.{reading}
@@ -22,11 +22,11 @@ use Rattle.definitions.specs.ObjectRequests.{Request, get_object, list_objects, 
 
 -- under each key the members have what the last write that names it put there
 abbrev pub MembersAreState : Type 0
-MembersAreState = (h : History) (r : ℕ) (k : Key) → found k (members h r) ≡ state h r k
+MembersAreState = (h : History) (r : ℕ) (k : Key) → found k (entries_at h r) ≡ state h r k
 
--- the members stand in strictly ascending order, so each key stands once
+-- the entries stand in strictly ascending order, so each key stands once
 abbrev pub MembersAreInOrder : Type 0
-MembersAreInOrder = (h : History) (r : ℕ) → IsStrictlySortedBy key_cmp (keys_of (members h r))
+MembersAreInOrder = (h : History) (r : ℕ) → IsStrictlySortedBy key_cmp (keys_of (entries_at h r))
 
 -- a list has under each key what is there, if the view asks for it
 abbrev pub ListsShowTheState : Type 0
@@ -38,7 +38,7 @@ ListsAreInOrder = (h : History) (v : View) (r : ℕ) → IsStrictlySortedBy key_
 
 -- more entries leave what is there at a revision that was reached before them
 abbrev pub PastStands : Type 0
-PastStands = (h more : History) (r : ℕ) → r ≤ present h → members (h ++ more) r ≡ members h r
+PastStands = (h more : History) (r : ℕ) → r ≤ present h → entries_at (h ++ more) r ≡ entries_at h r
 
 -- after one more write its key has what it put, and every other key has what it had
 abbrev pub WritesSetState : Type 0
@@ -97,7 +97,7 @@ WritesFit = (q : Request) (h : History) (moment : List ℕ) → is_delete q ≡ 
 
 -- a write that is accepted has room, whatever is there and at whatever revision
 abbrev pub WritesHaveRoom : Type 0
-WritesHaveRoom = (q : Request) (ms : Members) (r : ℕ) (moment : List ℕ) → IfSome (write_of (accept_at q ms r moment)) (λ w. overflows ms r w ≡ false)
+WritesHaveRoom = (q : Request) (ms : Entries) (r : ℕ) (moment : List ℕ) → IfSome (write_of (accept_at q ms r moment)) (λ w. overflows ms r w ≡ false)
 
 -- a refusal writes nothing
 abbrev pub RefusalsWriteNothing : Type 0

@@ -2,7 +2,7 @@
 use Rattle.std.specs.Prelude.{◌≡◌, ◌≤◌, ◌<◌, ◌↔◌, ℕ, Bool, List, [], ◌∷◌, ◌++◌, length, map, Option, unwrap_or, Ok, IsOk}
 use Rattle.definitions.specs.declared.frames.FrameKind.TheVariants.{Added}
 use Rattle.definitions.specs.History.{History, View, present, list}
-use Rattle.definitions.specs.Collections.{watch_from}
+use Rattle.definitions.specs.ListQueries.{watch_from}
 use Rattle.definitions.specs.Streams.{Line, frame_of, IsStream, applied_lines}
 use Rattle.definitions.specs.Versions.{Watched, watched_from}
 use Rattle.definitions.specs.WatchReplies.{lines_from, watch_lines}

@@ -11,7 +11,7 @@ use Rattle.definitions.specs.Metadata.{metadata, metadata_of, with_metadata}
 use Rattle.definitions.specs.Keys.{Key, is_namespace, is_subdomain}
 use Rattle.definitions.specs.Reached.{IsParsed, AreParsed, IsReached}
 use Rattle.definitions.specs.Reading.{empty, reading}
-use Rattle.definitions.specs.Replacements.{as_held, keeping}
+use Rattle.definitions.specs.Replacements.{as_stored, keeping}
 use Rattle.definitions.specs.Values.{members_of, inner_of, without}
 
 -- ---- what is there
@@ -76,7 +76,7 @@ MadePodsAreParsed =
     → (let t = unwrap_or (in_spec (codes "template") d) empty in
     IsParsed
     (object
-    (as_held (codes "spec") (get (codes "spec") t)
+    (as_stored (codes "spec") (get (codes "spec") t)
     (member (codes "metadata")
     (object (put (codes "ownerReferences") (array refs) (put (codes "generateName") (string named) (keeping copied (inner_of (get (codes "metadata") t)) no_members))))
     no_members))))

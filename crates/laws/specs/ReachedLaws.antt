@@ -1,11 +1,11 @@
 -- What has happened at a server, whoever asked: what counts as that, and how far it goes.
 use Rattle.std.specs.Prelude.{◌≡◌, ◌≤◌, ◌++◌, ℕ, List, length, true, Ok}
 use Rattle.definitions.specs.declared.methods.Method.{Method}
-use Rattle.definitions.specs.History.{History, writes, present, members}
+use Rattle.definitions.specs.History.{History, writes, present, entries_at}
 use Rattle.laws.specs.Happening.{CanHappen}
 use Rattle.line_protocol.specs.Lines.{history_of}
 use Rattle.definitions.specs.Moments.{is_moment}
-use Rattle.definitions.specs.Reached.{IsAsked, IsTime, IsReached}
+use Rattle.definitions.specs.Reached.{CanBeRead, IsTimestamp, IsReached}
 use Rattle.definitions.specs.Targets.{request, read_request}
 use Rattle.definitions.specs.ObjectRequests.{Request}
 use Rattle.laws.specs.HistoryLaws.{Carry}
@@ -22,11 +22,11 @@ PastsAreReached = (h more : History) → IsReached (h ++ more) → IsReached h
 
 -- what is read of a method, a target and a body is well asked
 abbrev pub RequestsAreAsked : Type 0
-RequestsAreAsked = (method : Method) (target body : List ℕ) (q : Request) → read_request method target body ≡ Ok (request q) → IsAsked q
+RequestsAreAsked = (method : Method) (target body : List ℕ) (q : Request) → read_request method target body ≡ Ok (request q) → CanBeRead q
 
 -- a moment as objects carry it is a time
 abbrev pub MomentsAreTimes : Type 0
-MomentsAreTimes = (t : List ℕ) → is_moment t ≡ true → IsTime t
+MomentsAreTimes = (t : List ℕ) → is_moment t ≡ true → IsTimestamp t
 
 -- ---- how far it goes
 
@@ -36,7 +36,7 @@ ReachedCanHappen = (h : History) → IsReached h → CanHappen h
 
 -- there are no more objects, and no greater revision, than there may be
 abbrev pub ReachedStayWithinLimits : Type 0
-ReachedStayWithinLimits = (h : History) → IsReached h → (length (members h (present h)) ≤ 65536) × (present h ≤ 9007199254740991)
+ReachedStayWithinLimits = (h : History) → IsReached h → (length (entries_at h (present h)) ≤ 65536) × (present h ≤ 9007199254740991)
 
 -- each object that was ever stored carries the revision of its write, the first of which is 2
 abbrev pub ReachedCarryRevisions : Type 0

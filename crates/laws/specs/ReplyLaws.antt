@@ -9,8 +9,8 @@ use Rattle.serde_json.specs.Written.{compact_text}
 use Rattle.definitions.specs.declared.kinds.Kind.{Kind}
 use Rattle.definitions.specs.declared.versions.At.{At}
 use Rattle.definitions.specs.declared.versions.At.TheVariants.{Present, NotOlder, Exact}
-use Rattle.definitions.specs.Collections.{ListOptions, going_on}
-use Rattle.definitions.specs.History.{History, View, Members, writes, present, list}
+use Rattle.definitions.specs.ListQueries.{ListOptions, going_on}
+use Rattle.definitions.specs.History.{History, View, Entries, writes, present, list}
 use Rattle.definitions.specs.Lists.{list_outcome, page_body}
 use Rattle.definitions.specs.Metadata.{metadata_text}
 use Rattle.definitions.specs.Reached.{IsReached}
@@ -28,7 +28,7 @@ newest = record { at = Present; limit = 0; after = None }
 
 -- a page of all there is, however many follow, is the list; and a list without options is what the verb answers
 pub record ListsAreOnePage : Type 0 where
-  pub body : (k : Kind) (r : ℕ) (count : Option ℕ) (ms : Members) → page_body k r count (record { items = ms; next = None }) ≡ list_body k r ms
+  pub body : (k : Kind) (r : ℕ) (count : Option ℕ) (ms : Entries) → page_body k r count (record { items = ms; next = None }) ≡ list_body k r ms
   pub outcome : (size : ℕ) (h : History) (v : View) (moment : List ℕ) → list_outcome size h v newest ≡ accept (list_objects v) h moment
 
 -- what a list of a kind in all namespaces is answered

@@ -9,7 +9,7 @@ use Rattle.serde_json.specs.Written.{compact_text}
 use Rattle.definitions.specs.declared.kinds.Kind.{Kind}
 use Rattle.definitions.specs.Keys.{Key}
 use Rattle.definitions.specs.History as history
-use Rattle.definitions.specs.History.{History, Write, View, Members, writes, present, list}
+use Rattle.definitions.specs.History.{History, Write, View, Entries, writes, present, list}
 use Rattle.definitions.specs.Objects.{Object}
 use Rattle.definitions.specs.Metadata.{name, namespace, uid, version}
 use Rattle.definitions.specs.Reading.{reading}
@@ -43,7 +43,7 @@ ObjectsAreKept = (h : History) → IsReached h → AreKept 2 (writes h)
 
 -- all of a kind, in all namespaces
 abbrev pub whole : Kind → View
-whole k = history.whole k None
+whole k = history.unfiltered k None
 
 abbrev pub object_of : Kind → Event → Object
 object_of k c = record { kind = k; value = c.object }
@@ -74,7 +74,7 @@ WatchesAreStreams =
 -- ---- lists
 
 -- the objects of a list of a kind
-abbrev pub objects_in : Kind → Members → List Object
+abbrev pub objects_in : Kind → Entries → List Object
 objects_in k ms = map (λ m. record { kind = k; value = m.1 }) ms
 
 -- a text that says the list of a kind at a revision

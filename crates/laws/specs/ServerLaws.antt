@@ -12,7 +12,7 @@ use Rattle.definitions.specs.declared.versions.At.{At}
 use Rattle.definitions.specs.declared.versions.At.TheVariants.{Present, NotOlder, Exact}
 use Rattle.definitions.specs.Versions.{Watched, list_for, watched_from, compacts}
 use Rattle.definitions.specs.WatchReplies.{lines_from, watch_lines}
-use Rattle.definitions.specs.Collections.{ListOptions, WatchOptions}
+use Rattle.definitions.specs.ListQueries.{ListOptions, WatchOptions}
 use Rattle.definitions.specs.Lists.{list_outcome}
 use Rattle.server_state.specs.Servers.{list_served, watch_served, Server, opened_server, after_write, after_writing, after_entries, list_by, watch_by, compact_by, IsServerAfter}
 

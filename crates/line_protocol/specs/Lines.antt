@@ -11,7 +11,7 @@ use Rattle.definitions.specs.declared.methods.Method.TheVariants.{Get, Post, Put
 use Rattle.definitions.specs.declared.refusals.Part.TheVariants as part
 use Rattle.definitions.specs.Refusals.{bad_request, success_body}
 use Rattle.definitions.specs.Revisions.{revision_of}
-use Rattle.definitions.specs.Streams.{text_of}
+use Rattle.definitions.specs.Streams.{text_of_lines}
 use Rattle.definitions.specs.Targets.{read_request}
 use Rattle.definitions.specs.Versions.{compacts}
 use Rattle.definitions.specs.Verbs.{refused, outcome_code, outcome_body}
@@ -76,7 +76,7 @@ line_text code body = decimal code ++ (32 ∷ (compact_text body ++ 10 ∷ []))
 -- of an outcome its code and its body; of a watch how many lines follow, and these; of a compaction a success
 abbrev pub reply_text : Reply → List ℕ
 reply_text (outcome o) = line_text (outcome_code o) (outcome_body o)
-reply_text (shown k ls) = codes "200 watch " ++ (decimal (length ls) ++ (10 ∷ text_of k ls))
+reply_text (shown k ls) = codes "200 watch " ++ (decimal (length ls) ++ (10 ∷ text_of_lines k ls))
 reply_text (compacted more) = line_text 200 (success_body None)
 
 -- ---- a session

@@ -11,7 +11,7 @@ use Rattle.serde_json.specs.View.{view, items_of, members_view}
 use Rattle.serde_json.proofs.Views.{Entry}
 use Rattle.definitions.specs.declared.schemas.Shape.{Shape}
 use Rattle.definitions.specs.declared.schemas.Schema.{Schema}
-use Rattle.definitions.specs.Schemas.{member_at}
+use Rattle.definitions.specs.Schemas.{property_at}
 use Rattle.definitions.specs.Reading.{tidied, tidied_items, tidied_members, is_absent}
 
 pub tidied_items-items_of : (s : Shape) (ds : List Data) → tidied_items s (items_of ds) ≡ items_of (map (tidied s) ds)
@@ -20,10 +20,10 @@ tidied_items-items_of s (d ∷ ds) = rw (tidied_items-items_of s ds)
 
 -- what is left of a member
 abbrev pub left : Schema → Entry → Data
-left p e = tidied (member_at p (string_bytes e.0)).shape (view e.1)
+left p e = tidied (property_at p (string_bytes e.0)).shape (view e.1)
 
 abbrev pub is_gone : Schema → Entry → Bool
-is_gone p e = is_absent (member_at p (string_bytes e.0)) (left p e)
+is_gone p e = is_absent (property_at p (string_bytes e.0)) (left p e)
 
 -- a member that counts as absent changes nothing at the end
 pub tidied_members-absent_last : (p : Schema) (done : List Entry) (e : Entry) → is_gone p e ≡ true → tidied_members p (members_view done) ≡ tidied_members p (members_view (done ++ e ∷ []))
@@ -55,5 +55,5 @@ one_more_at false p done e more h is = tidied_members-put_last p done e more h i
 
 -- one more member, above those before it
 pub tidied_members-one_more : (p : Schema) (done : List Entry) (e : Entry) (more : List Entry) → IsStrictlySortedBy string_cmp (keys_of (done ++ e ∷ more))
-    → cond (is_absent (member_at p (string_bytes e.0)) (left p e)) (tidied_members p (members_view done)) (put (string_bytes e.0) (left p e) (tidied_members p (members_view done))) ≡ tidied_members p (members_view (done ++ e ∷ []))
+    → cond (is_absent (property_at p (string_bytes e.0)) (left p e)) (tidied_members p (members_view done)) (put (string_bytes e.0) (left p e) (tidied_members p (members_view done))) ≡ tidied_members p (members_view (done ++ e ∷ []))
 tidied_members-one_more p done e more h = one_more_at _ p done e more h refl

@@ -4,7 +4,7 @@ ghost use Rattle.serde_json.specs.Data.{object, put};
 ghost use Rattle.serde_json.specs.Find.{get_member};
 ghost use Rattle.serde_json.specs.View.{view};
 ghost use Rattle.serde_json.specs.Written.{has_float};
-ghost use Rattle.definitions.specs.Replacements.{as_held};
+ghost use Rattle.definitions.specs.Replacements.{as_stored};
 ghost use Rattle.definitions.specs.Values.{members_of, without};
 
 use crate::objects::Object;
@@ -45,7 +45,7 @@ impl Object {
         existing: &Object,
     ) -> Result<Object, AllocError>
         ensures value { IfOk result (λ o. o.value
-            ≡ object (as_held name.now (get_member name.now (members_of existing.now.value)) (members_of self.value))) }
+            ≡ object (as_stored name.now (get_member name.now (members_of existing.now.value)) (members_of self.value))) }
         ensures kind { IfOk result (λ o. o.kind ≡ self.kind) }
     {
         match existing.member(name) {

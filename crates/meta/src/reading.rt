@@ -7,10 +7,10 @@ ghost use Rattle.serde_json.specs.View.{view, items_view, members_view};
 ghost use Rattle.definitions.specs.Reading.{fits, items_fit, members_fit, tidied, tidied_items, tidied_members, is_empty, is_absent, schema_of, item_of, with_spec, filled, is_body, reading};
 ghost use Rattle.meta.specs.Refused.{RefusesReading};
 
-use crate::schemas::member_at;
+use crate::schemas::property_at;
 use definitions::kinds::Kind;
 use definitions::refusals::Part;
-use definitions::schemas::{Member, Schema, Shape};
+use definitions::schemas::{Property, Schema, Shape};
 use json_values::values::{has_float, nests_within, with_object, with_text};
 use keys::Fault;
 use serde_json::{Map, Value};
@@ -56,7 +56,7 @@ fn members_fit(members: &Map<String, Value>, schema: Schema) -> bool
     ensures { result ≡ members_fit schema (members_view members.now.entries) }
 {
     for (key, member) in members.iter() {
-        if !member.is_null() && !fits(member, member_at(schema, key.as_str()).shape) {
+        if !member.is_null() && !fits(member, property_at(schema, key.as_str()).shape) {
             return false;
         }
     }
@@ -78,7 +78,7 @@ fn is_empty(value: &Value) -> bool
 }
 
 /// Returns whether a member counts as absent.
-fn is_absent(described: Member, value: &Value) -> bool
+fn is_absent(described: Property, value: &Value) -> bool
     ensures { result ≡ is_absent described (view value.now) }
 {
     value.is_null() || described.drops_empty && is_empty(value)
@@ -138,7 +138,7 @@ fn tidy_members(
     }
     let mut kept = Map::emptied(&members)?;
     for (key, member) in members {
-        let described = member_at(schema, key.as_str());
+        let described = property_at(schema, key.as_str());
         let inner = tidy(member, described.shape)?;
         put_if_there(&mut kept, key, described, inner)?;
     }
@@ -149,7 +149,7 @@ fn tidy_members(
 fn put_if_there(
     kept: &mut Map<String, Value>,
     key: String,
-    described: Member,
+    described: Property,
     inner: Value,
 ) -> Result<(), AllocError>
     ensures { OnOk result (members_view kept.new.entries ≡ if is_absent described (view inner)

@@ -22,5 +22,5 @@ abbrev pub is_passed : tokens.Token → Member → Bool
 is_passed t m = not (is_after (Some (token_place t)) (member_of m).0)
 
 -- the members after that place
-abbrev pub list_after : tokens.Token → history.Members → history.Members
+abbrev pub list_after : tokens.Token → history.Entries → history.Entries
 list_after t ms = after_place (Some (token_place t)) ms

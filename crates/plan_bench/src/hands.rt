@@ -12,7 +12,7 @@ use std::alloc::{AllocError, Global};
 use turns::{Hand, Looks, Read};
 
 /// Returns the object that a text says.
-fn object(alloc: Global, kind: Kind, text: &str) -> Result<Object, Fault> {
+pub fn object(alloc: Global, kind: Kind, text: &str) -> Result<Object, Fault> {
     match Value::from_str(alloc, text) {
         Ok(value) => Object::from_value(alloc, kind, value),
         Err(_) => Err(Fault::BadRequest(Part::Body)),
@@ -29,7 +29,7 @@ fn key(alloc: Global) -> Result<Key, AllocError> {
 }
 
 /// Returns a look at these objects.
-fn look(alloc: Global, objects: Vec<SharedObject>) -> Result<Indexed, AllocError> {
+pub fn look(alloc: Global, objects: Vec<SharedObject>) -> Result<Indexed, AllocError> {
     let mut seen = Indexed::new(alloc);
     seen.apply(&Delta::Replace(2, objects))?;
     Ok(seen)

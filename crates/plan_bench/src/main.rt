@@ -1,12 +1,15 @@
-//! Measures plans: `plan_bench WAY PODS PLANS` makes a ReplicaSet with so many pods, and plans so often of what is then
-//! there. The ways are `status`, where only the status of the set is to be updated, `half`, where half of the pods are too
-//! many, and, for the collector, `foreground` and `orphan`, where the set is being deleted and waits for its pods, or leaves
-//! them.
+//! Measures plans: `plan_bench WAY COUNT PLANS` makes a ReplicaSet with so many pods, or a Deployment with so many sets, and
+//! plans so often of what is then there. The ways are `status`, where only the status of the set is to be updated, `half`, where
+//! half of the pods are too many, for the collector `foreground` and `orphan`, where the set is being deleted and waits for its
+//! pods, or leaves them, and for the Deployment `rollout`, where its new set grows, and `history`, where sets that nobody needs
+//! are deleted.
 #![tactic(auto)]
 
+mod deployments;
 mod hands;
 mod texts;
 
+use crate::deployments::rollout_hand;
 use crate::hands::hand;
 use indexer::Indexed;
 use keys::Fault;
@@ -22,13 +25,15 @@ pub enum Way {
     Half,
     Foreground,
     Orphan,
+    Rollout,
+    History,
 }
 
 /// What is to be done.
 #[derive(Clone, Copy)]
 struct Task {
     way: Way,
-    pods: u32,
+    count: u32,
     plans: u32,
 }
 
@@ -39,6 +44,8 @@ fn way_named(name: &str) -> Option<Way> {
         "half" => Some(Way::Half),
         "foreground" => Some(Way::Foreground),
         "orphan" => Some(Way::Orphan),
+        "rollout" => Some(Way::Rollout),
+        "history" => Some(Way::History),
         _ => None,
     }
 }
@@ -47,7 +54,7 @@ fn way_named(name: &str) -> Option<Way> {
 fn asked(rt: &HostRuntime) -> io::Result<Option<Task>> {
     let mut words = env::args(rt)?;
     let _program = words.next();
-    let (Some(way), Some(pods), Some(plans), None) = (
+    let (Some(way), Some(count), Some(plans), None) = (
         words.next(),
         words.next(),
         words.next(),
@@ -55,14 +62,14 @@ fn asked(rt: &HostRuntime) -> io::Result<Option<Task>> {
     ) else {
         return Ok(None);
     };
-    let (Some(way), Ok(pods), Ok(plans)) = (
+    let (Some(way), Ok(count), Ok(plans)) = (
         way_named(way.as_str()),
-        pods.as_str().parse::<u32>(),
+        count.as_str().parse::<u32>(),
         plans.as_str().parse::<u32>(),
     ) else {
         return Ok(None);
     };
-    Ok(Some(Task { way, pods, plans }))
+    Ok(Some(Task { way, count, plans }))
 }
 
 /// Returns the plan of a hand.
@@ -70,12 +77,16 @@ fn plan(alloc: Global, way: Way, hand: &Hand<Indexed>) -> Result<Plan, AllocErro
     match way {
         Way::Status | Way::Half => replicaset::plan(alloc, hand),
         Way::Foreground | Way::Orphan => collector::plan(alloc, hand),
+        Way::Rollout | Way::History => deployment::plan(alloc, hand),
     }
 }
 
 /// Plans so often, and returns how many commands there were in all.
 fn commands(alloc: Global, task: Task) -> Result<u64, Fault> {
-    let hand = hand(alloc, task.way, task.pods)?;
+    let hand = match task.way {
+        Way::Rollout | Way::History => rollout_hand(alloc, task.way, task.count)?,
+        _ => hand(alloc, task.way, task.count)?,
+    };
     let mut commands = 0u64;
     for _ in 0..task.plans {
         let plan = plan(alloc, task.way, &hand)?;

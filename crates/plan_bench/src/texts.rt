@@ -25,7 +25,7 @@ pub fn pod(alloc: Global, number: u32) -> Result<String, AllocError> {
 /// Returns what the metadata of the set says of its deletion.
 fn deletion(way: Way) -> &'static str {
     match way {
-        Way::Status | Way::Half => "",
+        Way::Status | Way::Half | Way::Rollout | Way::History => "",
         Way::Foreground =>
             r#""deletionTimestamp":"2026-01-01T01:00:00Z","finalizers":["foregroundDeletion"],"#,
         Way::Orphan => r#""deletionTimestamp":"2026-01-01T01:00:00Z","finalizers":["orphan"],"#,

@@ -4,7 +4,7 @@ use Rattle.std.proofs.lemmas.Bool.{lt-ltb}
 use Rattle.serde_json.specs.Data.{Data, null, boolean, number, string, array, object, Members, put}
 use Rattle.serde_json.specs.Find.{get, get_member, as_str}
 use Rattle.serde_json.proofs.Views.{get_member-put, get_member-put_other}
-use Rattle.definitions.specs.Defaults.{whole}
+use Rattle.definitions.specs.Defaults.{unsigned_value}
 use Rattle.definitions.specs.Metadata.{metadata, metadata_of, version}
 use Rattle.definitions.specs.Values.{inner_of, members_of}
 use Rattle.definitions.proofs.JsonMembers.{apart, metadata_text-with, text_in-put_other}
@@ -12,13 +12,13 @@ use Rattle.plans.specs.Counts.{count, not_below_0, replicas}
 use Rattle.plans.specs.Revisions.{annotated, raised, revision, with_revision}
 use Rattle.plan_laws.specs.DeploymentLaws.{ScalesAskForTheirNumber, MadeSetsAskForTheirNumber, UpdatesNameTheLookedVersion}
 
-counted : (n : ℕ) → n < 2 ^ 63 → count (Some (whole n)) ≡ n
+counted : (n : ℕ) → n < 2 ^ 63 → count (Some (unsigned_value n)) ≡ n
 counted n h = ap (λ b. not_below_0 (unwrap_or (if b then Some (pos n) else None) (pos 0))) (lt-ltb n (2 ^ 63) h)
 
-asked_in : (n : ℕ) (spec ms : Members) → n < 2 ^ 63 → replicas (object (put (codes "spec") (object (put (codes "replicas") (whole n) spec)) ms)) ≡ n
+asked_in : (n : ℕ) (spec ms : Members) → n < 2 ^ 63 → replicas (object (put (codes "spec") (object (put (codes "replicas") (unsigned_value n) spec)) ms)) ≡ n
 asked_in n spec ms h =
-    ap (λ found. count (option_and_then (get (codes "replicas")) found)) (get_member-put (codes "spec") (object (put (codes "replicas") (whole n) spec)) ms)
-    ∙ ap count (get_member-put (codes "replicas") (whole n) spec) ∙ counted n h
+    ap (λ found. count (option_and_then (get (codes "replicas")) found)) (get_member-put (codes "spec") (object (put (codes "replicas") (unsigned_value n) spec)) ms)
+    ∙ ap count (get_member-put (codes "replicas") (unsigned_value n) spec) ∙ counted n h
 
 pub scaled_asks : ScalesAskForTheirNumber
 scaled_asks n d h = asked_in n (inner_of (get (codes "spec") d)) (members_of d) h
@@ -50,5 +50,5 @@ version_raised true due d =
 
 pub names_looked : UpdatesNameTheLookedVersion
 names_looked n due d =
-    version_beside (object (put (codes "replicas") (whole n) (inner_of (get (codes "spec") (raised due d))))) (raised due d)
+    version_beside (object (put (codes "replicas") (unsigned_value n) (inner_of (get (codes "spec") (raised due d))))) (raised due d)
     ∙ version_raised (nat_lt (revision d) due) due d

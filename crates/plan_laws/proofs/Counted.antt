@@ -6,7 +6,7 @@ use Rattle.std.specs.List.Sorted.{IsPermutation}
 use Rattle.std.specs.Ordering.{on}
 use Rattle.serde_json.specs.Data.{Data}
 use Rattle.definitions.specs.declared.kinds.Kind.TheVariants.{Pod}
-use Rattle.definitions.specs.History.{Members}
+use Rattle.definitions.specs.History.{Entries}
 use Rattle.definitions.specs.Keys.{Key}
 use Rattle.definitions.specs.Metadata.{is_being_deleted}
 use Rattle.controllers.specs.Commands.{Command, create, update, update_status, delete}
@@ -46,7 +46,7 @@ claim_at false false k d e = record { creates = refl; deletes = refl }
 claim_harmless : (k : Key) (set : Data) (may : Bool) (p : Key × Data) → Harmless (claim k set may p)
 claim_harmless k set may p = claim_at (is_released set p.1) (may && is_adoptable set p.1) p.0 (released set p.1) (adopted k set p.1)
 
-pub claims_harmless : (k : Key) (set : Data) (may : Bool) (pods : Members) → Harmless (claims k set may pods)
+pub claims_harmless : (k : Key) (set : Data) (may : Bool) (pods : Entries) → Harmless (claims k set may pods)
 claims_harmless k set may [] = record { creates = refl; deletes = refl }
 claims_harmless k set may (p ∷ ps) =
     let one = claim_harmless k set may p in
@@ -67,18 +67,18 @@ deleted_replicate : (n : ℕ) (ns : List ℕ) (d : Data) → deleted (replicate 
 deleted_replicate zero ns d = refl
 deleted_replicate (suc n) ns d = deleted_replicate n ns d
 
-created_deletes : (ps : Members) → created (map delete_pod ps) ≡ 0
+created_deletes : (ps : Entries) → created (map delete_pod ps) ≡ 0
 created_deletes [] = refl
 created_deletes (p ∷ ps) = created_deletes ps
 
-deleted_deletes : (ps : Members) → deleted (map delete_pod ps) ≡ length ps
+deleted_deletes : (ps : Entries) → deleted (map delete_pod ps) ≡ length ps
 deleted_deletes [] = refl
 deleted_deletes (p ∷ ps) = ap suc (deleted_deletes ps)
 
-pub ranked_permutes : (pods : Members) → IsPermutation pods (ranked pods)
+pub ranked_permutes : (pods : Entries) → IsPermutation pods (ranked pods)
 ranked_permutes pods = in_order_permutes (on (rank pods) rank_cmp) pods
 
-pub length_victims : (wanted : ℕ) (pods : Members) → length (victims wanted pods) ≡ surplus wanted pods
+pub length_victims : (wanted : ℕ) (pods : Entries) → length (victims wanted pods) ≡ surplus wanted pods
 length_victims wanted pods =
     let same = length_permutation pods (ranked pods) (ranked_permutes pods) in
     let taken = length-take (surplus wanted pods) (ranked pods) in
@@ -89,7 +89,7 @@ pub record AtMost (more fewer : ℕ) (cs : List Command) : Type 0 where
   pub creates : created cs ≤ more
   pub deletes : deleted cs ≤ fewer
 
-scale_at_most : (k : Key) (set : Data) (pods : Members) → AtMost (missing (replicas set) pods) (surplus (replicas set) pods) (scale k set pods)
+scale_at_most : (k : Key) (set : Data) (pods : Entries) → AtMost (missing (replicas set) pods) (surplus (replicas set) pods) (scale k set pods)
 scale_at_most k set pods =
     let n = missing (replicas set) pods in
     let new = new_pod k set in
@@ -106,7 +106,7 @@ scale_if-at : (b : Bool) (m n : ℕ) (cs : List Command) → AtMost m n cs → A
 scale_if-at true m n cs h = h
 scale_if-at false m n cs h = record { creates = omega arith; deletes = omega arith }
 
-pub plan_at_most : (s : Bool) (k : Key) (set : Data) (may : Bool) (pods : Members)
+pub plan_at_most : (s : Bool) (k : Key) (set : Data) (may : Bool) (pods : Entries)
     → AtMost (missing (replicas set) (own_pods set may pods)) (surplus (replicas set) (own_pods set may pods)) (plan_with s k set may pods)
 plan_at_most s k set may pods =
     let own = own_pods set may pods in
@@ -119,7 +119,7 @@ plan_at_most s k set may pods =
     let d = deleted-append (scale_if s k set own) (report k set own) in
     record { creates = omega (arith, most.creates, first.creates, last.creates); deletes = omega (arith, most.deletes, first.deletes, last.deletes) }
 
-pub awaited_harmless : (k : Key) (set : Data) (may : Bool) (pods : Members) → Harmless (plan_with false k set may pods)
+pub awaited_harmless : (k : Key) (set : Data) (may : Bool) (pods : Entries) → Harmless (plan_with false k set may pods)
 awaited_harmless k set may pods =
     let own = own_pods set may pods in
     let first = claims_harmless k set may pods in

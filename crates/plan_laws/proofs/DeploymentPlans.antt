@@ -8,12 +8,12 @@ use Rattle.std.specs.List.{AllByRecursion, Contains, filter, list_any}
 use Rattle.std.specs.Ordering.{is_le, is_lt, nat_cmp, on}
 use Rattle.serde_json.specs.Data.{Data, object, put}
 use Rattle.definitions.specs.Checks.{in_spec}
-use Rattle.definitions.specs.Defaults.{is_rolling_update, whole}
-use Rattle.definitions.specs.History.{Members, found}
+use Rattle.definitions.specs.Defaults.{is_rolling_update, unsigned_value}
+use Rattle.definitions.specs.History.{Entries, found}
 use Rattle.definitions.specs.Keys.{Key}
 use Rattle.definitions.specs.Metadata.{is_being_deleted}
 use Rattle.definitions.specs.Replacements.{generation, says_the_same}
-use Rattle.definitions.specs.SelectorValues.{passes}
+use Rattle.definitions.specs.SelectorValues.{is_some_and}
 use Rattle.controllers.specs.Commands.{Command, update, update_status}
 use Rattle.controllers.specs.Hands.{Hand}
 use Rattle.controllers.specs.Informers.{Looks}
@@ -62,7 +62,7 @@ renewed_whole : (P : List Command → Type 0) (r : Rollout) (o : Option (Key × 
 renewed_whole P r None parts = parts.makes (replicas r.deployment)
 renewed_whole P r (Some new) parts = parts.renews new (replicas r.deployment)
 
-recreated : (P : List Command → Type 0) (r : Rollout) (pods : Members) → Parts P r → P (recreate r pods)
+recreated : (P : List Command → Type 0) (r : Rollout) (pods : Entries) → Parts P r → P (recreate r pods)
 recreated P r pods parts =
     let ns = map (λ (s : Key × Data). 0) r.old in
     let runs = list_any (has_running_pods r.key.namespace pods) r.old in
@@ -70,9 +70,9 @@ recreated P r pods parts =
     first P (scale_each r.old ns) (if runs then [] else later) (parts.scales ns)
     (either P runs [] later parts.none (first P (renew_whole r r.new) (clean_up r) (renewed_whole P r r.new parts) (cleaned P r parts)))
 
-pub gone_on : (P : List Command → Type 0) (r : Rollout) (pods : Members) → Parts P r → P (go_on r pods)
+pub gone_on : (P : List Command → Type 0) (r : Rollout) (pods : Entries) → Parts P r → P (go_on r pods)
 gone_on P r pods parts =
-    either P (passes is_rolling_update (in_spec (codes "strategy") r.deployment)) (roll r) (recreate r pods) (rolled P r (pace_of r.deployment) r.new parts) (recreated P r pods parts)
+    either P (is_some_and is_rolling_update (in_spec (codes "strategy") r.deployment)) (roll r) (recreate r pods) (rolled P r (pace_of r.deployment) r.new parts) (recreated P r pods parts)
 
 -- what holds of nothing and of an update of the status holds of a report
 pub reported : (P : List Command → Type 0) (r : Rollout) → P [] → ((d : Data) → P (update_status r.key d ∷ [])) → P (report r)
@@ -82,7 +82,7 @@ reported P r none told =
 
 counted_up : (P : List Command → Type 0) (r : Rollout) (n : ℕ) → P [] → ((d : Data) → P (update_status r.key d ∷ [])) → P (count_collision r n)
 counted_up P r n none told =
-    let d = with_status (put (codes "collisionCount") (whole (n + 1)) (status r.deployment)) r.deployment in
+    let d = with_status (put (codes "collisionCount") (unsigned_value (n + 1)) (status r.deployment)) r.deployment in
     either P (nat_lt n 2147483647) (update_status r.key d ∷ []) [] (told d) none
 
 -- and, where it holds of what is done to go on, with a report, of the whole
@@ -112,7 +112,7 @@ update_makes_none false k d = refl
 renew_makes_none : (s : Key × Data) (n due : ℕ) → created (renew s n due) ≡ 0
 renew_makes_none s n due = update_makes_none _ _ _
 
-pub scales_make_none : (ss : Members) (ns : List ℕ) → created (scale_each ss ns) ≡ 0
+pub scales_make_none : (ss : Entries) (ns : List ℕ) → created (scale_each ss ns) ≡ 0
 scales_make_none [] ns = refl
 scales_make_none (s ∷ ss) [] = refl
 scales_make_none (s ∷ ss) (n ∷ ns) =
@@ -120,7 +120,7 @@ scales_make_none (s ∷ ss) (n ∷ ns) =
     let rest = scales_make_none ss ns in
     created-append (scale s n) (scale_each ss ns) ∙ omega arith
 
-deletes_make_none : (ss : Members) → created (map delete_set ss) ≡ 0
+deletes_make_none : (ss : Entries) → created (map delete_set ss) ≡ 0
 deletes_make_none [] = refl
 deletes_make_none (s ∷ ss) = deletes_make_none ss
 
@@ -137,7 +137,7 @@ makes_at_most_one r =
       forgets = at_most_one (created (forget (limit_of r.deployment) r.old)) (deletes_make_none (filter (λ (s : Key × Data). is_spent s.1) (all_but_last (limit_of r.deployment) (history r.old))));
     }
 
-goes_on_at_most_one : (r : Rollout) (pods : Members) → created (go_on r pods ++ report r) ≤ 1
+goes_on_at_most_one : (r : Rollout) (pods : Entries) → created (go_on r pods ++ report r) ≤ 1
 goes_on_at_most_one r pods =
     let one = gone_on (λ cs. created cs ≤ 1) r pods (makes_at_most_one r) in
     let none = reported (λ cs. created cs ≡ 0) r refl (λ d. refl) in
@@ -199,16 +199,16 @@ spent d e =
     (eqb-true (replicas d) 0 gone.0, eqb-true (count_in_status (codes "replicas") d) 0 gone.1)
 
 -- what is known of sets that are forgotten
-abbrev Known : ℕ → Members → Key × Data → Type 0
+abbrev Known : ℕ → Entries → Key × Data → Type 0
 Known limit old s = Contains old s × Contains (all_but_last limit (history old)) s
 
-deletes_known : (limit : ℕ) (old ss : Members) → AllByRecursion (λ (s : Key × Data). Known limit old s × (is_spent s.1 ≡ true)) ss → AllByRecursion (DeletesSpent limit old) (map delete_set ss)
+deletes_known : (limit : ℕ) (old ss : Entries) → AllByRecursion (λ (s : Key × Data). Known limit old s × (is_spent s.1 ≡ true)) ss → AllByRecursion (DeletesSpent limit old) (map delete_set ss)
 deletes_known limit old [] h = tt
 deletes_known limit old (s ∷ ss) h =
     let none = spent s.1 h.0.1 in
     ((s.1, h.0.0.0, h.0.0.1, refl, none.0, none.1), deletes_known limit old ss h.1)
 
-forgets_spent : (limit : ℕ) (old : Members) → AllByRecursion (DeletesSpent limit old) (forget limit old)
+forgets_spent : (limit : ℕ) (old : Entries) → AllByRecursion (DeletesSpent limit old) (forget limit old)
 forgets_spent limit old =
     let there = filter (λ (s : Key × Data). not (is_being_deleted s.1)) old in
     let going = all_but_last limit (history old) in
@@ -219,17 +219,17 @@ forgets_spent limit old =
     deletes_known limit old (filter (λ (s : Key × Data). is_spent s.1) going)
     (kept (Known limit old) (λ (s : Key × Data). is_spent s.1) going (all_both (Contains old) (Contains going) going are_old are_going))
 
-update_spares : (limit : ℕ) (old : Members) (b : Bool) (k : Key) (d : Data) → AllByRecursion (DeletesSpent limit old) (if b then [] else update k d ∷ [])
+update_spares : (limit : ℕ) (old : Entries) (b : Bool) (k : Key) (d : Data) → AllByRecursion (DeletesSpent limit old) (if b then [] else update k d ∷ [])
 update_spares limit old true k d = tt
 update_spares limit old false k d = (tt, tt)
 
-scales_spare : (limit : ℕ) (old ss : Members) (ns : List ℕ) → AllByRecursion (DeletesSpent limit old) (scale_each ss ns)
+scales_spare : (limit : ℕ) (old ss : Entries) (ns : List ℕ) → AllByRecursion (DeletesSpent limit old) (scale_each ss ns)
 scales_spare limit old [] ns = tt
 scales_spare limit old (s ∷ ss) [] = tt
 scales_spare limit old (s ∷ ss) (n ∷ ns) =
     all_joined (DeletesSpent limit old) (scale s n) (scale_each ss ns) (update_spares limit old (replicas s.1 == n) s.0 (with_replicas n s.1)) (scales_spare limit old ss ns)
 
-renew_spares : (limit : ℕ) (old : Members) (s : Key × Data) (n due : ℕ) → AllByRecursion (DeletesSpent limit old) (renew s n due)
+renew_spares : (limit : ℕ) (old : Entries) (s : Key × Data) (n due : ℕ) → AllByRecursion (DeletesSpent limit old) (renew s n due)
 renew_spares limit old s n due = update_spares limit old ((replicas s.1 == n) && not (nat_lt (revision s.1) due)) s.0 (with_replicas n (raised due s.1))
 
 deletes_spent : (r : Rollout) → Parts (AllByRecursion (DeletesSpent (limit_of r.deployment) r.old)) r
@@ -254,7 +254,7 @@ only_spent_sets_are_deleted h d e =
 
 -- ---- which stay
 
-below : (old : Members) (s k : Key × Data) → is_lt (on (λ (x : Key × Data). revision x.1) nat_cmp k s) ≡ false → revision s.1 ≤ revision k.1
+below : (old : Entries) (s k : Key × Data) → is_lt (on (λ (x : Key × Data). revision x.1) nat_cmp k s) ≡ false → revision s.1 ≤ revision k.1
 below old s k e = ge_from_not_lt (revision k.1) (revision s.1) e
 
 pub latest_revisions_stay : LatestRevisionsStay

@@ -9,7 +9,7 @@ use Rattle.laws.specs.IdentityLaws.{Each}
 use Rattle.laws.specs.LifecycleLaws.{OfRemoved, IfRemoved}
 use Rattle.laws.proofs.Removals.{last_removes}
 use Rattle.controllers.specs.Commands.{Command, create, update, update_status, delete}
-use Rattle.plans.specs.Collections.{plan}
+use Rattle.plans.specs.GarbageCollection.{plan}
 use Rattle.plan_laws.specs.CollectorLaws.{Finishes, CollectorUpdatesOnlyFinish}
 
 weaker : (h : History) (o : Outcome) (P Q : Key → Data → Type 0) → ((k : Key) (d : Data) → P k d → Q k d) → OfRemoved h o P → OfRemoved h o Q

@@ -6,7 +6,7 @@ use Rattle.serde_json.specs.Data.{Data}
 use Rattle.definitions.specs.declared.policies.Policy.TheVariants.{Foreground}
 use Rattle.definitions.specs.Checks.{finalizers, has_text}
 use Rattle.definitions.specs.Deletion.{orphan, foreground}
-use Rattle.definitions.specs.History.{Members}
+use Rattle.definitions.specs.History.{Entries}
 use Rattle.definitions.specs.Keys.{Key}
 use Rattle.definitions.specs.Metadata.{Owner, owners, uid, is_being_deleted}
 use Rattle.laws.specs.IdentityLaws.{Each}
@@ -14,7 +14,7 @@ use Rattle.controllers.specs.Commands.{Command, update, delete, answered}
 use Rattle.controllers.specs.Hands.{Hand, Read, live}
 use Rattle.controllers.specs.OwnerReferences.{owner_key, namespace_of}
 use Rattle.plans.specs.declared.standing.Standing.TheVariants.{Solid, Waiting, Dangling}
-use Rattle.plans.specs.Collections.{plan_for, finish, collect, orphaned, is_blocked, remove, remove_after, own_policy, is_between}
+use Rattle.plans.specs.GarbageCollection.{plan_for, finish, collect, orphaned, is_blocked, remove, remove_after, own_policy, is_between}
 use Rattle.plans.specs.MetadataEdits.{without_finalizer, keeping_owners, blocking_nobody}
 use Rattle.plans.specs.Standings.{is_to, standing, standing_of, standing_at, standings, is_solid, waits_for_dependents, dependents}
 use Rattle.plan_laws.specs.CollectorLaws.{IsGone, WasGone, IsOfGarbage, PlansDeleteGarbage}
@@ -46,7 +46,7 @@ module _ (h : Hand) (d : Data) where
   abbrev G : List Command → Type 0
   G cs = Each (IsOfGarbage h d) cs
 
-  updates_alone : (ms : Members) (k : Key) (e : Data) → G (orphaned d ms ++ update k e ∷ [])
+  updates_alone : (ms : Entries) (k : Key) (e : Data) → G (orphaned d ms ++ update k e ∷ [])
   updates_alone [] k e = (tt, tt)
   updates_alone (m ∷ ms) k e = (tt, updates_alone ms k e)
 
@@ -54,7 +54,7 @@ module _ (h : Hand) (d : Data) where
   once_free true e = (tt, tt)
   once_free false e = tt
 
-  finished : (b : Bool) (ms : Members) (c : Bool) → G (cond b (orphaned d ms ++ update h.key (without_finalizer orphan d) ∷ []) (cond c (update h.key (without_finalizer foreground d) ∷ []) []))
+  finished : (b : Bool) (ms : Entries) (c : Bool) → G (cond b (orphaned d ms ++ update h.key (without_finalizer orphan d) ∷ []) (cond c (update h.key (without_finalizer foreground d) ∷ []) []))
   finished true ms c = updates_alone ms h.key (without_finalizer orphan d)
   finished false ms c = once_free c (without_finalizer foreground d)
 
@@ -69,14 +69,14 @@ module _ (h : Hand) (d : Data) where
   removed_after true some none = (tt, ((refl, refl, inr refl, some, none), tt))
   removed_after false some none = ((refl, refl, inl refl, some, none), tt)
 
-  collected : (a b c : Bool) (ms : Members) → list_all is_solid (standings h.reads d) ≡ a → list_any is_solid (standings h.reads d) ≡ b
+  collected : (a b c : Bool) (ms : Entries) → list_all is_solid (standings h.reads d) ≡ a → list_any is_solid (standings h.reads d) ≡ b
       → G (cond a [] (cond b (update h.key (keeping_owners (λ o. is_solid (standing h.reads (namespace_of d) o)) d) ∷ []) (cond c (remove_after h.key d ms) (remove h.key d (own_policy d)))))
   collected true b c ms all any = tt
   collected false true c ms all any = (tt, tt)
   collected false false true ms all any = removed_after (list_any (λ m. waits_for_dependents m.1) ms) (some_owner all) (all_gone h.reads (namespace_of d) (owners d) any)
   collected false false false ms all any = ((refl, refl, inl refl, some_owner all, all_gone h.reads (namespace_of d) (owners d) any), tt)
 
-  planned : (b : Bool) (ms : Members) → G (cond b (finish h.key d ms) (collect h.reads h.key d ms))
+  planned : (b : Bool) (ms : Entries) → G (cond b (finish h.key d ms) (collect h.reads h.key d ms))
   planned true ms = finished (has_text (finalizers d) orphan) ms (has_text (finalizers d) foreground && not (is_blocked d ms))
   planned false ms = collected (list_all is_solid (standings h.reads d)) (list_any is_solid (standings h.reads d)) (is_between (standings h.reads d) ms) ms refl refl
 

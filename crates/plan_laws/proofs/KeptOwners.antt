@@ -8,10 +8,10 @@ use Rattle.definitions.proofs.VerbSteps.{with_defaults}
 use Rattle.definitions.proofs.JsonMembers.{apart, get_member-without_other, metadata_of-with}
 use Rattle.definitions.specs.declared.kinds.Kind.{Kind}
 use Rattle.definitions.specs.Defaults.{defaulted}
-use Rattle.definitions.specs.History.{members, present}
+use Rattle.definitions.specs.History.{entries_at, present}
 use Rattle.definitions.specs.Metadata.{Owner, owners, owners_in, metadata, metadata_of, with_metadata}
 use Rattle.definitions.specs.Reading.{reading}
-use Rattle.definitions.specs.Replacements.{as_held, keeping, kept, kept_of, in_place, updated}
+use Rattle.definitions.specs.Replacements.{as_stored, keeping, unchanged_metadata, unchanged_members, in_place, updated}
 use Rattle.definitions.specs.SelectorValues.{items_in}
 use Rattle.definitions.specs.Values.{members_of}
 use Rattle.definitions.specs.Verbs.{object_in}
@@ -58,25 +58,25 @@ cut_reads k d read some = reads_from k d (metadata refs d) refl read some
 
 -- ---- what an update leaves to the body
 
-held_other : (q : List ℕ) (o : Option Data) (ms : Members) → bytes_eq refs q ≡ false → get_member refs (as_held q o ms) ≡ get_member refs ms
+held_other : (q : List ℕ) (o : Option Data) (ms : Members) → bytes_eq refs q ≡ false → get_member refs (as_stored q o ms) ≡ get_member refs ms
 held_other q None ms other = get_member-without_other refs q ms other
 held_other q (Some e) ms other = get_member-put_other refs q e ms (apart refs q other)
 
 kept_other : (qs : List (List ℕ)) (existing ms : Members) → Each (λ q. bytes_eq refs q ≡ false) qs → get_member refs (keeping qs existing ms) ≡ get_member refs ms
 kept_other [] existing ms e = refl
-kept_other (q ∷ qs) existing ms e = kept_other qs existing (as_held q (get_member q existing) ms) e.1 ∙ held_other q (get_member q existing) ms e.0
+kept_other (q ∷ qs) existing ms e = kept_other qs existing (as_stored q (get_member q existing) ms) e.1 ∙ held_other q (get_member q existing) ms e.0
 
 said_owners : (k : Kind) (r : ℕ) (existing o : Data) → metadata refs (updated k r existing (in_place k existing o)) ≡ metadata refs o
 said_owners k r existing o =
-    let meta = keeping kept (metadata_of existing) (metadata_of o) in
+    let meta = keeping unchanged_metadata (metadata_of existing) (metadata_of o) in
     member-updated refs k r existing (in_place k existing o) refl refl
-    ∙ ap (get_member refs) (metadata_of-with meta (object (keeping (kept_of k) (members_of existing) (members_of o))))
-    ∙ kept_other kept (metadata_of existing) (metadata_of o) (refl, (refl, (refl, (refl, (refl, (refl, tt))))))
+    ∙ ap (get_member refs) (metadata_of-with meta (object (keeping (unchanged_members k) (members_of existing) (members_of o))))
+    ∙ kept_other unchanged_metadata (metadata_of existing) (metadata_of o) (refl, (refl, (refl, (refl, (refl, (refl, tt))))))
 
 pub cuts_keep : CutsKeepOwners
 cuts_keep k d h moment read some =
     let b = blocking_nobody d in
-    of_update (λ u. OfStored u (λ n new. EachAlike (owners new) (owners d))) (λ f. tt) (λ shown. tt) k (object_in k.kind b) (members h (present h)) (present h)
+    of_update (λ u. OfStored u (λ n new. EachAlike (owners new) (owners d))) (λ f. tt) (λ shown. tt) k (object_in k.kind b) (entries_at h (present h)) (present h)
     (λ o existing is at equal valid fits low.
     let one : o ≡ defaulted k.kind b = one_object (object_in k.kind b) o (defaulted k.kind b) is (ap (with_defaults k.kind) (cut_reads k.kind d read some)) in
     let same : metadata refs (updated k.kind (present h + 1) existing (in_place k.kind existing o)) ≡ metadata refs b =

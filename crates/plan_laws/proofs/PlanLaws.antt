@@ -8,7 +8,7 @@ use Rattle.std.specs.List.{AllByRecursion, Contains}
 use Rattle.std.specs.List.Sorted.{IsPermutation}
 use Rattle.serde_json.specs.Data.{Data}
 use Rattle.definitions.specs.declared.kinds.Kind.TheVariants.{Pod}
-use Rattle.definitions.specs.History.{Members}
+use Rattle.definitions.specs.History.{Entries}
 use Rattle.definitions.specs.Keys.{Key}
 use Rattle.definitions.specs.Metadata.{is_being_deleted}
 use Rattle.controllers.specs.Commands.{Command, create, update, update_status}
@@ -82,44 +82,44 @@ expected_pods_are_awaited h e =
 
 -- ---- which
 
-claim_own : (pods : Members) (b c : Bool) (k : Key) (d e : Data) → AllByRecursion (DeletesOwn pods) (if b then update k d ∷ [] else (if c then update k e ∷ [] else []))
+claim_own : (pods : Entries) (b c : Bool) (k : Key) (d e : Data) → AllByRecursion (DeletesOwn pods) (if b then update k d ∷ [] else (if c then update k e ∷ [] else []))
 claim_own pods true c k d e = (tt, tt)
 claim_own pods false true k d e = (tt, tt)
 claim_own pods false false k d e = tt
 
-claims_own : (pods : Members) (k : Key) (set : Data) (m : Bool) (ps : Members) → AllByRecursion (DeletesOwn pods) (claims k set m ps)
+claims_own : (pods : Entries) (k : Key) (set : Data) (m : Bool) (ps : Entries) → AllByRecursion (DeletesOwn pods) (claims k set m ps)
 claims_own pods k set m [] = tt
 claims_own pods k set m (p ∷ ps) =
     all_joined (DeletesOwn pods) (claim k set m p) (claims k set m ps)
     (claim_own pods (is_released set p.1) (m && is_adoptable set p.1) p.0 (released set p.1) (adopted k set p.1)) (claims_own pods k set m ps)
 
-report_own : (pods : Members) (b : Bool) (k : Key) (d : Data) → AllByRecursion (DeletesOwn pods) (if b then [] else update_status k d ∷ [])
+report_own : (pods : Entries) (b : Bool) (k : Key) (d : Data) → AllByRecursion (DeletesOwn pods) (if b then [] else update_status k d ∷ [])
 report_own pods true k d = tt
 report_own pods false k d = (tt, tt)
 
-creates_own : (pods : Members) (n : ℕ) (ns : List ℕ) (d : Data) → AllByRecursion (DeletesOwn pods) (replicate n (create Pod ns d))
+creates_own : (pods : Entries) (n : ℕ) (ns : List ℕ) (d : Data) → AllByRecursion (DeletesOwn pods) (replicate n (create Pod ns d))
 creates_own pods zero ns d = tt
 creates_own pods (suc n) ns d = (tt, creates_own pods n ns d)
 
-deletes_own : (pods ps : Members) → AllByRecursion (Contains pods) ps → AllByRecursion (DeletesOwn pods) (map delete_pod ps)
+deletes_own : (pods ps : Entries) → AllByRecursion (Contains pods) ps → AllByRecursion (DeletesOwn pods) (map delete_pod ps)
 deletes_own pods [] h = tt
 deletes_own pods (p ∷ ps) h = ((p.1, h.0, refl), deletes_own pods ps h.1)
 
-victims_own : (wanted : ℕ) (pods : Members) → AllByRecursion (Contains pods) (victims wanted pods)
+victims_own : (wanted : ℕ) (pods : Entries) → AllByRecursion (Contains pods) (victims wanted pods)
 victims_own wanted pods =
     all_taken (Contains pods) (surplus wanted pods) (ranked pods)
     (all_contained (Contains pods) (ranked pods) (λ z k. Contains-permutation (ranked pods) pods z (IsPermutation-sym pods (ranked pods) (ranked_permutes pods)) k))
 
-scale_own : (k : Key) (set : Data) (pods : Members) → AllByRecursion (DeletesOwn pods) (scale k set pods)
+scale_own : (k : Key) (set : Data) (pods : Entries) → AllByRecursion (DeletesOwn pods) (scale k set pods)
 scale_own k set pods =
     all_joined (DeletesOwn pods) (replicate (missing (replicas set) pods) (create Pod k.namespace (new_pod k set))) (map delete_pod (victims (replicas set) pods))
     (creates_own pods (missing (replicas set) pods) k.namespace (new_pod k set)) (deletes_own pods (victims (replicas set) pods) (victims_own (replicas set) pods))
 
-scale_if_own : (b : Bool) (pods : Members) (cs : List Command) → AllByRecursion (DeletesOwn pods) cs → AllByRecursion (DeletesOwn pods) (if b then cs else [])
+scale_if_own : (b : Bool) (pods : Entries) (cs : List Command) → AllByRecursion (DeletesOwn pods) cs → AllByRecursion (DeletesOwn pods) (if b then cs else [])
 scale_if_own true pods cs h = h
 scale_if_own false pods cs h = tt
 
-plan_own : (s : Bool) (k : Key) (set : Data) (m : Bool) (ps : Members) → AllByRecursion (DeletesOwn (own_pods set m ps)) (plan_with s k set m ps)
+plan_own : (s : Bool) (k : Key) (set : Data) (m : Bool) (ps : Entries) → AllByRecursion (DeletesOwn (own_pods set m ps)) (plan_with s k set m ps)
 plan_own s k set m ps =
     let pods = own_pods set m ps in
     all_joined (DeletesOwn pods) (claims k set m ps) (scale_if s k set pods ++ report k set pods) (claims_own pods k set m ps)

@@ -12,7 +12,7 @@ use Rattle.definitions.specs.Keys.{Key, is_same_key}
 use Rattle.definitions.specs.Metadata.{Owner, owners, uid, version, is_being_deleted, metadata_text}
 use Rattle.definitions.specs.ObjectRequests.{delete_object}
 use Rattle.definitions.specs.Reached.{IsReached}
-use Rattle.definitions.specs.SelectorValues.{passes}
+use Rattle.definitions.specs.SelectorValues.{is_some_and}
 use Rattle.definitions.specs.Uids.{uid_text, cluster_word}
 use Rattle.definitions.specs.Verbs.{accept, write_of}
 use Rattle.definitions.proofs.PutLaws.{same_name}
@@ -28,7 +28,7 @@ use Rattle.laws.proofs.Versions.{tells, names_one}
 use Rattle.controllers.specs.Commands.{Command, create, update, update_status, delete, Version, seen, answered, version_named}
 use Rattle.controllers.specs.Hands.{Hand, Read, live, is_read, each_once, unread}
 use Rattle.controllers.specs.OwnerReferences.{is_text, owner_key, owner_keys, namespace_of}
-use Rattle.plans.specs.Collections.{plan, owner_keys_if}
+use Rattle.plans.specs.GarbageCollection.{plan, owner_keys_if}
 use Rattle.plans.specs.Standings.{is_to}
 use Rattle.plan_laws.specs.CollectorLaws.{IsGone, WasGone, IsOfGarbage, EachAlike, IsReadSince, OwnerIsGone, HasNoLiveOwner, Spares, IsLaterVersion, CollectorSparesLiveOwners}
 use Rattle.plan_laws.proofs.Garbage.{garbage}
@@ -93,9 +93,9 @@ module _ (h : History) (reached : IsReached h) (r : ℕ) where
       let early : c ≤ r - 1 = leb-true c (r - 1) p in
       let stood = since s (omega (arith, early, from)) upto in
       let was_gone : is_to stood.0 o ≡ true → is_being_deleted stood.0 ≡ true = subst (IsGone o) stood.1 gone in
-      stays (metadata_text (codes "deletionTimestamp") stood.0) (metadata_text (codes "deletionTimestamp") d) stood.3 (was_gone (ap (passes (λ u. is_text u o.uid)) stood.2 ∙ one))
+      stays (metadata_text (codes "deletionTimestamp") stood.0) (metadata_text (codes "deletionTimestamp") d) stood.3 (was_gone (ap (is_some_and (λ u. is_text u o.uid)) stood.2 ∙ one))
   still_by o k s d from upto known gone one c le is since false p =
-      absurd (not_later o c known (one_text (uid_text cluster_word c) o.uid (ap (passes (λ u. is_text u o.uid)) (sym is) ∙ one)) le (leb-false c (r - 1) p))
+      absurd (not_later o c known (one_text (uid_text cluster_word c) o.uid (ap (is_some_and (λ u. is_text u o.uid)) (sym is) ∙ one)) le (leb-false c (r - 1) p))
 
   still : (o : Owner) (k : Key) (s : ℕ) → r ≤ s → s ≤ present h → IsKnown (r - 1) o → IsGone o (state h s k) → (d : Data) → state h (present h) k ≡ Some d → is_to d o ≡ true → is_being_deleted d ≡ true
   still o k s from upto known gone d at one =

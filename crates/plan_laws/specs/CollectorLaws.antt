@@ -11,10 +11,10 @@ use Rattle.definitions.specs.Verbs.{accept, write_of}
 use Rattle.laws.specs.HistoryLaws.{OfStored}
 use Rattle.laws.specs.IdentityLaws.{Each}
 use Rattle.laws.specs.LifecycleLaws.{OfRemoved}
-use Rattle.controllers.specs.Commands.{Command, update, delete, seen, answered, version_named, asked}
+use Rattle.controllers.specs.Commands.{Command, update, delete, seen, answered, version_named, request_of}
 use Rattle.controllers.specs.Hands.{Hand, Read, live}
 use Rattle.controllers.specs.OwnerReferences.{owner_key, namespace_of}
-use Rattle.plans.specs.Collections.{asks, plan}
+use Rattle.plans.specs.GarbageCollection.{asks, plan}
 use Rattle.plans.specs.MetadataEdits.{blocking_nobody}
 use Rattle.plans.specs.Standings.{is_to}
 
@@ -87,7 +87,7 @@ HasNoLiveOwner h k =
 -- a delete that names a version, where it takes effect, finds an object without a live owner
 abbrev pub Spares : History → List ℕ → Option (List ℕ) → Key → Command → Type 0
 Spares h moment before item (delete k u v p) =
-    is_some (version_named before v) ≡ true → IfSome (write_of (accept (asked before (delete k u v p)) h moment)) (λ w. HasNoLiveOwner h item)
+    is_some (version_named before v) ≡ true → IfSome (write_of (accept (request_of before (delete k u v p)) h moment)) (λ w. HasNoLiveOwner h item)
 Spares h moment before item c = Unit {0}
 
 -- this version, if one is given, is that of a later state of an object, with the same owners

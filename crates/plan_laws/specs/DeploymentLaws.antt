@@ -5,7 +5,7 @@ use Rattle.std.specs.List.{AllByRecursion, Contains}
 use Rattle.std.specs.Ordering.{nat_cmp, is_le}
 use Rattle.serde_json.specs.Data.{Data}
 use Rattle.definitions.specs.declared.amounts.Amount.TheVariants.{Percent}
-use Rattle.definitions.specs.History.{Members, found}
+use Rattle.definitions.specs.History.{Entries, found}
 use Rattle.definitions.specs.Keys.{Key}
 use Rattle.definitions.specs.Metadata.{uid, version}
 use Rattle.controllers.specs.Commands.{Command, update_status, delete}
@@ -115,7 +115,7 @@ abbrev pub WaitingOnesReport : Type 0
 WaitingOnesReport = (h : Hand) (d : Data) → found h.key h.looks.deployments ≡ Some d → is_going_on d ≡ false → IsAtMostStatus h.key (plan h)
 
 -- the old sets of a Deployment that was looked at
-abbrev pub old_of : Hand → Data → Members
+abbrev pub old_of : Hand → Data → Entries
 old_of h d = (rollout h.key d h.looks.replica_sets).old
 
 -- how many of them are to stay, whatever they have
@@ -123,7 +123,7 @@ abbrev pub limit_of : Data → ℕ
 limit_of d = count_in_spec (codes "revisionHistoryLimit") d
 
 -- a delete names, by its uid, one of the old sets with no pods asked for and none there, and none of the last so many
-abbrev pub DeletesSpent : ℕ → Members → Command → Type 0
+abbrev pub DeletesSpent : ℕ → Entries → Command → Type 0
 DeletesSpent limit old (delete k u v p) =
     (s : Data) × Contains old (k, s) × Contains (all_but_last limit (history old)) (k, s) × (u ≡ uid s) × (replicas s ≡ 0) × (count_in_status (codes "replicas") s ≡ 0)
 DeletesSpent limit old c = Unit {0}
@@ -133,12 +133,12 @@ OnlySpentSetsAreDeleted =
     (h : Hand) (d : Data) → found h.key h.looks.deployments ≡ Some d → AllByRecursion (DeletesSpent (limit_of d) (old_of h d)) (plan h)
 
 -- the last so many by revision
-abbrev pub latest : ℕ → Members → Members
+abbrev pub latest : ℕ → Entries → Entries
 latest limit old = drop (length (history old) - limit) (history old)
 
 -- of the others none is of a higher revision than one of these; and these are as many as that, or all
 abbrev pub LatestRevisionsStay : Type 0
 LatestRevisionsStay =
-    (limit : ℕ) (old : Members)
+    (limit : ℕ) (old : Entries)
     → AllByRecursion (λ s. AllByRecursion (λ kept. revision s.1 ≤ revision kept.1) (latest limit old)) (all_but_last limit (history old))
     × (length (latest limit old) ≡ min limit (length (history old)))

@@ -6,7 +6,7 @@ use Rattle.std.specs.List.Sorted.{IsPermutation}
 use Rattle.std.specs.Ordering.{is_lt}
 use Rattle.std.specs.declared.cmp.Ordering.TheVariants.{Equal}
 use Rattle.serde_json.specs.Data.{Data}
-use Rattle.definitions.specs.History.{Members}
+use Rattle.definitions.specs.History.{Entries}
 use Rattle.definitions.specs.Metadata.{uid}
 use Rattle.controllers.specs.Commands.{Command, create, delete}
 use Rattle.controllers.specs.Hands.{Hand, live}
@@ -29,11 +29,11 @@ deleted (delete k u v p ∷ cs) = suc (deleted cs)
 deleted (c ∷ cs) = deleted cs
 
 -- the pods that the set owns or adopts
-abbrev pub own : Hand → Data → Members
+abbrev pub own : Hand → Data → Entries
 own h set = own_pods set (may_adopt set (live h.reads h.key)) (pods_looked_at h)
 
 -- what is deleted is one of these pods, by its uid
-abbrev pub DeletesOwn : Members → Command → Type 0
+abbrev pub DeletesOwn : Entries → Command → Type 0
 DeletesOwn pods (delete k u v p) = (d : Data) × Contains pods (k, d) × (u ≡ uid d)
 DeletesOwn pods c = Unit {0}
 
@@ -70,17 +70,17 @@ GoneSetsAreLeft = (h : Hand) → set_looked_at h ≡ None → plan h ≡ []
 -- ---- laws of those that are deleted
 
 -- the pods that stay
-abbrev pub staying : ℕ → Members → Members
+abbrev pub staying : ℕ → Entries → Entries
 staying wanted pods = drop (surplus wanted pods) (ranked pods)
 
 -- no pod that stays ranks before one that is deleted
 abbrev pub LowestGo : Type 0
 LowestGo =
-    (wanted : ℕ) (pods : Members) → AllByRecursion (λ v. AllByRecursion (λ p. is_lt (rank_cmp (rank pods p) (rank pods v)) ≡ false) (staying wanted pods)) (victims wanted pods)
+    (wanted : ℕ) (pods : Entries) → AllByRecursion (λ v. AllByRecursion (λ p. is_lt (rank_cmp (rank pods p) (rank pods v)) ≡ false) (staying wanted pods)) (victims wanted pods)
 
 -- each pod is deleted or stays, once; and as many are deleted as are too many, up to 500
 abbrev pub PodsGoOrStay : Type 0
-PodsGoOrStay = (wanted : ℕ) (pods : Members) → IsPermutation pods (victims wanted pods ++ staying wanted pods) × (length (victims wanted pods) ≡ surplus wanted pods)
+PodsGoOrStay = (wanted : ℕ) (pods : Entries) → IsPermutation pods (victims wanted pods ++ staying wanted pods) × (length (victims wanted pods) ≡ surplus wanted pods)
 
 -- of two pods with different keys one ranks before the other
 abbrev pub RanksAreTotal : Type 0

@@ -11,12 +11,12 @@ use Rattle.definitions.specs.declared.amounts.Amount.{Amount}
 use Rattle.definitions.specs.declared.amounts.Amount.TheVariants.{Pods}
 use Rattle.definitions.specs.declared.kinds.Kind.TheVariants.{ReplicaSet}
 use Rattle.definitions.specs.Checks.{amount, in_spec}
-use Rattle.definitions.specs.Defaults.{whole, is_rolling_update}
-use Rattle.definitions.specs.History.{Members, found}
+use Rattle.definitions.specs.Defaults.{unsigned_value, is_rolling_update}
+use Rattle.definitions.specs.History.{Entries, found}
 use Rattle.definitions.specs.Keys.{Key, key_cmp}
 use Rattle.definitions.specs.Metadata.{is_being_deleted, uid}
 use Rattle.definitions.specs.Replacements.{generation}
-use Rattle.definitions.specs.SelectorValues.{passes}
+use Rattle.definitions.specs.SelectorValues.{is_some_and}
 use Rattle.definitions.specs.Values.{inner_of, members_of}
 use Rattle.controllers.specs.Commands.{Command, create, update, update_status, delete}
 use Rattle.controllers.specs.Hands.{Hand}
@@ -40,32 +40,32 @@ use Rattle.plans.specs.declared.rollouts.Tally.{Tally}
 
 -- whether a controller reference has the owner's uid
 abbrev pub is_managed_by : Data → Data → Bool
-is_managed_by owner d = passes (λ u. is_controlled_by u d) (uid owner)
+is_managed_by owner d = is_some_and (λ u. is_controlled_by u d) (uid owner)
 
 -- the objects of a namespace of which an object is the controller
-abbrev pub managed : List ℕ → Data → Members → Members
+abbrev pub managed : List ℕ → Data → Entries → Entries
 managed ns owner ms = filter (λ m. is_managed_by owner m.1) (of_namespace ns ms)
 
 -- by creationTimestamp, then by name
 abbrev pub age_cmp : Key × Data → Key × Data → Ordering
 age_cmp = then_cmp (on (λ (s : Key × Data). creation s.1) (slice_cmp nat_cmp)) (on (λ (s : Key × Data). s.0) key_cmp)
 
-abbrev pub sets_of : Key → Data → Members → Members
+abbrev pub sets_of : Key → Data → Entries → Entries
 sets_of k d ms = in_order age_cmp (managed k.namespace d ms)
 
 abbrev pub has_its_template : Data → Key × Data → Bool
 has_its_template d s = is_same_template (template d) (template s.1)
 
 -- the first with the Deployment's template is the new one
-abbrev pub new_set : Data → Members → Option (Key × Data)
+abbrev pub new_set : Data → Entries → Option (Key × Data)
 new_set d sets = find (has_its_template d) sets
 
 -- the others are old
-abbrev pub without_first : (Key × Data → Bool) → Members → Members
+abbrev pub without_first : (Key × Data → Bool) → Entries → Entries
 without_first test [] = []
 without_first test (s ∷ ss) = if test s then ss else s ∷ without_first test ss
 
-abbrev pub old_sets : Data → Members → Members
+abbrev pub old_sets : Data → Entries → Entries
 old_sets d sets = without_first (has_its_template d) sets
 
 -- a Deployment with its sets
@@ -73,27 +73,27 @@ pub record Rollout : Type 0 where
   pub key : Key
   pub deployment : Data
   pub new : Option (Key × Data)
-  pub old : Members
+  pub old : Entries
 
-abbrev pub rollout_of : Key → Data → Members → Rollout
+abbrev pub rollout_of : Key → Data → Entries → Rollout
 rollout_of k d sets = record { key = k; deployment = d; new = new_set d sets; old = old_sets d sets }
 
-abbrev pub rollout : Key → Data → Members → Rollout
+abbrev pub rollout : Key → Data → Entries → Rollout
 rollout k d ms = rollout_of k d (sets_of k d ms)
 
-abbrev pub and_old : Option (Key × Data) → Members → Members
+abbrev pub and_old : Option (Key × Data) → Entries → Entries
 and_old None old = old
 and_old (Some new) old = new ∷ old
 
 -- all its sets, the new one first
-abbrev pub sets : Rollout → Members
+abbrev pub sets : Rollout → Entries
 sets r = and_old r.new r.old
 
 abbrev pub tally : Key × Data → Tally
 tally s = record { replicas = replicas s.1; available = count_in_status (codes "availableReplicas") s.1 }
 
 -- how many pods sets are to have
-abbrev pub asked_by : Members → ℕ
+abbrev pub asked_by : Entries → ℕ
 asked_by ss = total (asked (map tally ss))
 
 -- the revision that is due to the new set: the one after those of the old sets
@@ -112,13 +112,13 @@ pace_of d = pace (replicas d) (rolling_amount (codes "maxSurge") d) (rolling_amo
 -- ---- sets made and scaled; an update names the version that was looked at, as the set does
 
 abbrev pub with_replicas : ℕ → Data → Data
-with_replicas n d = object (put (codes "spec") (object (put (codes "replicas") (whole n) (inner_of (get (codes "spec") d)))) (members_of d))
+with_replicas n d = object (put (codes "spec") (object (put (codes "replicas") (unsigned_value n) (inner_of (get (codes "spec") d)))) (members_of d))
 
 -- a set is updated where it is to have another number of pods
 abbrev pub scale : Key × Data → ℕ → List Command
 scale s n = if replicas s.1 == n then [] else update s.0 (with_replicas n s.1) ∷ []
 
-abbrev pub scale_each : Members → List ℕ → List Command
+abbrev pub scale_each : Entries → List ℕ → List Command
 scale_each [] ns = []
 scale_each (s ∷ ss) [] = []
 scale_each (s ∷ ss) (n ∷ ns) = scale s n ++ scale_each ss ns
@@ -153,7 +153,7 @@ first_of (c ∷ cs) later = c ∷ cs
 
 -- ---- the status (Kubernetes, Deployments, Deployment status)
 
-abbrev pub sum_of : List ℕ → Members → ℕ
+abbrev pub sum_of : List ℕ → Entries → ℕ
 sum_of k ss = total (map (λ (s : Key × Data). count_in_status k s.1) ss)
 
 -- how many pods the new set has
@@ -174,7 +174,7 @@ summary r =
 
 -- a count as a value; 64 bits hold every one that servers store
 abbrev pub counted : ℕ → Data
-counted n = whole (min n (2 ^ 64 - 1))
+counted n = unsigned_value (min n (2 ^ 64 - 1))
 
 abbrev pub with_summary : Summary → Fields → Fields
 with_summary c ms =
@@ -195,10 +195,10 @@ abbrev pub is_spent : Data → Bool
 is_spent d = (replicas d == 0) && (count_in_status (codes "replicas") d == 0) && nat_le (generation d) (count_in_status (codes "observedGeneration") d)
 
 -- the old sets that are not being deleted, by revision; of one revision, by age
-abbrev pub history : Members → Members
+abbrev pub history : Entries → Entries
 history old = in_order (on (λ (s : Key × Data). revision s.1) nat_cmp) (filter (λ (s : Key × Data). not (is_being_deleted s.1)) old)
 
-abbrev pub all_but_last : ℕ → Members → Members
+abbrev pub all_but_last : ℕ → Entries → Entries
 all_but_last n ss = take (length ss - n) ss
 
 -- a set is deleted by its uid, so that no other of its name is
@@ -206,7 +206,7 @@ abbrev pub delete_set : Key × Data → Command
 delete_set s = delete s.0 (uid s.1) None None
 
 -- of all but the last so many, those that are spent are deleted
-abbrev pub forget : ℕ → Members → List Command
+abbrev pub forget : ℕ → Entries → List Command
 forget limit old = map delete_set (filter (λ (s : Key × Data). is_spent s.1) (all_but_last limit (history old)))
 
 -- all that are wanted are there, of the new template and available
@@ -234,7 +234,7 @@ abbrev pub is_over : Data → Bool
 is_over pod = bytes_eq (phase pod) (codes "Succeeded") || bytes_eq (phase pod) (codes "Failed")
 
 -- whether one of the set's pods is not over
-abbrev pub has_running_pods : List ℕ → Members → Key × Data → Bool
+abbrev pub has_running_pods : List ℕ → Entries → Key × Data → Bool
 has_running_pods ns pods s = list_any (λ (p : Key × Data). not (is_over p.1)) (managed ns s.1 pods)
 
 -- the new set gets all pods at once
@@ -243,7 +243,7 @@ renew_whole r None = make r (replicas r.deployment)
 renew_whole r (Some new) = renew new (replicas r.deployment) (due r)
 
 -- the old sets go to 0; while one of their pods runs nothing more is done
-abbrev pub recreate : Rollout → Members → List Command
+abbrev pub recreate : Rollout → Entries → List Command
 recreate r pods =
     first_of (scale_each r.old (map (λ (s : Key × Data). 0) r.old))
     (if list_any (has_running_pods r.key.namespace pods) r.old then [] else first_of (renew_whole r r.new) (clean_up r))
@@ -254,17 +254,17 @@ recreate r pods =
 abbrev pub is_going_on : Data → Bool
 is_going_on d = not (is_being_deleted d) && not (unwrap_or (option_and_then as_bool (in_spec (codes "paused") d)) false)
 
-abbrev pub go_on : Rollout → Members → List Command
-go_on r pods = if passes is_rolling_update (in_spec (codes "strategy") r.deployment) then roll r else recreate r pods
+abbrev pub go_on : Rollout → Entries → List Command
+go_on r pods = if is_some_and is_rolling_update (in_spec (codes "strategy") r.deployment) then roll r else recreate r pods
 
 -- the new set is to be made, and another has its name
-abbrev pub is_name_taken : Rollout → Members → Bool
+abbrev pub is_name_taken : Rollout → Entries → Bool
 is_name_taken r ms = not (is_some r.new) && is_some (found (record { kind = ReplicaSet; namespace = r.key.namespace; name = new_name r }) ms)
 
 -- then the collision is counted, up to the greatest count, and gives the set another name in the next turn
 abbrev pub count_collision : Rollout → ℕ → List Command
 count_collision r n =
-    if nat_lt n 2147483647 then update_status r.key (with_status (put (codes "collisionCount") (whole (n + 1)) (status r.deployment)) r.deployment) ∷ [] else []
+    if nat_lt n 2147483647 then update_status r.key (with_status (put (codes "collisionCount") (unsigned_value (n + 1)) (status r.deployment)) r.deployment) ∷ [] else []
 
 -- the status is reported last, whatever was done
 abbrev pub plan_for : Rollout → Looks → List Command

@@ -1,6 +1,6 @@
 pub mod Standings
 pub mod MetadataEdits
-pub mod Collections
+pub mod GarbageCollection
 pub mod Pods
 pub mod PodClaims
 pub mod Orders

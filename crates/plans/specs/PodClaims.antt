@@ -1,10 +1,10 @@
 -- Claims: which pods a ReplicaSet releases and adopts, and which are its own (Kubernetes, ReplicaSet, Non-Template Pod acquisitions).
 use Rattle.std.specs.Prelude.{◌&&◌, ◌||◌, List, [], ◌∷◌, filter, flat_map, Bool, not, Option, if◌then◌else◌}
 use Rattle.serde_json.specs.Data.{Data}
-use Rattle.definitions.specs.History.{Members}
+use Rattle.definitions.specs.History.{Entries}
 use Rattle.definitions.specs.Keys.{Key}
 use Rattle.definitions.specs.Metadata.{Owner, is_being_deleted, uid}
-use Rattle.definitions.specs.SelectorValues.{passes}
+use Rattle.definitions.specs.SelectorValues.{is_some_and}
 use Rattle.controllers.specs.Commands.{Command, update}
 use Rattle.controllers.specs.OwnerReferences.{is_text}
 use Rattle.plans.specs.MetadataEdits.{keeping_owners, with_controller}
@@ -21,24 +21,24 @@ abbrev pub is_adoptable : Data → Data → Bool
 is_adoptable set pod = not (is_being_deleted set) && is_orphan pod && matches set pod
 
 abbrev pub have_one_uid : Data → Data → Bool
-have_one_uid a b = passes (λ u. is_text u (uid b)) (uid a)
+have_one_uid a b = is_some_and (λ u. is_text u (uid b)) (uid a)
 
 -- a set may adopt if a live read found it, with the same uid, and not being deleted
 abbrev pub may_adopt : Data → Option Data → Bool
-may_adopt set live = passes (λ d. have_one_uid set d && not (is_being_deleted d)) live
+may_adopt set live = is_some_and (λ d. have_one_uid set d && not (is_being_deleted d)) live
 
 -- the set's own pods: those that it owns and that match, and those that it adopts
 abbrev pub is_own : Data → Bool → Data → Bool
 is_own set may pod = (is_owned set pod && matches set pod) || (may && is_adoptable set pod)
 
-abbrev pub own_pods : Data → Bool → Members → Members
+abbrev pub own_pods : Data → Bool → Entries → Entries
 own_pods set may pods = filter (λ p. is_own set may p.1) pods
 
 -- ---- their references (Kubernetes, Owners and Dependents)
 
 -- whether a reference is to the set as the controller
 abbrev pub is_to_controller : Data → Owner → Bool
-is_to_controller set o = o.is_controller && passes (λ u. is_text u o.uid) (uid set)
+is_to_controller set o = o.is_controller && is_some_and (λ u. is_text u o.uid) (uid set)
 
 -- the pod without its reference to the set
 abbrev pub released : Data → Data → Data
@@ -57,5 +57,5 @@ claim k set may p =
     else (if may && is_adoptable set p.1 then update p.0 (adopted k set p.1) ∷ [] else [])
 
 -- pod by pod, in the order of keys
-abbrev pub claims : Key → Data → Bool → Members → List Command
+abbrev pub claims : Key → Data → Bool → Entries → List Command
 claims k set may pods = flat_map (claim k set may) pods

@@ -9,7 +9,7 @@ use Rattle.std.specs.declared.cmp.Ordering.{Ordering}
 use Rattle.serde_json.specs.Data.{Data}
 use Rattle.serde_json.specs.Find.{get}
 use Rattle.definitions.specs.Checks.{in_spec}
-use Rattle.definitions.specs.History.{Members}
+use Rattle.definitions.specs.History.{Entries}
 use Rattle.definitions.specs.Keys.{Key, key_cmp}
 use Rattle.definitions.specs.Metadata.{metadata, metadata_text}
 use Rattle.definitions.specs.Moments.{is_digit}
@@ -49,7 +49,7 @@ abbrev pub deletion_cost : Data → ℤ
 deletion_cost pod = cost (text_in (option_and_then (get (codes "controller.kubernetes.io/pod-deletion-cost")) (metadata (codes "annotations") pod)))
 
 -- how many of the pods are on a node
-abbrev pub pods_on : List ℕ → Members → ℕ
+abbrev pub pods_on : List ℕ → Entries → ℕ
 pods_on n pods = length (filter (λ p. bytes_eq (node p.1) n) pods)
 
 abbrev pub creation : Data → List ℕ
@@ -79,7 +79,7 @@ rank_beside n p =
       key = p.0;
     }
 
-abbrev pub rank : Members → Key × Data → Rank
+abbrev pub rank : Entries → Key × Data → Rank
 rank pods p = rank_beside (pods_on (node p.1) pods) p
 
 -- which goes first: a pod on no node; by phase; one that is not ready; at the lower cost; on the node with more of the pods; created later; by key
@@ -93,7 +93,7 @@ rank_cmp =
     (then_cmp (flip_args (on (λ (r : Rank). r.creation) (slice_cmp nat_cmp))) (on (λ (r : Rank). r.key) key_cmp))))))
 
 -- the pods, those that go first at the front
-abbrev pub ranked : Members → Members
+abbrev pub ranked : Entries → Entries
 ranked pods = in_order (on (rank pods) rank_cmp) pods
 
 -- ---- how many, and which
@@ -102,12 +102,12 @@ ranked pods = in_order (on (rank pods) rank_cmp) pods
 abbrev pub most : ℕ
 most = 500
 
-abbrev pub missing : ℕ → Members → ℕ
+abbrev pub missing : ℕ → Entries → ℕ
 missing replicas pods = min (replicas - length pods) most
 
-abbrev pub surplus : ℕ → Members → ℕ
+abbrev pub surplus : ℕ → Entries → ℕ
 surplus replicas pods = min (length pods - replicas) most
 
 -- the pods that are deleted
-abbrev pub victims : ℕ → Members → Members
+abbrev pub victims : ℕ → Entries → Entries
 victims replicas pods = take (surplus replicas pods) (ranked pods)

@@ -5,7 +5,7 @@ use Rattle.serde_json.specs.Data.{Data, Items, no_items, item}
 use Rattle.definitions.specs.Checks.{requirements, in_status}
 use Rattle.definitions.specs.Metadata.{labels_of, is_being_deleted, uid, text_at}
 use Rattle.definitions.specs.Selectors.{meets_all}
-use Rattle.definitions.specs.SelectorValues.{items_in, passes, text_in}
+use Rattle.definitions.specs.SelectorValues.{items_in, is_some_and, text_in}
 use Rattle.controllers.specs.OwnerReferences.{has_controller, is_controlled_by, is_text}
 
 -- ---- what a pod says (Kubernetes, Pod Lifecycle)
@@ -32,11 +32,11 @@ is_ready pod = any_item is_ready_condition (items_in (in_status (codes "conditio
 
 -- whether the set's selector matches the pod's labels
 abbrev pub matches : Data → Data → Bool
-matches set pod = passes (λ rs. meets_all rs (labels_of pod)) (requirements set)
+matches set pod = is_some_and (λ rs. meets_all rs (labels_of pod)) (requirements set)
 
 -- a set owns an active pod whose controller reference has the set's uid
 abbrev pub is_owned : Data → Data → Bool
-is_owned set pod = is_active pod && passes (λ u. is_controlled_by u pod) (uid set)
+is_owned set pod = is_active pod && is_some_and (λ u. is_controlled_by u pod) (uid set)
 
 -- an orphan is an active pod without a controller
 abbrev pub is_orphan : Data → Bool

@@ -3,8 +3,8 @@ use Rattle.std.specs.Prelude.{ℕ, ◌&&◌, List, [], ◌∷◌, ◌++◌, map,
 use Rattle.std.specs.List.{list_any}
 use Rattle.serde_json.specs.Data.{Data, Members as Fields, put}
 use Rattle.definitions.specs.declared.kinds.Kind.TheVariants.{Pod}
-use Rattle.definitions.specs.Defaults.{whole}
-use Rattle.definitions.specs.History.{Members, found}
+use Rattle.definitions.specs.Defaults.{unsigned_value}
+use Rattle.definitions.specs.History.{Entries, found}
 use Rattle.definitions.specs.Keys.{Key}
 use Rattle.definitions.specs.Metadata.{is_being_deleted, uid}
 use Rattle.definitions.specs.Replacements.{generation}
@@ -25,12 +25,12 @@ abbrev pub set_looked_at : Hand → Option Data
 set_looked_at h = found h.key h.looks.replica_sets
 
 -- the pods of its namespace
-abbrev pub pods_looked_at : Hand → Members
+abbrev pub pods_looked_at : Hand → Entries
 pods_looked_at h = of_namespace h.key.namespace h.looks.pods
 
 -- ---- what is to be read live
 
-abbrev pub has_adoptable : Data → Members → Bool
+abbrev pub has_adoptable : Data → Entries → Bool
 has_adoptable set pods = list_any (λ (p : Key × Data). is_adoptable set p.1) pods
 
 abbrev pub asks_of : Hand → Option Data → List Key
@@ -48,35 +48,35 @@ abbrev pub delete_pod : Key × Data → Command
 delete_pod p = delete p.0 (uid p.1) None None
 
 -- the pods that are missing are created, and those that are too many deleted
-abbrev pub scale : Key → Data → Members → List Command
+abbrev pub scale : Key → Data → Entries → List Command
 scale k set pods =
     replicate (missing (replicas set) pods) (create Pod k.namespace (new_pod k set)) ++ map delete_pod (victims (replicas set) pods)
 
 -- once all that was expected has been seen, and unless the set is being deleted
-abbrev pub scale_if : Bool → Key → Data → Members → List Command
+abbrev pub scale_if : Bool → Key → Data → Entries → List Command
 scale_if is_satisfied k set pods = if is_satisfied && not (is_being_deleted set) then scale k set pods else []
 
 -- ---- the status (Kubernetes API reference, ReplicaSetStatus)
 
-abbrev pub ready_pods : Members → Members
+abbrev pub ready_pods : Entries → Entries
 ready_pods pods = filter (λ p. is_ready p.1) pods
 
 -- so many pods, so many of them ready and available, by the spec of this generation; other members stay
 abbrev pub with_counts : ℕ → ℕ → ℕ → Fields → Fields
 with_counts n ready generation ms =
-    put (codes "replicas") (whole n)
-    (put (codes "readyReplicas") (whole ready) (put (codes "availableReplicas") (whole ready) (put (codes "observedGeneration") (whole generation) ms)))
+    put (codes "replicas") (unsigned_value n)
+    (put (codes "readyReplicas") (unsigned_value ready) (put (codes "availableReplicas") (unsigned_value ready) (put (codes "observedGeneration") (unsigned_value generation) ms)))
 
-abbrev pub new_status : Data → Members → Fields
+abbrev pub new_status : Data → Entries → Fields
 new_status set pods = with_counts (length pods) (length (ready_pods pods)) (generation set) (status set)
 
-abbrev pub report : Key → Data → Members → List Command
+abbrev pub report : Key → Data → Entries → List Command
 report k set pods = report_status k set (new_status set pods)
 
 -- ---- the plan
 
 -- pods are released and adopted, then created or deleted, and the status is updated
-abbrev pub plan_with : Bool → Key → Data → Bool → Members → List Command
+abbrev pub plan_with : Bool → Key → Data → Bool → Entries → List Command
 plan_with is_satisfied k set may pods =
     claims k set may pods ++ (scale_if is_satisfied k set (own_pods set may pods) ++ report k set (own_pods set may pods))
 

@@ -4,10 +4,10 @@ use Rattle.std.specs.List.{list_any}
 use Rattle.serde_json.specs.Data.{Data}
 use Rattle.definitions.specs.Checks.{finalizers, has_text}
 use Rattle.definitions.specs.Deletion.{foreground}
-use Rattle.definitions.specs.History.{Members}
+use Rattle.definitions.specs.History.{Entries}
 use Rattle.definitions.specs.Keys.{Key}
 use Rattle.definitions.specs.Metadata.{Owner, owners, uid, is_being_deleted}
-use Rattle.definitions.specs.SelectorValues.{passes}
+use Rattle.definitions.specs.SelectorValues.{is_some_and}
 use Rattle.controllers.specs.Hands.{Read, live}
 use Rattle.controllers.specs.Informers.{Looks, of_owner}
 use Rattle.controllers.specs.OwnerReferences.{is_text, owner_key, namespace_of}
@@ -16,7 +16,7 @@ use Rattle.plans.specs.declared.standing.Standing.TheVariants.{Solid, Waiting, D
 
 -- whether a reference is to this object, by its uid
 abbrev pub is_to : Data → Owner → Bool
-is_to d o = passes (λ u. is_text u o.uid) (uid d)
+is_to d o = is_some_and (λ u. is_text u o.uid) (uid d)
 
 -- ---- owners
 
@@ -55,16 +55,16 @@ is_waiting Dangling = false
 -- ---- dependents
 
 -- the objects of all kinds with an owner of this uid
-abbrev pub with_owner : Looks → List ℕ → Members
+abbrev pub with_owner : Looks → List ℕ → Entries
 with_owner l u = of_owner u l.config_maps ++ (of_owner u l.pods ++ (of_owner u l.replica_sets ++ of_owner u l.deployments))
 
 -- those with the owner of this uid, where one is given
-abbrev pub with_owner_if : Looks → Option (List ℕ) → Members
+abbrev pub with_owner_if : Looks → Option (List ℕ) → Entries
 with_owner_if l None = []
 with_owner_if l (Some u) = with_owner l u
 
 -- the dependents of an object
-abbrev pub dependents : Looks → Data → Members
+abbrev pub dependents : Looks → Data → Entries
 dependents l d = with_owner_if l (uid d)
 
 -- whether an object blocks the deletion of this owner (Kubernetes, Foreground cascading deletion)

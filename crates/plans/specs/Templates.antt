@@ -6,7 +6,7 @@ use Rattle.serde_json.specs.Data.{Data, string, array, object, no_items, item, M
 use Rattle.serde_json.specs.Find.{get}
 use Rattle.serde_json.specs.Written.{compact_text}
 use Rattle.definitions.specs.Checks.{in_spec}
-use Rattle.definitions.specs.Defaults.{whole}
+use Rattle.definitions.specs.Defaults.{unsigned_value}
 use Rattle.definitions.specs.Metadata.{labels_of, metadata_of, with_metadata}
 use Rattle.definitions.specs.Replacements.{says_the_same}
 use Rattle.definitions.specs.Values.{members_of, inner_of, without}
@@ -72,4 +72,4 @@ new_set_metadata name owner hash t annotations =
 abbrev pub new_set_spec : Members → List ℕ → Data → ℕ → Members
 new_set_spec selector hash t replicas =
     put (codes "template") (labelled hash t)
-    (put (codes "selector") (object (selecting hash selector)) (put (codes "replicas") (whole replicas) no_members))
+    (put (codes "selector") (object (selecting hash selector)) (put (codes "replicas") (unsigned_value replicas) no_members))

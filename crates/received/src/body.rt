@@ -34,7 +34,7 @@ fn fill<R: Read + Drop>(
 
 /// Returns a body of this length that begins with what was read of it before. There is none where the peer ended before it was
 /// whole. No more is read than the body.
-pub(crate) fn read_body<R: Read + Drop>(
+pub fn read_body<R: Read + Drop>(
     alloc: Global,
     reader: &mut Watched<R>,
     front: &[u8],

@@ -2,7 +2,7 @@
 #![tactic(auto)]
 
 mod answered;
-mod body;
+pub mod body;
 pub mod reading;
 pub mod received;
 

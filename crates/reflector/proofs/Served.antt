@@ -10,7 +10,7 @@ use Rattle.definitions.specs.Frames.{kind_text, frame_kind}
 use Rattle.definitions.specs.History.{History, present}
 use Rattle.controllers.specs.Reflectors.{with_list, all_fed, apply_deltas}
 use Rattle.laws.specs.SentLaws.{whole, IsShort, listed_at}
-use Rattle.definitions.specs.Streams.{Line, event, bookmark, initial, initial_end, Goes, frame_of}
+use Rattle.definitions.specs.Streams.{Line, event, bookmark, initial, initial_end, AreEventsWithBookmarks, frame_of}
 use Rattle.laws.proofs.Limited.{limited}
 use Rattle.laws.proofs.SentChanges.{changes_told}
 use Rattle.laws.proofs.SentLists.{lists_put, lists_read}
@@ -39,7 +39,7 @@ within c short =
     }
 
 -- each line of a stream is read back
-all_back : (k : Kind) (ls : List Line) (at b : ℕ) (cs : List Event) → b ≤ 9007199254740991 → Goes at b cs ls → AllByRecursion IsShort cs → AllByRecursion (IsReadWithin k) ls → AllByRecursion (IsReadBack k) ls
+all_back : (k : Kind) (ls : List Line) (at b : ℕ) (cs : List Event) → b ≤ 9007199254740991 → AreEventsWithBookmarks at b cs ls → AllByRecursion IsShort cs → AllByRecursion (IsReadWithin k) ls → AllByRecursion (IsReadBack k) ls
 all_back k [] at b cs low g short read = tt
 all_back k (event d ∷ ls) at b [] low g short read = absurd g
 all_back k (event d ∷ ls) at b (c ∷ cs) low g short read =

@@ -7,7 +7,7 @@ use Rattle.controllers.specs.declared.reflectors.Phase.TheVariants.{Watching}
 use Rattle.definitions.specs.History.{History, list}
 use Rattle.definitions.specs.Frames.{Frame, frame_text}
 use Rattle.controllers.specs.ReadFrames.{Read, reading, onto}
-use Rattle.definitions.specs.Streams.{Line, frame_of, text_of}
+use Rattle.definitions.specs.Streams.{Line, frame_of, text_of_lines}
 use Rattle.definitions.specs.Events.{events as changes}
 use Rattle.controllers.specs.Reflectors.{Reflector, Fed, Run, run, ran, all_fed, apply_deltas}
 use Rattle.framing.specs.Decoders.{fed_after}
@@ -17,14 +17,14 @@ use Rattle.reflector.proofs.Cutting.{reading_twice, flat, no_cutting_at, at_revi
 use Rattle.reflector.proofs.Followed.{Reaches, follows}
 
 -- the lines are read back as their frames
-pub read_back : (k : Kind) (ls : List Line) (more : List ℕ) → AllByRecursion (IsReadBack k) ls → reading (text_of k ls ++ more) ≡ onto (map (frame_of k) ls) (reading more)
+pub read_back : (k : Kind) (ls : List Line) (more : List ℕ) → AllByRecursion (IsReadBack k) ls → reading (text_of_lines k ls ++ more) ≡ onto (map (frame_of k) ls) (reading more)
 read_back k [] more h = refl
 read_back k (l ∷ ls) more h =
-    ap reading (append_assoc (frame_text (frame_of k l)) (text_of k ls) more) ∙ h.0 (text_of k ls ++ more) ∙ ap (onto (frame_of k l ∷ [])) (read_back k ls more h.1)
+    ap reading (append_assoc (frame_text (frame_of k l)) (text_of_lines k ls) more) ∙ h.0 (text_of_lines k ls ++ more) ∙ ap (onto (frame_of k l ∷ [])) (read_back k ls more h.1)
 
-all_back : (k : Kind) (ls : List Line) → AllByRecursion (IsReadBack k) ls → reading (text_of k ls) ≡ record { events = map (frame_of k) ls; buffered = []; fault = None }
+all_back : (k : Kind) (ls : List Line) → AllByRecursion (IsReadBack k) ls → reading (text_of_lines k ls) ≡ record { events = map (frame_of k) ls; buffered = []; fault = None }
 all_back k ls h =
-    ap reading (sym (append-nil (text_of k ls))) ∙ read_back k ls [] h ∙ ap (λ es. record { events = es; buffered = []; fault = None }) (append-nil (map (frame_of k) ls))
+    ap reading (sym (append-nil (text_of_lines k ls))) ∙ read_back k ls [] h ∙ ap (λ es. record { events = es; buffered = []; fault = None }) (append-nil (map (frame_of k) ls))
 
 -- what is wrong stays wrong
 no_fault : (f : Option FrameFault) (bytes : List ℕ) → (fed_after f bytes).fault ≡ None → f ≡ None
@@ -37,7 +37,7 @@ record Begins (es : List Frame) (bytes more : List ℕ) : Type 0 where
   pub events : (reading bytes).events ++ later ≡ es
   pub fault : (reading bytes).fault ≡ None
 
-begins : (k : Kind) (ls : List Line) (bytes more : List ℕ) → AllByRecursion (IsReadBack k) ls → bytes ++ more ≡ text_of k ls → Begins (map (frame_of k) ls) bytes more
+begins : (k : Kind) (ls : List Line) (bytes more : List ℕ) → AllByRecursion (IsReadBack k) ls → bytes ++ more ≡ text_of_lines k ls → Begins (map (frame_of k) ls) bytes more
 begins k ls bytes more h e =
     let first = reading bytes in
     let all : onto first.events (fed_after first.fault (first.buffered ++ more)) ≡ record { events = map (frame_of k) ls; buffered = []; fault = None } =
@@ -64,15 +64,15 @@ module _ (h : History) (k : Kind) (a b : ℕ) (ls : List Line) (pieces : List (L
   reaches : (more : List ℕ) (start : Begins (map (frame_of k) ls) (flat pieces) more) → Reaches h (whole k) a b start.later (run k a (reading (flat pieces)).events)
   reaches more start = follows ls (reading (flat pieces)).events start.later h k a b (changes h (whole k) a b) sent.forward sent.low refl sent.stream sent.told start.events
 
-  pub cut_followed : (more : List ℕ) → flat pieces ++ more ≡ text_of k ls → GoesOn h k a b (all_fed s pieces)
+  pub cut_followed : (more : List ℕ) → flat pieces ++ more ≡ text_of_lines k ls → GoesOn h k a b (all_fed s pieces)
   cut_followed more e =
       let start = begins k ls (flat pieces) more sent.read e in
       subst (GoesOn h k a b) (sym (no_cutting_at k a Watching pieces))
       (taken h k a b start.later (reading (flat pieces)) (run k a (reading (flat pieces)).events) start.fault (reaches more start))
 
-  pub whole_followed : flat pieces ≡ text_of k ls → GoesOn h k a b (all_fed s pieces) × (apply_deltas (list h (whole k) a) (all_fed s pieces).deltas ≡ list h (whole k) b)
+  pub whole_followed : flat pieces ≡ text_of_lines k ls → GoesOn h k a b (all_fed s pieces) × (apply_deltas (list h (whole k) a) (all_fed s pieces).deltas ≡ list h (whole k) b)
   whole_followed e =
-      let ends : flat pieces ++ [] ≡ text_of k ls = append-nil (flat pieces) ∙ e in
+      let ends : flat pieces ++ [] ≡ text_of_lines k ls = append-nil (flat pieces) ∙ e in
       let start = begins k ls (flat pieces) [] sent.read ends in
       let reach = reaches [] start in
       let all : (reading (flat pieces)).events ≡ map (frame_of k) ls = ap (λ (r : Read). r.events) (ap reading e ∙ all_back k ls sent.read) in
@@ -84,10 +84,10 @@ module _ (h : History) (k : Kind) (a b : ℕ) (ls : List Line) (pieces : List (L
 module _ (h : History) (a b : ℕ) (ls : List Line) where
   -- a reflector that stands there, by its parts
   abbrev Cut : Kind → Reflector → Type 0
-  Cut k t = (pieces : List (List ℕ)) (more : List ℕ) → IsSent h k a b ls → flat pieces ++ more ≡ text_of k ls → GoesOn h k a b (all_fed t pieces)
+  Cut k t = (pieces : List (List ℕ)) (more : List ℕ) → IsSent h k a b ls → flat pieces ++ more ≡ text_of_lines k ls → GoesOn h k a b (all_fed t pieces)
 
   abbrev Whole : Kind → Reflector → Type 0
-  Whole k t = (pieces : List (List ℕ)) → IsSent h k a b ls → flat pieces ≡ text_of k ls → GoesOn h k a b (all_fed t pieces) × (apply_deltas (list h (whole k) a) (all_fed t pieces).deltas ≡ list h (whole k) b)
+  Whole k t = (pieces : List (List ℕ)) → IsSent h k a b ls → flat pieces ≡ text_of_lines k ls → GoesOn h k a b (all_fed t pieces) × (apply_deltas (list h (whole k) a) (all_fed t pieces).deltas ≡ list h (whole k) b)
 
   stands : (t : Reflector) → IsAt t a → at_revision t.kind a Watching [] ≡ t
   stands t at = λ i. record { kind = t.kind; revision = sym at.revision i; phase = sym at.watches i; buffered = sym at.holds i }

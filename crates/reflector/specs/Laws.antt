@@ -3,10 +3,10 @@ use Rattle.std.specs.Prelude.{◌≡◌, ◌≤◌, ℕ, List, [], ◌∷◌, �
 use Rattle.std.specs.List.{AllByRecursion}
 use Rattle.definitions.specs.declared.kinds.Kind.{Kind}
 use Rattle.controllers.specs.declared.reflectors.Phase.TheVariants.{Watching}
-use Rattle.definitions.specs.History.{History, Members, list, present}
+use Rattle.definitions.specs.History.{History, Entries, list, present}
 use Rattle.definitions.specs.Events.{events}
 use Rattle.definitions.specs.Frames.{frame_text}
-use Rattle.definitions.specs.Streams.{Line, IsStream, frame_of, text_of}
+use Rattle.definitions.specs.Streams.{Line, IsStream, frame_of, text_of_lines}
 use Rattle.definitions.specs.Revisions.{greatest_revision}
 use Rattle.controllers.specs.Reflectors.{Reflector, Fed, Listed, list_of, list_delta, with_list, apply_deltas, fed, all_fed}
 use Rattle.definitions.specs.Reached.{IsReached}
@@ -47,12 +47,12 @@ pub record GoesOn (h : History) (k : Kind) (a b : ℕ) (f : Fed) : Type 0 where
 abbrev pub CutStreamsAreFollowed : Type 0
 CutStreamsAreFollowed =
     (h : History) (a b : ℕ) (ls : List Line) (s : Reflector) (pieces : List (List ℕ)) (more : List ℕ) → IsAt s a → IsSent h s.kind a b ls
-    → flat_map (λ p. p) pieces ++ more ≡ text_of s.kind ls → GoesOn h s.kind a b (all_fed s pieces)
+    → flat_map (λ p. p) pieces ++ more ≡ text_of_lines s.kind ls → GoesOn h s.kind a b (all_fed s pieces)
 
 -- when the whole stream has come, in whatever pieces, the deltas make of the list at a the list at b, which is the list at the revision named
 abbrev pub StreamsAreFollowed : Type 0
 StreamsAreFollowed =
-    (h : History) (a b : ℕ) (ls : List Line) (s : Reflector) (pieces : List (List ℕ)) → IsAt s a → IsSent h s.kind a b ls → flat_map (λ p. p) pieces ≡ text_of s.kind ls
+    (h : History) (a b : ℕ) (ls : List Line) (s : Reflector) (pieces : List (List ℕ)) → IsAt s a → IsSent h s.kind a b ls → flat_map (λ p. p) pieces ≡ text_of_lines s.kind ls
     → GoesOn h s.kind a b (all_fed s pieces) × (apply_deltas (list h (whole s.kind) a) (all_fed s pieces).deltas ≡ list h (whole s.kind) b)
 
 -- ---- what a server sends
@@ -74,19 +74,19 @@ pub record IsServed (h : History) (k : Kind) (a b : ℕ) (ls : List Line) : Type
 abbrev pub CutServedStreamsAreFollowed : Type 0
 CutServedStreamsAreFollowed =
     (h : History) (a b : ℕ) (ls : List Line) (s : Reflector) (pieces : List (List ℕ)) (more : List ℕ) → IsAt s a → IsServed h s.kind a b ls
-    → flat_map (λ p. p) pieces ++ more ≡ text_of s.kind ls → GoesOn h s.kind a b (all_fed s pieces)
+    → flat_map (λ p. p) pieces ++ more ≡ text_of_lines s.kind ls → GoesOn h s.kind a b (all_fed s pieces)
 
 -- and when all of it has come, they make of it the list at b
 abbrev pub ServedStreamsAreFollowed : Type 0
 ServedStreamsAreFollowed =
-    (h : History) (a b : ℕ) (ls : List Line) (s : Reflector) (pieces : List (List ℕ)) → IsAt s a → IsServed h s.kind a b ls → flat_map (λ p. p) pieces ≡ text_of s.kind ls
+    (h : History) (a b : ℕ) (ls : List Line) (s : Reflector) (pieces : List (List ℕ)) → IsAt s a → IsServed h s.kind a b ls → flat_map (λ p. p) pieces ≡ text_of_lines s.kind ls
     → GoesOn h s.kind a b (all_fed s pieces) × (apply_deltas (list h (whole s.kind) a) (all_fed s pieces).deltas ≡ list h (whole s.kind) b)
 
 -- whoever asked a server: who takes in its list at a, and then whatever part of a watch from a has come, in whatever pieces,
 -- has the list at the revision named, whatever it had before
 abbrev pub ListsAndWatchesAreFollowed : Type 0
 ListsAndWatchesAreFollowed =
-    (h : History) (a b : ℕ) (ls : List Line) (s : Reflector) (ms : Members) (body : List ℕ) (pieces : List (List ℕ)) (more : List ℕ)
-    → IsListText h s.kind a body → IsServed h s.kind a b ls → flat_map (λ p. p) pieces ++ more ≡ text_of s.kind ls
+    (h : History) (a b : ℕ) (ls : List Line) (s : Reflector) (ms : Entries) (body : List ℕ) (pieces : List (List ℕ)) (more : List ℕ)
+    → IsListText h s.kind a body → IsServed h s.kind a b ls → flat_map (λ p. p) pieces ++ more ≡ text_of_lines s.kind ls
     → (l : Listed) × (list_of s.kind body ≡ Some l) × GoesOn h s.kind a b (all_fed (with_list (Some l) s) pieces)
     × (let f = all_fed (with_list (Some l) s) pieces in apply_deltas ms (list_delta l ∷ f.deltas) ≡ list h (whole s.kind) f.after.revision)

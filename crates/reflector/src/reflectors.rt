@@ -8,7 +8,7 @@ use controllers::reflectors::{Ask, Phase};
 use framing::Want;
 use framing::lines::keep_last;
 use meta::Kind;
-use std::alloc::Global;
+use std::alloc::{AllocError, Global};
 use std::marker::Model;
 
 /// What is known of the objects of one kind, in all namespaces: the revision up to which lists and watches were taken in,
@@ -54,6 +54,18 @@ impl Reflector {
             phase: Phase::Listing,
             buffered: Vec::new(alloc),
         }
+    }
+
+    /// Returns a copy. The error is running out of memory.
+    pub fn try_copy(&self) -> Result<Reflector, AllocError>
+        ensures { IfOk result (λ s. s ≡ self.now) }
+    {
+        Ok(Reflector {
+            kind: self.kind,
+            revision: self.revision,
+            phase: self.phase,
+            buffered: self.buffered.clone()?,
+        })
     }
 
     /// Returns what is to be asked of the server next. It takes no memory.

@@ -8,7 +8,7 @@ use Rattle.definitions.specs.declared.refusals.Mismatch.TheVariants as why
 use Rattle.definitions.specs.Metadata.{metadata_of, uid, version, differs}
 use Rattle.definitions.specs.Keys.{Key}
 use Rattle.definitions.specs.Refusals.{conflict}
-use Rattle.definitions.specs.Replacements.{as_held}
+use Rattle.definitions.specs.Replacements.{as_stored}
 use Rattle.definitions.specs.Values.{members_of, inner_of}
 use Rattle.definitions.specs.Verbs.{Outcome, refused, refuse_if, if_same}
 use Rattle.json_values.proofs.PutAndTaken.{get-members_of}
@@ -39,8 +39,8 @@ pub if_same-same : (k : Key) (o existing : Data) (next : Outcome) (found : Optio
 if_same-same k o existing next found is so = found_so k o existing next found None is so
 
 -- the metadata stays where the status is preserved
-pub metadata_of-as_held : (found : Option Data) (d : Data) → metadata_of (object (as_held (codes "status") found (members_of d))) ≡ metadata_of d
-metadata_of-as_held None d =
+pub metadata_of-as_stored : (found : Option Data) (d : Data) → metadata_of (object (as_stored (codes "status") found (members_of d))) ≡ metadata_of d
+metadata_of-as_stored None d =
     ap inner_of (get_member-without_other (codes "metadata") (codes "status") (members_of d) refl ∙ sym (get-members_of (codes "metadata") d))
-metadata_of-as_held (Some e) d =
+metadata_of-as_stored (Some e) d =
     ap inner_of (get_member-put_other (codes "metadata") (codes "status") e (members_of d) (apart (codes "metadata") (codes "status") refl) ∙ sym (get-members_of (codes "metadata") d))

@@ -2,7 +2,7 @@
 ghost use Rattle.std.specs.Prelude.{◌≡◌, ◌≤◌, List, ℕ, IfOk};
 ghost use Rattle.serde_json.specs.View.{view};
 ghost use Rattle.definitions.specs.Metadata.{metadata_of, with_metadata};
-ghost use Rattle.definitions.specs.Replacements.{in_place, keeping, kept, kept_of};
+ghost use Rattle.definitions.specs.Replacements.{in_place, keeping, unchanged_metadata, unchanged_members};
 ghost use Rattle.definitions.specs.Revisions.{greatest_revision};
 ghost use Rattle.definitions.specs.Values.{members_of};
 ghost use Rattle.definitions.specs.Verbs.{accept_at, replace};
@@ -41,7 +41,7 @@ pub fn update(
     }
     match store.get(&key) {
         None => Err(Fault::NotFound(key)),
-        Some(kept) => replace(alloc, key, object, store.revision(), kept),
+        Some(stored) => replace(alloc, key, object, store.revision(), stored),
     }
 }
 
@@ -51,13 +51,13 @@ fn replace(
     key: Key,
     object: Object,
     before: u64,
-    kept: &StoredObject,
+    stored: &StoredObject,
 ) -> Result<(Reply, Option<Write>), Fault>
     requires revision { before ≤ greatest_revision }
     requires kind { object.kind ≡ key.kind }
-    ensures { Serves (replace (key_of key) object.value before kept.now.value) result }
+    ensures { Serves (replace (key_of key) object.value before stored.now.value) result }
 {
-    let existing = Existing::open(alloc, kept)?;
+    let existing = Existing::open(alloc, stored)?;
     replace_existing(alloc, key, object, before, &existing)
 }
 
@@ -84,20 +84,20 @@ pub(crate) fn replace_existing(
 
 /// Returns the object with the status that is stored, if its kind has one.
 fn keep_status(alloc: Global, object: Object, existing: &Object) -> Result<Object, AllocError>
-    ensures members { IfOk result (λ o. members_of o.value ≡ keeping (kept_of object.kind) (members_of existing.now.value) (members_of object.value)) }
+    ensures members { IfOk result (λ o. members_of o.value ≡ keeping (unchanged_members object.kind) (members_of existing.now.value) (members_of object.value)) }
     ensures metadata { IfOk result (λ o. metadata_of o.value ≡ metadata_of object.value) }
     ensures kind { IfOk result (λ o. o.kind ≡ object.kind) }
 {
     if !object.kind().has_status() {
         return Ok(object);
     }
-    let kept = object.keep_member(alloc, "status", existing)?;
-    Ok(kept)
+    let with_status = object.keep_member(alloc, "status", existing)?;
+    Ok(with_status)
 }
 
 /// Returns the object with those members of the metadata that an update leaves as they are stored.
 fn keep_metadata(alloc: Global, object: Object, existing: &Object) -> Result<Object, AllocError>
-    ensures value { IfOk result (λ o. o.value ≡ with_metadata (keeping kept (metadata_of existing.now.value) (metadata_of object.value)) object.value) }
+    ensures value { IfOk result (λ o. o.value ≡ with_metadata (keeping unchanged_metadata (metadata_of existing.now.value) (metadata_of object.value)) object.value) }
     ensures kind { IfOk result (λ o. o.kind ≡ object.kind) }
 {
     let mut draft = Draft::new(alloc, object)?;

@@ -1,5 +1,5 @@
 pub mod Counts
 pub mod Decimals
-pub mod NoFloats
 pub mod RankOrder
 pub mod RankedPods
+pub mod Related

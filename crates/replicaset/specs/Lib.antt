@@ -1,3 +1,3 @@
-pub mod Lent
 pub mod Nodes
 pub mod Ranks
+pub mod Relations

@@ -1,6 +1,8 @@
 -- Ranks of pods, as definitions have them.
-use Rattle.std.specs.Prelude.{ℕ}
+use Rattle.std.specs.Prelude.{ℕ, List, ◌≡◌, map, length, filter}
+use Rattle.std.specs.Str.{bytes_eq}
 use Rattle.serde_json.specs.Data.{Data}
+use Rattle.definitions.specs.History.{Entries}
 use Rattle.definitions.specs.Keys.{Key}
 use Rattle.keys.specs.Keys.{key_of}
 use Rattle.plans.specs.PodRanks as plans
@@ -29,3 +31,38 @@ rank_of r =
 
 abbrev pub ranked_of : Ranked → plans.Rank × (Key × Data)
 ranked_of r = (rank_of r.rank, entry_of r.pod)
+
+abbrev pub pods_of : List Ranked → Entries
+pods_of rs = map (λ r. entry_of r.pod) rs
+
+-- ---- what is read of a pod before the pods on its node are counted
+
+abbrev pub read_of : Ranked → plans.Rank × (List ℕ × (Key × Data))
+read_of r = (rank_of r.rank, (r.node.now, entry_of r.pod))
+
+abbrev pub read : Key × Data → plans.Rank × (List ℕ × (Key × Data))
+read p = (plans.rank_beside 0 p, (plans.node p.1, p))
+
+-- each says what its pod says
+pub record AreRead (rs : List Ranked) : Type 0 where
+  pub are_read : map read_of rs ≡ map read (pods_of rs)
+
+-- ---- what is counted of them
+
+abbrev pub ready_among : List Ranked → ℕ
+ready_among rs = length (filter (λ r. r.rank.is_ready) rs)
+
+abbrev pub on_node_among : List ℕ → List Ranked → ℕ
+on_node_among n rs = length (filter (λ r. bytes_eq r.node.now n) rs)
+
+abbrev pub with_on_node : ℕ → plans.Rank → plans.Rank
+with_on_node n r =
+    record {
+      is_placed = r.is_placed;
+      phase = r.phase;
+      is_ready = r.is_ready;
+      cost = r.cost;
+      on_node = n;
+      creation = r.creation;
+      key = r.key;
+    }

@@ -3,14 +3,15 @@ ghost use Rattle.std.specs.Prelude.{◌≡◌, IfOk};
 ghost use Rattle.serde_json.specs.View.{view};
 ghost use Rattle.definitions.specs.Checks.{requirements};
 ghost use Rattle.definitions.specs.Metadata.{owner};
-ghost use Rattle.plans.specs.PodClaims.{is_to_controller, is_released, is_adoptable, is_own, may_adopt, have_one_uid};
+ghost use Rattle.plans.specs.PodClaims.{is_to_controller, is_adoptable, may_adopt, have_one_uid};
 ghost use Rattle.plans.specs.Pods.{is_owned, is_orphan, matches};
-ghost use Rattle.replicaset.specs.Lent.{data_of};
+ghost use Rattle.readings.specs.Lent.{data_of};
 
-use crate::pods::{has_controller, in_spec, is_active, is_controlled_by};
+use crate::pods::is_active;
 use meta::Object;
-use meta::owners::owner;
+use owners::controlled_by::{controls_with, has_controller, is_controlled_by};
 use owners::owned_by::is_text;
+use readings::in_spec;
 use selector::{Fault, Selector};
 use serde_json::Value;
 use std::alloc::{AllocError, Global};
@@ -44,15 +45,14 @@ pub(crate) fn matches(set: &Object, selector: &Option<Selector>, pod: &Object) -
 pub(crate) fn is_to_controller(set: &Object, reference: &Value) -> bool
     ensures { result ≡ is_to_controller set.now.value (owner (view reference.now)) }
 {
-    let owner = owner(reference);
     match set.uid() {
-        Some(uid) => owner.is_controller && is_text(uid, owner.uid),
+        Some(uid) => controls_with(uid, reference),
         None => false,
     }
 }
 
-/// Returns whether a pod is active, and the set is its controller.
-fn is_owned(set: &Object, pod: &Object) -> bool
+/// Returns whether a pod is active, and the set is its controller. It takes no memory.
+pub(crate) fn is_owned(set: &Object, pod: &Object) -> bool
     ensures { result ≡ is_owned set.now.value pod.now.value }
 {
     match set.uid() {
@@ -68,28 +68,12 @@ fn is_orphan(pod: &Object) -> bool
     is_active(pod) && !has_controller(pod)
 }
 
-/// Returns whether the set releases a pod. It takes no memory.
-pub(crate) fn is_released(set: &Object, selector: &Option<Selector>, pod: &Object) -> bool
-    requires { selector.now ≡ requirements set.now.value }
-    ensures { result ≡ is_released set.now.value pod.now.value }
-{
-    !set.is_being_deleted() && is_owned(set, pod) && !matches(set, selector, pod)
-}
-
 /// Returns whether the set adopts a pod, if it may. It takes no memory.
 pub(crate) fn is_adoptable(set: &Object, selector: &Option<Selector>, pod: &Object) -> bool
     requires { selector.now ≡ requirements set.now.value }
     ensures { result ≡ is_adoptable set.now.value pod.now.value }
 {
     !set.is_being_deleted() && is_orphan(pod) && matches(set, selector, pod)
-}
-
-/// Returns whether a pod is the set's own. It takes no memory.
-pub(crate) fn is_own(set: &Object, selector: &Option<Selector>, may: bool, pod: &Object) -> bool
-    requires { selector.now ≡ requirements set.now.value }
-    ensures { result ≡ is_own set.now.value may pod.now.value }
-{
-    (is_owned(set, pod) && matches(set, selector, pod)) || (may && is_adoptable(set, selector, pod))
 }
 
 /// Returns whether two objects have one uid.

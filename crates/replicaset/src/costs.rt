@@ -5,8 +5,8 @@ ghost use Rattle.std.specs.Str.Parse.{signed_digits_value};
 ghost use Rattle.definitions.specs.Moments.{is_digit};
 ghost use Rattle.plans.specs.PodRanks.{after_minus, cost, deletion_cost, is_decimal, is_of_32_bits};
 
-use crate::pods::text_in;
 use meta::Object;
+use readings::text_in;
 
 /// Returns whether each byte is a decimal digit.
 fn are_digits(bytes: &[u8]) -> bool

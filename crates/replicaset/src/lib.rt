@@ -13,8 +13,9 @@ pub mod planning;
 pub(crate) mod pods;
 pub(crate) mod ranks;
 pub(crate) mod references;
-pub(crate) mod reports;
+pub(crate) mod relations;
 pub(crate) mod scaling;
+pub(crate) mod statuses;
 pub(crate) mod victims;
 
 pub use asking::asks;

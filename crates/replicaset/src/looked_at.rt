@@ -1,7 +1,7 @@
 //! What a worker looks at for a ReplicaSet.
 ghost use Rattle.std.specs.Prelude.{◌≡◌, IfOk, map};
 ghost use Rattle.plans.specs.ReplicaSets.{set_looked_at, pods_looked_at};
-ghost use Rattle.replicaset.specs.Lent.{data_of};
+ghost use Rattle.readings.specs.Lent.{data_of};
 ghost use Rattle.turns.specs.Entries.{entry_of};
 ghost use Rattle.turns.specs.Hands.{hand_of};
 

@@ -10,35 +10,19 @@ ghost use Rattle.keys.specs.Keys.{key_of};
 ghost use Rattle.plans.specs.NewPods.{template, copied, new_metadata, new_pod};
 ghost use Rattle.plans.specs.MetadataEdits.{controller_reference};
 
-use crate::pods::in_spec;
 use drafts::Draft;
-use json_values::members::into_members;
 use keys::Key;
 use meta::{Kind, Object};
 use owners::edits::controller_reference;
-use serde_json::{Map, Value};
+use readings::{blank, in_spec, inner};
+use serde_json::Value;
 use std::alloc::{AllocError, Global};
 
-/// Returns a pod that says nothing.
-fn blank(alloc: Global) -> Object
-    ensures value { result.value ≡ object no_members }
-    ensures kind { result.kind ≡ kind.Pod }
-{
-    Object::from_whole(Kind::Pod, Value::Object(Map::new(alloc)))
-}
-
 /// Returns a copy of the set's template; an object that says nothing where it has none. The error is running out of memory.
-#[tactic(auto, using(crate::proofs::NoFloats::members_have_none))]
 fn template(alloc: Global, set: &Object) -> Result<Object, AllocError>
     ensures { IfOk result (λ o. o.value ≡ template set.now.value) }
 {
-    match in_spec(set, "template") {
-        Some(found) => {
-            let members = into_members(alloc, found.clone()?);
-            Ok(Object::from_whole(Kind::Pod, Value::Object(members)))
-        }
-        None => Ok(blank(alloc)),
-    }
+    inner(alloc, Kind::Pod, in_spec(set, "template"))
 }
 
 /// Sets in a draft what a new pod has of its template's metadata. The error is running out of memory.
@@ -85,7 +69,7 @@ fn with_metadata(
         ≡ object (put (codes "metadata") (object (new_metadata (key_of key.now) set.now.value)) no_members)) }
     ensures kind { IfOk result (λ o. o.kind ≡ kind.Pod) }
 {
-    let mut draft = Draft::new(alloc, blank(alloc))?;
+    let mut draft = Draft::new(alloc, blank(alloc, Kind::Pod))?;
     copy_metadata(alloc, &mut draft, described)?;
     draft.set_text(alloc, "generateName", generate_name(alloc, key)?.as_str())?;
     draft.set_items(alloc, "ownerReferences", owner_references(alloc, key, set)?)?;

@@ -1,14 +1,12 @@
 //! How many pods are on each node.
-ghost use Rattle.std.specs.Prelude.{◌≡◌, ◌+◌, ◌<◌, ◌^◌, ◌-◌, ℕ, List, IfOk, OnOk, map, if◌then◌else◌};
+ghost use Rattle.std.specs.Prelude.{◌≡◌, ◌+◌, ◌<◌, ◌^◌, ◌-◌, ℕ, List, IfOk, OnOk, if◌then◌else◌};
 ghost use Rattle.std.specs.Str.{bytes_eq};
-ghost use Rattle.plans.specs.PodRanks.{pods_on};
 ghost use Rattle.replicaset.specs.Nodes.{count_at};
-ghost use Rattle.turns.specs.Entries.{entry_of};
+ghost use Rattle.replicaset.specs.Ranks.{on_node_among};
 
-use crate::pods::node;
+use crate::ranks::Ranked;
 use std::alloc::{AllocError, Global};
 use std::collections::BTreeMap;
-use turns::Entry;
 
 /// Returns how many pods are counted on a node. It takes no memory.
 pub(crate) fn count_at(counts: &BTreeMap<&str, usize>, node: &str) -> usize
@@ -28,16 +26,16 @@ fn count_one<'a>(counts: &mut BTreeMap<&'a str, usize>, node: &'a str) -> Result
     Ok(())
 }
 
-/// Returns how many pods are on each node. The error is running out of memory.
+/// Returns how many of the pods are on each node. The error is running out of memory.
 pub(crate) fn count_by_node<'a>(
     alloc: Global,
-    pods: &[Entry<'a>],
+    pods: &[Ranked<'a>],
 ) -> Result<BTreeMap<&'a str, usize>, AllocError>
-    ensures { IfOk result (λ m. (n : List ℕ) → count_at n m ≡ pods_on n (map entry_of pods.now)) }
+    ensures { IfOk result (λ m. (n : List ℕ) → count_at n m ≡ on_node_among n pods.now) }
 {
     let mut counts = BTreeMap::new(alloc);
     for pod in pods {
-        count_one(&mut counts, node(pod.object))?;
+        count_one(&mut counts, pod.node)?;
     }
     Ok(counts)
 }

@@ -3,17 +3,18 @@ ghost use Rattle.std.specs.Prelude.{◌≡◌, ◌++◌, IfOk, OnOk, map};
 ghost use Rattle.keys.specs.Keys.{key_of};
 ghost use Rattle.plans.specs.PodClaims.{claims, own_pods};
 ghost use Rattle.plans.specs.ReplicaSets.{plan, plan_of, plan_with, report, scale_if};
-ghost use Rattle.replicaset.specs.Lent.{data_of};
+ghost use Rattle.readings.specs.Lent.{data_of};
+ghost use Rattle.replicaset.specs.Ranks.{AreRead, pods_of};
 ghost use Rattle.turns.specs.Commands.{command_of, commands_of};
 ghost use Rattle.turns.specs.Entries.{entry_of};
 ghost use Rattle.turns.specs.Hands.{hand_of};
 
-use crate::claiming::add_claims;
+use crate::claiming::claim_pods;
 use crate::claims::{may_adopt, selector_of};
 use crate::looked_at::{pods_looked_at, set_looked_at};
-use crate::own_pods::own_pods;
-use crate::reports::add_report;
+use crate::ranks::Ranked;
 use crate::scaling::add_scale;
+use crate::statuses::add_report;
 use keys::Key;
 use meta::Object;
 use std::alloc::{AllocError, Global};
@@ -27,11 +28,12 @@ fn add_scale_if(
     is_satisfied: bool,
     key: &Key,
     set: &Object,
-    pods: &[Entry<'_>],
+    pods: &[Ranked<'_>],
     commands: &mut Vec<Command>,
 ) -> Result<(), AllocError>
+    requires { AreRead pods.now }
     ensures { OnOk result (map command_of commands.new.items
-        ≡ map command_of commands.old.items ++ scale_if is_satisfied (key_of key.now) set.now.value (map entry_of pods.now)) }
+        ≡ map command_of commands.old.items ++ scale_if is_satisfied (key_of key.now) set.now.value (pods_of pods.now)) }
 {
     if is_satisfied && !set.is_being_deleted() {
         add_scale(alloc, key, set, pods, commands)
@@ -53,9 +55,8 @@ fn commands_with(
         ≡ plan_with is_satisfied (key_of key.now) set.now.value may (map entry_of pods.now)) }
 {
     let selector = selector_of(alloc, set)?;
-    let own = own_pods(alloc, set, &selector, may, pods)?;
     let mut commands = Vec::new(alloc);
-    add_claims(alloc, key, set, &selector, may, pods, &mut commands)?;
+    let own = claim_pods(alloc, key, set, &selector, may, pods, &mut commands)?;
     add_scale_if(alloc, is_satisfied, key, set, own.as_slice(), &mut commands)?;
     add_report(alloc, key, set, own.as_slice(), &mut commands)?;
     Ok(commands)

@@ -2,9 +2,9 @@
 ghost use Rattle.std.specs.Prelude.{◌≡◌, OnOk, map};
 ghost use Rattle.std.specs.Ordering.{on};
 ghost use Rattle.plans.specs.Orders.{in_order};
-ghost use Rattle.plans.specs.PodRanks.{phase_rank, rank_beside, rank_cmp};
+ghost use Rattle.plans.specs.PodRanks.{phase_rank, rank_cmp};
 ghost use Rattle.plans.specs.Pods.{phase};
-ghost use Rattle.replicaset.specs.Ranks.{phase_of, rank_of, ranked_of};
+ghost use Rattle.replicaset.specs.Ranks.{phase_of, rank_of, ranked_of, read, read_of, with_on_node};
 ghost use Rattle.turns.specs.Entries.{entry_of};
 
 use crate::costs::deletion_cost;
@@ -36,10 +36,11 @@ pub(crate) struct Rank<'a> {
     pub key: &'a Key,
 }
 
-/// A pod with its rank.
+/// A pod of the set's own with what is read of it: its rank, which counts no pods on its node at first, and that node.
 #[derive(Clone, Copy)]
 pub(crate) struct Ranked<'a> {
     pub rank: Rank<'a>,
+    pub node: &'a str,
     pub pod: Entry<'a>,
 }
 
@@ -57,19 +58,37 @@ fn phase_rank(pod: &Object) -> Phase
     }
 }
 
-/// Returns the rank of a pod with so many of the pods on its node. It takes no memory.
-pub(crate) fn rank_beside<'a>(pod: &Entry<'a>, on_node: usize) -> Rank<'a>
-    ensures { rank_of result ≡ rank_beside on_node (entry_of pod.now) }
+/// Returns a pod with what is read of it. It takes no memory.
+pub(crate) fn read<'a>(pod: &Entry<'a>) -> Ranked<'a>
+    ensures read { read_of result ≡ read (entry_of result.pod) }
+    ensures pod { entry_of result.pod ≡ entry_of pod.now }
 {
-    Rank {
-        is_placed: !node(pod.object).is_empty(),
+    let node = node(pod.object);
+    let rank = Rank {
+        is_placed: !node.is_empty(),
         phase: phase_rank(pod.object),
         is_ready: is_ready(pod.object),
         cost: deletion_cost(pod.object),
-        on_node: Reverse(on_node),
+        on_node: Reverse(0),
         creation: Reverse(creation(pod.object)),
         key: pod.key,
+    };
+    Ranked {
+        rank,
+        node,
+        pod: *pod,
     }
+}
+
+/// Returns the pod with so many of the pods on its node. It takes no memory.
+pub(crate) fn beside<'a>(pod: &Ranked<'a>, on_node: usize) -> Ranked<'a>
+    ensures { ranked_of result ≡ (with_on_node on_node (rank_of pod.now.rank), entry_of pod.now.pod) }
+{
+    let rank = Rank {
+        on_node: Reverse(on_node),
+        ..pod.rank
+    };
+    Ranked { rank, ..*pod }
 }
 
 /// Puts pods in the order of their ranks. The error is running out of memory.

@@ -4,33 +4,21 @@ ghost use Rattle.definitions.specs.declared.kinds.Kind.TheVariants.{Pod};
 ghost use Rattle.controllers.specs.Commands.{create};
 ghost use Rattle.keys.specs.Keys.{key_of};
 ghost use Rattle.plans.specs.NewPods.{new_pod};
-ghost use Rattle.plans.specs.ReplicaSets.{replicas, scale};
+ghost use Rattle.plans.specs.ReplicaSets.{scale};
+ghost use Rattle.replicaset.specs.Ranks.{AreRead, pods_of};
 ghost use Rattle.turns.specs.Commands.{command_of};
-ghost use Rattle.turns.specs.Entries.{entry_of};
 
 use crate::new_pods::new_pod;
-use crate::pods::in_spec;
+use crate::ranks::Ranked;
 use crate::victims::delete_lowest;
 use keys::Key;
 use meta::Object;
+use reports::count_in_spec;
 use std::alloc::{AllocError, Global};
-use turns::{Command, Entry};
+use turns::Command;
 
 /// At most so many pods are created or deleted in one turn.
 const MOST: u64 = 500;
-
-/// Returns how many pods the set is to have. It takes no memory.
-fn replicas(set: &Object) -> u64
-    ensures { result ≡ replicas set.now.value }
-{
-    match in_spec(set, "replicas") {
-        Some(value) => match value.as_i64() {
-            Some(wanted) => { if wanted > 0 { wanted as u64 } else { 0 } }
-            None => 0,
-        },
-        None => 0,
-    }
-}
 
 /// Adds so many commands that create a pod in the key's namespace. The error is running out of memory.
 fn repeat(
@@ -71,13 +59,14 @@ pub(crate) fn add_scale(
     alloc: Global,
     key: &Key,
     set: &Object,
-    pods: &[Entry<'_>],
+    pods: &[Ranked<'_>],
     commands: &mut Vec<Command>,
 ) -> Result<(), AllocError>
+    requires { AreRead pods.now }
     ensures { OnOk result (map command_of commands.new.items
-        ≡ map command_of commands.old.items ++ scale (key_of key.now) set.now.value (map entry_of pods.now)) }
+        ≡ map command_of commands.old.items ++ scale (key_of key.now) set.now.value (pods_of pods.now)) }
 {
-    let wanted = replicas(set);
+    let wanted = count_in_spec(set, "replicas");
     let count = pods.len() as u64;
     if count < wanted {
         let missing = (wanted - count).min(MOST);

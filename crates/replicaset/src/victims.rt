@@ -1,44 +1,42 @@
 //! The pods that a ReplicaSet deletes where it has too many.
 ghost use Rattle.std.specs.Prelude.{◌≡◌, ◌++◌, IfOk, OnOk, map, take};
-ghost use Rattle.serde_json.specs.Data.{Data};
-ghost use Rattle.definitions.specs.Keys.{Key};
-ghost use Rattle.plans.specs.PodRanks.{node, rank_beside, ranked};
+ghost use Rattle.plans.specs.PodRanks.{ranked};
 ghost use Rattle.plans.specs.ReplicaSets.{delete_pod};
 ghost use Rattle.replicaset.specs.Nodes.{count_at};
-ghost use Rattle.replicaset.specs.Ranks.{ranked_of};
+ghost use Rattle.replicaset.specs.Ranks.{AreRead, pods_of, rank_of, ranked_of, with_on_node};
+ghost use Rattle.replicaset.specs.declared.ranks.Ranked.{Ranked};
 ghost use Rattle.turns.specs.Commands.{command_of};
 ghost use Rattle.turns.specs.Entries.{entry_of};
 
 use crate::nodes::{count_at, count_by_node};
-use crate::pods::node;
-use crate::ranks::{Ranked, rank_beside, sort};
+use crate::ranks::{Ranked, beside, sort};
 use std::alloc::{AllocError, Global};
 use std::collections::BTreeMap;
 use turns::{Command, Entry};
 
-/// Returns the pods with their ranks, in the order of the pods. The error is running out of memory.
-fn with_ranks<'a>(
+/// Returns the pods with what was counted on their nodes, in the order of the pods. The error is running out of memory.
+fn with_counts<'a>(
     alloc: Global,
     counts: &BTreeMap<&'a str, usize>,
-    pods: &[Entry<'a>],
+    pods: &[Ranked<'a>],
 ) -> Result<Vec<Ranked<'a>>, AllocError>
     ensures { IfOk result (λ v. map ranked_of v.items
-        ≡ map (λ (p : Key × Data). (rank_beside (count_at (node p.1) counts.now) p, p)) (map entry_of pods.now)) }
+        ≡ map (λ (r : Ranked). (with_on_node (count_at r.node.now counts.now) (rank_of r.rank), entry_of r.pod)) pods.now) }
 {
     let mut ranked = Vec::with_capacity(alloc, pods.len())?;
     for pod in pods {
-        let rank = rank_beside(pod, count_at(counts, node(pod.object)));
-        ranked.push(Ranked { rank, pod: *pod })?;
+        ranked.push(beside(pod, count_at(counts, pod.node)))?;
     }
     Ok(ranked)
 }
 
 /// Returns the pods in the order in which they go. The error is running out of memory.
-fn ranked<'a>(alloc: Global, pods: &[Entry<'a>]) -> Result<Vec<Ranked<'a>>, AllocError>
-    ensures { IfOk result (λ v. map (λ r. entry_of r.pod) v.items ≡ ranked (map entry_of pods.now)) }
+fn ranked<'a>(alloc: Global, pods: &[Ranked<'a>]) -> Result<Vec<Ranked<'a>>, AllocError>
+    requires { AreRead pods.now }
+    ensures { IfOk result (λ v. pods_of v.items ≡ ranked (pods_of pods.now)) }
 {
     let counts = count_by_node(alloc, pods)?;
-    let mut ranked = with_ranks(alloc, &counts, pods)?;
+    let mut ranked = with_counts(alloc, &counts, pods)?;
     sort(&mut ranked)?;
     Ok(ranked)
 }
@@ -66,7 +64,7 @@ fn add_deletes(
     commands: &mut Vec<Command>,
 ) -> Result<(), AllocError>
     ensures { OnOk result (map command_of commands.new.items
-        ≡ map command_of commands.old.items ++ map delete_pod (map (λ r. entry_of r.pod) victims.now)) }
+        ≡ map command_of commands.old.items ++ map delete_pod (pods_of victims.now)) }
 {
     for victim in victims {
         commands.push(delete_pod(alloc, &victim.pod)?)?;
@@ -77,13 +75,17 @@ fn add_deletes(
 /// Adds the commands that delete so many of the pods, those of the lowest rank. The error is running out of memory.
 pub(crate) fn delete_lowest(
     alloc: Global,
-    pods: &[Entry<'_>],
+    pods: &[Ranked<'_>],
     surplus: usize,
     commands: &mut Vec<Command>,
 ) -> Result<(), AllocError>
+    requires { AreRead pods.now }
     ensures { OnOk result (map command_of commands.new.items
-        ≡ map command_of commands.old.items ++ map delete_pod (take surplus (ranked (map entry_of pods.now)))) }
+        ≡ map command_of commands.old.items ++ map delete_pod (take surplus (ranked (pods_of pods.now)))) }
 {
+    if surplus == 0 {
+        return Ok(());
+    }
     let mut victims = ranked(alloc, pods)?;
     victims.truncate(surplus);
     add_deletes(alloc, victims.as_slice(), commands)

@@ -2,7 +2,7 @@
 use Rattle.std.proofs.Common.{◌≡◌, ℕ, List, Option, Some, None, Err, inl, inr, refl, sym, ap, ◌∙◌}
 use Rattle.definitions.specs.declared.refusals.Part.{Part}
 use Rattle.definitions.specs.declared.refusals.Part.TheVariants as part
-use Rattle.definitions.specs.Collections.{going_on}
+use Rattle.definitions.specs.ListQueries.{going_on}
 use Rattle.definitions.specs.PageTokens.{Token, token_of}
 use Rattle.definitions.proofs.TokensRead.{read_is_token}
 use Rattle.keys.specs.declared.fault.Fault.{Fault}

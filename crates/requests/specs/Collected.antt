@@ -2,7 +2,7 @@
 use Rattle.std.specs.Prelude.{◌≡◌, option_map, Result, Ok, Err}
 use Rattle.definitions.specs.declared.refusals.Part.{Part}
 use Rattle.definitions.specs.declared.refusals.Part.TheVariants as part
-use Rattle.definitions.specs.Collections as collections
+use Rattle.definitions.specs.ListQueries as collections
 use Rattle.definitions.specs.Pages.{Place}
 use Rattle.definitions.specs.PageTokens.{token_place}
 use Rattle.pages.specs.Seen.{token_of}

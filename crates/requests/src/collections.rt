@@ -1,12 +1,12 @@
 //! Queries of collections.
 ghost use Rattle.std.specs.Prelude.{◌≡◌};
 ghost use Rattle.form_urlencoded.specs.Form.{raw_pairs};
-ghost use Rattle.definitions.specs.Collections.{read_by, collection_of};
+ghost use Rattle.definitions.specs.ListQueries.{read_by, collection_of};
 ghost use Rattle.requests.specs.Collected.{Gives, read_seen, collection_seen};
 
 use crate::faults::QueryFault;
 use crate::list_options::{ListOptions, list_options};
-use crate::members::{Names, fields, has_any, is_asked, labels};
+use crate::members::{Names, fields, has_any, is_true_value, labels};
 use crate::watch_options::{WatchOptions, watch_options};
 use definitions::versions::At;
 use selector::{Fields, Selector};
@@ -25,7 +25,7 @@ pub struct Collection {
 
 impl Collection {
     ghost use Rattle.std.specs.Prelude.{◌≡◌};
-    ghost use Rattle.definitions.specs.Collections.{everything};
+    ghost use Rattle.definitions.specs.ListQueries.{everything};
     ghost use Rattle.requests.specs.Collected.{collection_seen};
 
     /// Returns all objects, as they are at present.
@@ -57,7 +57,7 @@ pub enum Read {
 fn read_options(alloc: Global, query: &[u8]) -> Result<Read, QueryFault>
     ensures { Gives read_seen (read_by (raw_pairs query.now)) result }
 {
-    if is_asked(alloc, query, "watch")? {
+    if is_true_value(alloc, query, "watch")? {
         Ok(Read::Watch(watch_options(alloc, query)?))
     } else {
         Ok(Read::List(list_options(alloc, query)?))

@@ -3,15 +3,15 @@ ghost use Rattle.std.specs.Prelude.{◌≡◌, ◌==◌, Some, codes, option_map
 ghost use Rattle.std.specs.Cow.{cow_str_bytes};
 ghost use Rattle.std.specs.List.{list_all};
 ghost use Rattle.form_urlencoded.specs.Form.{raw_pairs};
-ghost use Rattle.definitions.specs.Collections.{limit_of, match_of, list_at, going_on, by_token, list_options};
+ghost use Rattle.definitions.specs.ListQueries.{limit_of, match_of, list_at, going_on, by_token, list_options};
 ghost use Rattle.definitions.specs.Moments.{is_digit};
-ghost use Rattle.definitions.specs.Queries.{member};
+ghost use Rattle.definitions.specs.Queries.{parameter};
 ghost use Rattle.definitions.specs.PageTokens.{token_of};
 ghost use Rattle.requests.specs.Collected.{Gives, list_seen};
 ghost use Rattle.requests.specs.Queried.{Reads};
 
 use crate::faults::{MemberFault, QueryFault};
-use crate::members::{member, version};
+use crate::members::{parameter, version};
 use definitions::versions::{At, Match};
 use keys::Fault;
 use pages::Token;
@@ -64,9 +64,9 @@ fn read_limit(text: &str) -> Option<usize>
 
 /// Returns the limit that a query names.
 fn limit(alloc: Global, query: &[u8]) -> Result<usize, MemberFault>
-    ensures { Reads (limit_of (member (codes "limit") (raw_pairs query.now))) result }
+    ensures { Reads (limit_of (parameter (codes "limit") (raw_pairs query.now))) result }
 {
-    match limit_of(member(alloc, query, "limit")?) {
+    match limit_of(parameter(alloc, query, "limit")?) {
         Some(limit) => Ok(limit),
         None => Err(MemberFault::BadQuery),
     }
@@ -83,9 +83,9 @@ fn match_of(name: Option<CowStr<'_>>) -> Option<Match>
 
 /// Returns how a query wants the revision to be matched.
 fn matched(alloc: Global, query: &[u8]) -> Result<Match, MemberFault>
-    ensures { Reads (match_of (member (codes "resourceVersionMatch") (raw_pairs query.now))) result }
+    ensures { Reads (match_of (parameter (codes "resourceVersionMatch") (raw_pairs query.now))) result }
 {
-    match match_of(member(alloc, query, "resourceVersionMatch")?) {
+    match match_of(parameter(alloc, query, "resourceVersionMatch")?) {
         Some(matched) => Ok(matched),
         None => Err(MemberFault::BadQuery),
     }
@@ -172,7 +172,7 @@ pub(crate) fn list_options(alloc: Global, query: &[u8]) -> Result<ListOptions, Q
     let limit = limit(alloc, query)?;
     let version = version(alloc, query)?;
     let matched = matched(alloc, query)?;
-    let token = member(alloc, query, "continue")?;
+    let token = parameter(alloc, query, "continue")?;
     match list_at(limit != 0, matched, version) {
         Some(at) => by_token(alloc, limit, version, token, at),
         None => Err(QueryFault::BadQuery),

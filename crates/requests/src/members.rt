@@ -4,8 +4,8 @@ ghost use Rattle.std.specs.Cow.{cow_str_bytes};
 ghost use Rattle.std.specs.List.{list_any};
 ghost use Rattle.std.specs.Str.{bytes_eq};
 ghost use Rattle.form_urlencoded.specs.Form.{raw_pairs};
-ghost use Rattle.definitions.specs.Collections.{is_asked, version_of};
-ghost use Rattle.definitions.specs.Queries.{has_any, member, or_empty};
+ghost use Rattle.definitions.specs.ListQueries.{is_true_value, version_of};
+ghost use Rattle.definitions.specs.Queries.{has_any, parameter, or_empty};
 ghost use Rattle.definitions.specs.SelectorFields.{fields_of_text};
 ghost use Rattle.definitions.specs.SelectorTexts.{selector_of_text};
 ghost use Rattle.requests.specs.Queried.{Reads, names_seen};
@@ -63,7 +63,7 @@ fn is_of_no_watch(name: &str) -> bool
     name == "resourceVersionMatch"
 }
 
-/// Returns whether a member has one of these names.
+/// Returns whether a parameter has one of these names.
 pub(crate) fn has_any(alloc: Global, query: &[u8], names: Names) -> Result<bool, AllocError>
     ensures { IfOk result (λ b. b ≡ has_any (names_seen names) (raw_pairs query.now)) }
 {
@@ -76,13 +76,13 @@ pub(crate) fn has_any(alloc: Global, query: &[u8], names: Names) -> Result<bool,
     Ok(false)
 }
 
-/// Returns the value of a member: of those with its name the first counts.
-pub(crate) fn member<'q>(
+/// Returns the value of a parameter: of those with its name the first counts.
+pub(crate) fn parameter<'q>(
     alloc: Global,
     query: &'q [u8],
     name: &str,
 ) -> Result<Option<CowStr<'q>>, AllocError>
-    ensures { IfOk result (λ o. option_map cow_str_bytes o ≡ member name.now (raw_pairs query.now)) }
+    ensures { IfOk result (λ o. option_map cow_str_bytes o ≡ parameter name.now (raw_pairs query.now)) }
 {
     for pair in parse(alloc, query) {
         let (found, value) = pair?;
@@ -95,16 +95,16 @@ pub(crate) fn member<'q>(
 
 /// Returns whether a value is `true`, `True`, as Python's client writes it, or `1`.
 pub(crate) fn is_true(value: &str) -> bool
-    ensures { result ≡ is_asked (Some value.now) }
+    ensures { result ≡ is_true_value (Some value.now) }
 {
     value == "true" || value == "True" || value == "1"
 }
 
-/// Returns whether a member is there and true.
-pub(crate) fn is_asked(alloc: Global, query: &[u8], name: &str) -> Result<bool, AllocError>
-    ensures { IfOk result (λ b. b ≡ is_asked (member name.now (raw_pairs query.now))) }
+/// Returns whether a parameter is there and true.
+pub(crate) fn is_true_value(alloc: Global, query: &[u8], name: &str) -> Result<bool, AllocError>
+    ensures { IfOk result (λ b. b ≡ is_true_value (parameter name.now (raw_pairs query.now))) }
 {
-    match member(alloc, query, name)? {
+    match parameter(alloc, query, name)? {
         Some(value) => Ok(is_true(value.as_str())),
         None => Ok(false),
     }
@@ -123,9 +123,9 @@ fn version_of(text: Option<CowStr<'_>>) -> Option<Option<u64>>
 
 /// Returns the revision that a query names, if any.
 pub(crate) fn version(alloc: Global, query: &[u8]) -> Result<Option<u64>, MemberFault>
-    ensures { Reads (version_of (member (codes "resourceVersion") (raw_pairs query.now))) result }
+    ensures { Reads (version_of (parameter (codes "resourceVersion") (raw_pairs query.now))) result }
 {
-    match version_of(member(alloc, query, "resourceVersion")?) {
+    match version_of(parameter(alloc, query, "resourceVersion")?) {
         Some(version) => Ok(version),
         None => Err(MemberFault::BadQuery),
     }
@@ -143,9 +143,9 @@ fn or_empty<'t>(text: &'t Option<CowStr<'_>>) -> &'t str
 
 /// Returns the selector of labels in a query.
 pub(crate) fn labels(alloc: Global, query: &[u8]) -> Result<Selector, MemberFault>
-    ensures { Reads (selector_of_text (or_empty (member (codes "labelSelector") (raw_pairs query.now)))) result }
+    ensures { Reads (selector_of_text (or_empty (parameter (codes "labelSelector") (raw_pairs query.now)))) result }
 {
-    let text = member(alloc, query, "labelSelector")?;
+    let text = parameter(alloc, query, "labelSelector")?;
     match Selector::parse(alloc, or_empty(&text)) {
         Ok(labels) => Ok(labels),
         Err(selector::Fault::NoMemory) => Err(MemberFault::NoMemory),
@@ -155,9 +155,9 @@ pub(crate) fn labels(alloc: Global, query: &[u8]) -> Result<Selector, MemberFaul
 
 /// Returns the selector of fields in a query.
 pub(crate) fn fields(alloc: Global, query: &[u8]) -> Result<Fields, MemberFault>
-    ensures { Reads (fields_of_text (or_empty (member (codes "fieldSelector") (raw_pairs query.now)))) result }
+    ensures { Reads (fields_of_text (or_empty (parameter (codes "fieldSelector") (raw_pairs query.now)))) result }
 {
-    let text = member(alloc, query, "fieldSelector")?;
+    let text = parameter(alloc, query, "fieldSelector")?;
     match Fields::parse(alloc, or_empty(&text)) {
         Ok(fields) => Ok(fields),
         Err(selector::Fault::NoMemory) => Err(MemberFault::NoMemory),

@@ -3,8 +3,8 @@ ghost use Rattle.std.specs.Prelude.{◌≡◌, IfOk, codes};
 ghost use Rattle.std.specs.Result.{result_map_both};
 ghost use Rattle.form_urlencoded.specs.Form.{raw_pairs};
 ghost use Rattle.definitions.specs.DeleteOptions.{stated_policy};
-ghost use Rattle.definitions.specs.Collections.{collection_of};
-ghost use Rattle.definitions.specs.Queries.{query_of, member};
+ghost use Rattle.definitions.specs.ListQueries.{collection_of};
+ghost use Rattle.definitions.specs.Queries.{query_of, parameter};
 ghost use Rattle.definitions.specs.Targets.{only_policy, query_for};
 ghost use Rattle.routes.specs.Seen.{route_seen};
 ghost use Rattle.requests.specs.Collected.{Gives};
@@ -12,7 +12,7 @@ ghost use Rattle.requests.specs.Queried.{query_seen};
 
 use crate::collections::{Collection, read_collection};
 use crate::faults::QueryFault;
-use crate::members::{Names, has_any, member};
+use crate::members::{Names, has_any, parameter};
 use definitions::methods::Method;
 use definitions::policies::StatedPolicy;
 use routes::targets::Target;
@@ -40,9 +40,9 @@ fn collection_query(alloc: Global, query: &[u8]) -> Result<Query, QueryFault>
 
 /// Returns the policy that the query of a delete names.
 fn policy(alloc: Global, query: &[u8]) -> Result<StatedPolicy, AllocError>
-    ensures { IfOk result (λ said. said ≡ stated_policy (member (codes "propagationPolicy") (raw_pairs query.now))) }
+    ensures { IfOk result (λ said. said ≡ stated_policy (parameter (codes "propagationPolicy") (raw_pairs query.now))) }
 {
-    match member(alloc, query, "propagationPolicy")? {
+    match parameter(alloc, query, "propagationPolicy")? {
         Some(name) => Ok(StatedPolicy::read(Some(name.as_str()))),
         None => Ok(StatedPolicy::read(None)),
     }
@@ -63,7 +63,7 @@ fn only_policy(alloc: Global, query: &[u8], policy: StatedPolicy) -> Result<Quer
 
 /// Returns the query of a delete.
 fn delete_query(alloc: Global, query: &[u8]) -> Result<Query, QueryFault>
-    ensures { Gives query_seen (only_policy (raw_pairs query.now) (stated_policy (member (codes "propagationPolicy") (raw_pairs query.now)))) result }
+    ensures { Gives query_seen (only_policy (raw_pairs query.now) (stated_policy (parameter (codes "propagationPolicy") (raw_pairs query.now)))) result }
 {
     let said = policy(alloc, query)?;
     only_policy(alloc, query, said)

@@ -1,11 +1,11 @@
 //! What the query of a watch asks of it.
 ghost use Rattle.std.specs.Prelude.{◌≡◌};
 ghost use Rattle.form_urlencoded.specs.Form.{raw_pairs};
-ghost use Rattle.definitions.specs.Collections.{watch_from, watch_options};
+ghost use Rattle.definitions.specs.ListQueries.{watch_from, watch_options};
 ghost use Rattle.requests.specs.Collected.{Gives, watch_seen};
 
 use crate::faults::QueryFault;
-use crate::members::{Names, has_any, is_asked, version};
+use crate::members::{Names, has_any, is_true_value, version};
 use std::alloc::Global;
 
 /// What a watch is asked to show.
@@ -35,7 +35,7 @@ pub(crate) fn watch_options(alloc: Global, query: &[u8]) -> Result<WatchOptions,
     if has_any(alloc, query, Names::OfNoWatch)? {
         return Err(QueryFault::BadQuery);
     }
-    let bookmarks = is_asked(alloc, query, "allowWatchBookmarks")?;
+    let bookmarks = is_true_value(alloc, query, "allowWatchBookmarks")?;
     let version = version(alloc, query)?;
     Ok(WatchOptions {
         from: watch_from(version),

@@ -2,9 +2,9 @@
 use Rattle.std.specs.Prelude.{List, map}
 use denote.Ref.{Bor}
 use Rattle.keys.specs.Keys.{key_of}
-use Rattle.definitions.specs.History.{Members}
+use Rattle.definitions.specs.History.{Entries}
 use Rattle.keys.specs.declared.key.Key.{Key}
 use Rattle.meta.specs.declared.stored.StoredObject.{StoredObject}
 
-abbrev pub seen : List (Bor Key × Bor StoredObject) → Members
+abbrev pub seen : List (Bor Key × Bor StoredObject) → Entries
 seen es = map (λ e. (key_of e.0.now, e.1.now.value)) es

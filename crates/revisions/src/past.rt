@@ -2,7 +2,7 @@
 ghost use Rattle.std.specs.Prelude.{◌≡◌, IfOk, OnOk, ◌-◌, take, option_map};
 ghost use Rattle.keys.specs.Keys.{key_of};
 ghost use Rattle.meta.specs.Writes.{write_of};
-ghost use Rattle.definitions.specs.History.{members, after, put_or_remove};
+ghost use Rattle.definitions.specs.History.{entries_at, after, put_or_remove};
 ghost use Rattle.revisions.specs.Journals.{history_of, put_at};
 ghost use Rattle.revisions.specs.Seen.{seen};
 
@@ -18,7 +18,7 @@ pub(crate) fn state_at<'a>(
     writes: &'a [Write],
     revision: u64,
 ) -> Result<BTreeMap<&'a Key, &'a StoredObject>, AllocError>
-    ensures { IfOk result (λ m. seen m.entries ≡ members (history_of writes.entry.now) revision) }
+    ensures { IfOk result (λ m. seen m.entries ≡ entries_at (history_of writes.entry.now) revision) }
 {
     let mut state = BTreeMap::new(alloc);
     for write in up_to(writes, revision) {

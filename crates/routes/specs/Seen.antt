@@ -1,8 +1,8 @@
 -- Targets as the routes that they stand for, and what the parameters of an entry make of a path.
 use Rattle.std.specs.Prelude.{ℕ, List, Option, Some, None, option_map, option_and_then}
 use Rattle.std.specs.Borrow.{Bor}
-use Rattle.definitions.specs.Kinds.{kind_named}
-use Rattle.definitions.specs.Targets.{Route, collection, object_at, status_of, with_status}
+use Rattle.definitions.specs.Kinds.{kind_with_plural}
+use Rattle.definitions.specs.Targets.{Route, collection, object_at, status_of, kind_with_status}
 use Rattle.definitions.specs.declared.kinds.Group.{Group}
 use Rattle.routes.specs.declared.entries.Entry.{Entry}
 use Rattle.routes.specs.declared.entries.Layout.{Layout}
@@ -21,18 +21,18 @@ route_seen (Status k ns name) = status_of (record { kind = k; namespace = ns.now
 
 -- the route of a path below a group, where there is a name
 abbrev pub with_name : Group → Layout → List ℕ → List ℕ → Option (List ℕ) → Option Route
-with_name g layout.All resource ns name = option_map (λ k. collection k None) (kind_named g resource)
-with_name g layout.Namespace resource ns name = option_map (λ k. collection k (Some ns)) (kind_named g resource)
+with_name g layout.All resource ns name = option_map (λ k. collection k None) (kind_with_plural g resource)
+with_name g layout.Namespace resource ns name = option_map (λ k. collection k (Some ns)) (kind_with_plural g resource)
 with_name g layout.Object resource ns None = None
-with_name g layout.Object resource ns (Some name) = option_map (λ k. object_at (record { kind = k; namespace = ns; name = name })) (kind_named g resource)
+with_name g layout.Object resource ns (Some name) = option_map (λ k. object_at (record { kind = k; namespace = ns; name = name })) (kind_with_plural g resource)
 with_name g layout.Status resource ns None = None
-with_name g layout.Status resource ns (Some name) = option_map (λ k. status_of (record { kind = k; namespace = ns; name = name })) (option_and_then with_status (kind_named g resource))
+with_name g layout.Status resource ns (Some name) = option_map (λ k. status_of (record { kind = k; namespace = ns; name = name })) (option_and_then kind_with_status (kind_with_plural g resource))
 
 -- the same, where there is a namespace
 abbrev pub with_namespace : Group → Layout → List ℕ → Option (List ℕ) → Option (List ℕ) → Option Route
-with_namespace g layout.All resource ns name = option_map (λ k. collection k None) (kind_named g resource)
+with_namespace g layout.All resource ns name = option_map (λ k. collection k None) (kind_with_plural g resource)
 with_namespace g layout.Namespace resource None name = None
-with_namespace g layout.Namespace resource (Some ns) name = option_map (λ k. collection k (Some ns)) (kind_named g resource)
+with_namespace g layout.Namespace resource (Some ns) name = option_map (λ k. collection k (Some ns)) (kind_with_plural g resource)
 with_namespace g layout.Object resource None name = None
 with_namespace g layout.Object resource (Some ns) name = with_name g layout.Object resource ns name
 with_namespace g layout.Status resource None name = None

@@ -1,7 +1,7 @@
 //! What a path names.
 ghost use Rattle.std.specs.Prelude.{◌≡◌, option_map, option_and_then};
-ghost use Rattle.definitions.specs.Kinds.{kind_named};
-ghost use Rattle.definitions.specs.Targets.{collection, object_at, status_of, with_status};
+ghost use Rattle.definitions.specs.Kinds.{kind_with_plural};
+ghost use Rattle.definitions.specs.Targets.{collection, object_at, status_of, kind_with_status};
 ghost use Rattle.routes.specs.Seen.{now, route_seen, assembled};
 
 use crate::entries::{Entry, Layout};
@@ -38,31 +38,31 @@ impl Target<'_> {
 }
 
 fn collection<'p>(group: Group, resource: &str, namespace: Option<&'p str>) -> Option<Target<'p>>
-    ensures { option_map route_seen result ≡ option_map (λ k. collection k (option_map now namespace.entry)) (kind_named group resource.now) }
+    ensures { option_map route_seen result ≡ option_map (λ k. collection k (option_map now namespace.entry)) (kind_with_plural group resource.now) }
 {
-    let kind = group.kind_named(resource)?;
+    let kind = group.kind_with_plural(resource)?;
     Some(Target::Collection(kind, namespace))
 }
 
 fn object<'p>(group: Group, resource: &str, namespace: &'p str, name: &'p str) -> Option<Target<'p>>
     ensures { option_map route_seen result
-        ≡ option_map (λ k. object_at (record { kind = k; namespace = namespace.now; name = name.now })) (kind_named group resource.now) }
+        ≡ option_map (λ k. object_at (record { kind = k; namespace = namespace.now; name = name.now })) (kind_with_plural group resource.now) }
 {
-    let kind = group.kind_named(resource)?;
+    let kind = group.kind_with_plural(resource)?;
     Some(Target::Object(kind, namespace, name))
 }
 
 fn status<'p>(group: Group, resource: &str, namespace: &'p str, name: &'p str) -> Option<Target<'p>>
     ensures { option_map route_seen result
-        ≡ option_map (λ k. status_of (record { kind = k; namespace = namespace.now; name = name.now })) (option_and_then with_status (kind_named group resource.now)) }
+        ≡ option_map (λ k. status_of (record { kind = k; namespace = namespace.now; name = name.now })) (option_and_then kind_with_status (kind_with_plural group resource.now)) }
 {
-    status_of(group.kind_named(resource)?, namespace, name)
+    status_of(group.kind_with_plural(resource)?, namespace, name)
 }
 
 /// Returns the status of an object, where its kind has one.
 fn status_of<'p>(kind: Kind, namespace: &'p str, name: &'p str) -> Option<Target<'p>>
     ensures { option_map route_seen result
-        ≡ option_map (λ k. status_of (record { kind = k; namespace = namespace.now; name = name.now })) (with_status kind) }
+        ≡ option_map (λ k. status_of (record { kind = k; namespace = namespace.now; name = name.now })) (kind_with_status kind) }
 {
     if !kind.has_status() {
         return None;

@@ -24,13 +24,13 @@ pub struct View {
 
 impl View {
     ghost use Rattle.std.specs.Prelude.{◌≡◌, ◌==◌, option_map, string_bytes};
-    ghost use Rattle.definitions.specs.History.{in_view, in_namespace, whole};
+    ghost use Rattle.definitions.specs.History.{in_view, in_namespace, unfiltered};
     ghost use Rattle.definitions.specs.Lists.{is_selective};
     ghost use Rattle.selector.specs.Views.{view_of};
 
     /// Returns all objects of a kind, in one namespace or in all. It takes no memory.
-    pub fn whole(alloc: Global, kind: Kind, namespace: Option<String>) -> View
-        ensures { view_of result ≡ whole kind (option_map string_bytes namespace) }
+    pub fn unfiltered(alloc: Global, kind: Kind, namespace: Option<String>) -> View
+        ensures { view_of result ≡ unfiltered kind (option_map string_bytes namespace) }
     {
         View {
             kind,

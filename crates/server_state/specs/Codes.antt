@@ -12,7 +12,7 @@ use Rattle.codes.specs.HistoryCodes.{coded_key}
 use Rattle.definitions.specs.Keys.{Key}
 use Rattle.definitions.specs.Windows.{Change}
 use Rattle.server_state.specs.Recorded.{Window, opened}
-use Rattle.definitions.specs.History.{Members}
+use Rattle.definitions.specs.History.{Entries}
 use Rattle.server_state.specs.Snapshots.{Snapshot}
 use Rattle.server_state.specs.Servers.{Server}
 
@@ -26,11 +26,11 @@ coded_window =
     code_by ((Kind × ℕ) × (List Change × ℕ)) (coded× (coded× kind.the_row.coded coded_ℕ) (coded× (coded_list coded_change) coded_ℕ))
     (λ w. ((w.kind, w.size), (w.kept, w.floor))) (λ p. record { kind = p.0.0; size = p.0.1; kept = p.1.0; floor = p.1.1 }) (λ _. refl)
 
-abbrev pub coded_members : Coded Members
+abbrev pub coded_members : Coded Entries
 coded_members = coded_list (coded× coded_key coded_data)
 
 abbrev pub coded_snapshot : Coded Snapshot
-coded_snapshot = code_by (Members × ℕ) (coded× coded_members coded_ℕ) (λ s. (s.members, s.revision)) (λ p. record { members = p.0; revision = p.1 }) (λ _. refl)
+coded_snapshot = code_by (Entries × ℕ) (coded× coded_members coded_ℕ) (λ s. (s.members, s.revision)) (λ p. record { members = p.0; revision = p.1 }) (λ _. refl)
 
 -- the windows of all kinds in a list, and back
 abbrev pub window_at : List Window → Kind → Window

@@ -1,7 +1,7 @@
 -- A window as a server records it, and what it answers by the changes that it has.
 use Rattle.std.specs.Prelude.{◌≡◌, ℕ, List, [], ◌∷◌, ◌++◌, take, filter, flat_map, max, nat_lt, Result}
 use Rattle.definitions.specs.declared.kinds.Kind.{Kind}
-use Rattle.definitions.specs.History.{History, View, Members, put_or_remove, seen}
+use Rattle.definitions.specs.History.{History, View, Entries, put_or_remove, seen}
 use Rattle.definitions.specs.Refusals.{Refusal}
 use Rattle.definitions.specs.Events.{Event, event_of}
 use Rattle.definitions.specs.Windows.{Change, last_n, all_but, last_revision, changes_of, floor, within}
@@ -25,7 +25,7 @@ abbrev pub events_recorded : View → List Change → List Event
 events_recorded v ks = flat_map (event_recorded v) ks
 
 -- what the view showed before these changes, by what it shows after them: the newest is undone first
-abbrev pub undone : View → Members → List Change → Members
+abbrev pub undone : View → Entries → List Change → Entries
 undone v ms [] = ms
 undone v ms (k ∷ ks) = put_or_remove (undone v ms ks) k.key (seen v k.key k.old)
 
@@ -34,7 +34,7 @@ abbrev pub recorded_since : Window → ℕ → View → ℕ → ℕ → Result (
 recorded_since s now v a n = within s.floor now a (take n (events_recorded v (above a s.kept)))
 
 -- the list of the view at r, where `now` is present and has this list
-abbrev pub recorded_list : Window → ℕ → Members → View → ℕ → Result Members Refusal
+abbrev pub recorded_list : Window → ℕ → Entries → View → ℕ → Result Entries Refusal
 recorded_list s now listed v r = within s.floor now r (undone v listed (above r s.kept))
 
 -- ---- how it goes with a history

@@ -5,7 +5,7 @@ use Rattle.definitions.specs.declared.kinds.Kind.{Kind}
 use Rattle.definitions.specs.declared.versions.At.{At}
 use Rattle.definitions.specs.Kinds.{rank}
 use Rattle.definitions.specs.History.{History, Write, write, compaction, View, viewed, found}
-use Rattle.definitions.specs.Collections.{ListOptions, WatchOptions}
+use Rattle.definitions.specs.ListQueries.{ListOptions, WatchOptions}
 use Rattle.definitions.specs.Refusals.{Refusal}
 use Rattle.definitions.specs.Verbs.{Outcome}
 use Rattle.definitions.specs.Versions.{Listed, Watched, once_present, listed_at, watched}

@@ -5,7 +5,7 @@ use Rattle.definitions.specs.History.{History, Write, present, after}
 
 -- what is there, and the revision at which it is (etcd API, Revisions)
 pub record Snapshot : Type 0 where
-  pub members : history.Members
+  pub members : history.Entries
   pub revision : ℕ
 
 -- nothing is there at first
@@ -14,7 +14,7 @@ empty = record { members = []; revision = 1 }
 
 -- what is there after all that has happened
 abbrev pub snapshot : History → Snapshot
-snapshot h = record { members = history.members h (present h); revision = present h }
+snapshot h = record { members = history.entries_at h (present h); revision = present h }
 
 -- with one more write, which takes the next revision
 abbrev pub written : Snapshot → Write → Snapshot

@@ -41,7 +41,7 @@ fn with_two(alloc: Global) -> Result<Server, Fail> {
 #[test]
 fn a_watch_is_given_in_parts(rt: HostRuntime) -> Result<(), Fail> {
     let server = with_two(rt.alloc())?;
-    let view = View::whole(rt.alloc(), Kind::ConfigMap, None);
+    let view = View::unfiltered(rt.alloc(), Kind::ConfigMap, None);
     let watched = server.watch_from(rt.alloc(), &view, 1, 1)?;
     assert_eq!(rt; watched.events.len(), 1);
     assert_eq!(rt; watched.stands, 2);

@@ -1,4 +1,5 @@
 //! One connection, from its first byte to its end.
+use crate::ending::Ending;
 use crate::handler::Handler;
 use clocks::moment;
 use stamps::moments::Moment;
@@ -27,8 +28,8 @@ pub fn prepare(stream: &TcpStream) -> io::Result<()> {
 }
 
 /// Hands a connection on, with the moment that the clock shows; where it shows none, with the moment at which a session
-/// begins.
-pub fn hand_on<C: Clock, H: Handler>(stream: &TcpStream, clock: &C, handler: &mut H)
+/// begins. Returns whether the peer may still be sending.
+pub fn hand_on<C: Clock, H: Handler>(stream: &TcpStream, clock: &C, handler: &mut H) -> Ending
     ensures { H.step handler.old handler.new }
 {
     let mut reader = stream;
@@ -37,12 +38,19 @@ pub fn hand_on<C: Clock, H: Handler>(stream: &TcpStream, clock: &C, handler: &mu
         Some(now) => now,
         None => Moment::start(),
     };
-    handler.handle(&mut reader, &mut writer, now);
+    handler.handle(&mut reader, &mut writer, now)
 }
 
-/// Ends the sending half, and reads away what the peer still sends, up to 64 KiB and no longer than 4 seconds. A stream
-/// that is closed before its bytes are read is reset, and its peer may lose the reply.
-pub fn finish(stream: &TcpStream) {
+/// Ends a connection. Where the peer may still be sending, ends the sending half and reads away what still comes, up to 64 KiB
+/// and no longer than 4 seconds: a stream that is closed before its bytes are read is reset, and its peer may lose the reply.
+pub fn finish(stream: &TcpStream, ending: Ending) {
+    if ending == Ending::Unread {
+        read_away(stream);
+    }
+}
+
+/// Ends the sending half, and reads away what still comes.
+fn read_away(stream: &TcpStream) {
     if stream.shutdown(Shutdown::Write).is_err() {
         return;
     }

@@ -6,6 +6,7 @@
 
 pub mod alone;
 pub mod connection;
+pub mod ending;
 pub mod fault;
 pub mod handler;
 pub mod listening;
@@ -13,6 +14,7 @@ pub mod threads;
 mod turns;
 
 pub use alone::{accept_alone, serve_alone};
+pub use ending::Ending;
 pub use fault::ServeFault;
 pub use handler::Handler;
 pub use listening::{announce, listen};

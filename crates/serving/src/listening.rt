@@ -71,7 +71,7 @@ pub(crate) fn serve_next<C: Clock, H: Handler>(
     let Some(stream) = accept(listener, clock) else {
         return false;
     };
-    hand_on(&stream, clock, handler);
-    finish(&stream);
+    let ending = hand_on(&stream, clock, handler);
+    finish(&stream, ending);
     true
 }

@@ -1,6 +1,6 @@
 ghost use Rattle.std.specs.Prelude.{⊤};
 
-use serving::{Handler, ServeFault, accept_alone, serve_alone};
+use serving::{Ending, Handler, ServeFault, accept_alone, serve_alone};
 use stamps::moments::Moment;
 use std::io;
 use std::io::{Read, Write};
@@ -16,12 +16,18 @@ struct Twice {
 impl Handler for Twice {
     ghost step = { λ _ _. ⊤ };
 
-    fn handle<R: Read, W: Write>(&mut self, reader: &mut R, writer: &mut W, moment: Moment) {
+    fn handle<R: Read, W: Write>(
+        &mut self,
+        reader: &mut R,
+        writer: &mut W,
+        moment: Moment,
+    ) -> Ending {
         let mut byte = [0; 1];
         self.moment = moment;
         if let Ok(1) = reader.read(&mut byte) {
             let _ = writer.write_all(&[byte[0], byte[0]]);
         }
+        Ending::Unread
     }
 }
 

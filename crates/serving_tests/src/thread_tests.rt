@@ -1,5 +1,5 @@
 //! Threads that serve connections side by side.
-use serving::{Handler, accept_connections, serve};
+use serving::{Ending, Handler, accept_connections, serve};
 use stamps::moments::Moment;
 use std::alloc::Global;
 use std::io::{Read, Write};
@@ -33,12 +33,18 @@ impl<C: Clock> Handler for Lines<'_, C> {
 
     ghost step = { λ _ _. ⊤ };
 
-    fn handle<R: Read, W: Write>(&mut self, reader: &mut R, writer: &mut W, _moment: Moment) {
+    fn handle<R: Read, W: Write>(
+        &mut self,
+        reader: &mut R,
+        writer: &mut W,
+        _moment: Moment,
+    ) -> Ending {
         if reads_line(reader) {
             let _ = writer.write_all(b"yes");
         }
         thread::sleep(self.clock, Duration::from_millis(100));
         self.answered = self.answered.saturating_add(1);
+        Ending::Whole
     }
 }
 

@@ -1,6 +1,6 @@
 -- A session whose server stands for what has happened answers as what has happened does, and goes on so.
 use Rattle.std.proofs.Common.{◌≡◌, ℕ, List, [], Bool, true, false, Result, Ok, Err, length, ◌==◌, if◌then◌else◌, refl, sym, ap, ◌∙◌, subst}
-use Rattle.definitions.specs.Collections.{ListOptions}
+use Rattle.definitions.specs.ListQueries.{ListOptions}
 use Rattle.definitions.specs.declared.kinds.Kind.{Kind}
 use Rattle.definitions.specs.History.{History, View}
 use Rattle.line_protocol.specs.Lines as lines
@@ -80,13 +80,13 @@ holds_compacted size s h (Ok t) (Ok more) e is = e
 
 -- ---- lines
 
-same_line : (state : SessionState) (s : answers.Session) → Follows state s → (l : Line) → reply_to state l ≡ lines.reply_to s l
+pub same_line : (state : SessionState) (s : answers.Session) → Follows state s → (l : Line) → reply_to state l ≡ lines.reply_to s l
 same_line state s is (ask method target body) = ap reply_text (same_reply state s is (read_request method target body))
 same_line state s is (at moment) = refl
 same_line state s is (compact r) = same_compaction s.window (compact_by state.server r) (compacts s.history r) (compaction_holds s.window state.server s.history r is.0)
 same_line state s is unreadable = refl
 
-follows_line : (state : SessionState) (s : answers.Session) → Follows state s → (l : Line) → Follows (state_after state l) (lines.session_after s l)
+pub follows_line : (state : SessionState) (s : answers.Session) → Follows state s → (l : Line) → Follows (state_after state l) (lines.session_after s l)
 follows_line state s is (ask method target body) = (holds_after state s is (read_request method target body), is.1)
 follows_line state s is (at moment) = (is.0, refl)
 follows_line state s is (compact r) =

@@ -4,7 +4,7 @@ ghost use Rattle.definitions.specs.Frames.{frame_text};
 ghost use Rattle.line_protocol.specs.Lines.{line_text, reply_text};
 ghost use Rattle.definitions.specs.Replies.{outcome, shown};
 ghost use Rattle.definitions.specs.Refusals.{success_body};
-ghost use Rattle.definitions.specs.Streams.{event as change, frame_of, text_of, added_lines};
+ghost use Rattle.definitions.specs.Streams.{event as change, frame_of, text_of_lines, added_lines};
 ghost use Rattle.definitions.specs.Verbs.{refused};
 ghost use Rattle.keys.specs.Faults.{refusal_of};
 ghost use Rattle.meta.specs.Members.{member_of};
@@ -106,7 +106,7 @@ fn push_changes(
     events: &[Event],
     text: &mut Vec<u8>,
 ) -> Result<(), AllocError>
-    ensures { OnOk result (text.new.items ≡ text.old.items ++ text_of kind (map change (map event_seen events.now))) }
+    ensures { OnOk result (text.new.items ≡ text.old.items ++ text_of_lines kind (map change (map event_seen events.now))) }
 {
     for event in events {
         push_shown(alloc, kind, Shown::Change(event), text)?;
@@ -121,7 +121,7 @@ fn push_members(
     members: &[Member<'_>],
     text: &mut Vec<u8>,
 ) -> Result<(), AllocError>
-    ensures { OnOk result (text.new.items ≡ text.old.items ++ text_of kind (added_lines (map member_of members.now))) }
+    ensures { OnOk result (text.new.items ≡ text.old.items ++ text_of_lines kind (added_lines (map member_of members.now))) }
 {
     for member in members {
         push_shown(alloc, kind, Shown::Initial(*member), text)?;

@@ -53,7 +53,8 @@ impl Session {
     ghost use Rattle.meta.specs.Writes.{write_of};
     ghost use Rattle.requests.specs.Collected.{list_seen, watch_seen};
     ghost use Rattle.selector.specs.Views.{view_of};
-    ghost use Rattle.session.specs.SessionStates.{begun, accepted, reply_for, compact_text, server_from, server_or};
+    ghost use Rattle.line_protocol.specs.Lines.{line_of};
+    ghost use Rattle.session.specs.SessionStates.{begun, accepted, reply_for, reply_to, state_after, compact_text, server_from, server_or};
     ghost use Rattle.requests.specs.Requests.{request_of};
 
     /// Returns a session over a server where nothing is there, at the start of 2026, that keeps the last `window` changes of
@@ -159,7 +160,7 @@ impl Session {
     }
 
     /// Returns the reply line to a compaction. An error, running out of memory, changes nothing.
-    fn compact(&mut self, alloc: Global, revision: u64) -> Result<Vec<u8>, AllocError>
+    pub fn compact(&mut self, alloc: Global, revision: u64) -> Result<Vec<u8>, AllocError>
         ensures text { IfOk result (λ l. l.items ≡ compact_text (compact_by self.old.server revision)) }
         ensures server { OnOk result (self.new.server ≡ server_or self.old.server (compact_by self.old.server revision)) }
         ensures moment { self.new.moment ≡ self.old.moment }
@@ -196,6 +197,35 @@ impl Session {
             Err(fault) => refusal_line(alloc, &fault),
         }
     }
+
+    /// Returns the reply to a line, which is not skipped where it is empty, after which what it writes is written. An error,
+    /// running out of memory, changes nothing.
+    pub fn serve_text(&mut self, alloc: Global, text: &[u8]) -> Result<Vec<u8>, AllocError>
+        ensures text { IfOk result (λ l. l.items ≡ reply_to self.old (line_of text.now)) }
+        ensures state { OnOk result (self.new ≡ state_after self.old (line_of text.now)) }
+        ensures err { OnErr result (self.new ≡ self.old) }
+    {
+        match read_line(text) {
+            Line::Ask {
+                method,
+                target,
+                body,
+            } => self.answer(alloc, method, target, body),
+            Line::At(moment) => {
+                self.moment = moment;
+                Ok(Vec::new(alloc))
+            }
+            Line::Compact(revision) => self.compact(alloc, revision),
+            Line::Unreadable => refusal_line(alloc, &Fault::BadRequest(Part::Head)),
+        }
+    }
+
+    /// Returns the server.
+    pub fn server(&self) -> &Server
+        ensures { result.now ≡ self.now.server }
+    {
+        &self.server
+    }
 }
 
 impl LineService for Session {
@@ -209,18 +239,6 @@ impl LineService for Session {
         if line.is_empty() {
             return Ok(Vec::new(alloc));
         }
-        match read_line(line) {
-            Line::Ask {
-                method,
-                target,
-                body,
-            } => self.answer(alloc, method, target, body),
-            Line::At(moment) => {
-                self.moment = moment;
-                Ok(Vec::new(alloc))
-            }
-            Line::Compact(revision) => self.compact(alloc, revision),
-            Line::Unreadable => refusal_line(alloc, &Fault::BadRequest(Part::Head)),
-        }
+        self.serve_text(alloc, line)
     }
 }

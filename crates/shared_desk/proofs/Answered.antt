@@ -1,6 +1,6 @@
 -- A server that is what a history gives answers as the history does.
 use Rattle.std.proofs.Common.{◌≡◌, ◌⊎◌, inl, inr, ℕ, List, [], sym, ap, ◌∙◌, subst, Result, Ok, Err}
-use Rattle.definitions.specs.Collections.{ListOptions}
+use Rattle.definitions.specs.ListQueries.{ListOptions}
 use Rattle.definitions.specs.History.{History, present, View, viewed}
 use Rattle.definitions.specs.Lists.{list_outcome}
 use Rattle.definitions.specs.ObjectRequests.{Request}

@@ -3,7 +3,7 @@ use Rattle.std.proofs.Common.{◌≡◌, ◌⊎◌, inl, inr, ℕ, List, refl, s
 use Rattle.std.specs.Prelude.{Option, Some, None, Result, Ok, Err, is_some}
 use Rattle.baton.specs.Marks.{entries}
 use Rattle.baton.specs.declared.views.Known.{Known}
-use Rattle.definitions.specs.Collections.{ListOptions}
+use Rattle.definitions.specs.ListQueries.{ListOptions}
 use Rattle.definitions.specs.History.{Entry, Write, View}
 use Rattle.definitions.specs.Lists.{list_outcome}
 use Rattle.definitions.specs.ObjectRequests.{Request}

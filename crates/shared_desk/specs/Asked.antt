@@ -1,7 +1,7 @@
 -- What is asked with a pass, as a relation between what it knew before and after.
 use Rattle.std.specs.Prelude.{◌≡◌, ◌⊎◌, ℕ, List, Option, Some, None, Result, Err}
 use Rattle.baton.specs.declared.views.Known.{Known}
-use Rattle.definitions.specs.Collections.{ListOptions}
+use Rattle.definitions.specs.ListQueries.{ListOptions}
 use Rattle.definitions.specs.History.{Entry, View, Write}
 use Rattle.definitions.specs.Lists.{list_outcome}
 use Rattle.definitions.specs.ObjectRequests.{Request}

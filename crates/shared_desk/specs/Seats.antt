@@ -1,7 +1,7 @@
 -- What is asked at a seat, as a relation between the seat before and after.
 use Rattle.std.specs.Prelude.{◌≡◌, ℕ, List, Result}
 use Rattle.baton.specs.declared.views.Known.{Known}
-use Rattle.definitions.specs.Collections.{ListOptions}
+use Rattle.definitions.specs.ListQueries.{ListOptions}
 use Rattle.definitions.specs.History.{Entry, View}
 use Rattle.definitions.specs.ObjectRequests.{Request}
 use Rattle.definitions.specs.Refusals.{Refusal}

@@ -65,7 +65,7 @@ fn listed<R: Wait>(
     requires { IsPassAt desk.now pass.old }
     ensures { IsPassAt desk.now pass.new }
 {
-    let view = View::whole(alloc, Kind::ConfigMap, None);
+    let view = View::unfiltered(alloc, Kind::ConfigMap, None);
     let options = ListOptions {
         at: At::Present,
         limit: 0,

@@ -1,6 +1,6 @@
 -- What a server answers that one thread owns: what its state says, or that memory ran out, which changes nothing.
 use Rattle.std.specs.Prelude.{◌≡◌, ◌⊎◌, ℕ, List, Result, Ok, Err}
-use Rattle.definitions.specs.Collections.{ListOptions}
+use Rattle.definitions.specs.ListQueries.{ListOptions}
 use Rattle.definitions.specs.History.{View, viewed}
 use Rattle.server_state.specs.Servers.{list_served, Server, after_writing, watch_by}
 use Rattle.definitions.specs.Refusals.{Refusal, no_memory}

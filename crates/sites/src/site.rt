@@ -1,6 +1,6 @@
 //! What a connection asks of a server.
 ghost use Rattle.std.specs.Prelude.{ℕ, List};
-ghost use Rattle.definitions.specs.Collections as collections;
+ghost use Rattle.definitions.specs.ListQueries as collections;
 ghost use Rattle.definitions.specs.History as history;
 ghost use Rattle.definitions.specs.ObjectRequests as requests;
 ghost use Rattle.definitions.specs.Verbs.{Outcome};

@@ -35,7 +35,7 @@ fn count_at(
 fn a_list_has_what_was_there(rt: HostRuntime) -> Result<(), Fail> {
     let object = stored(rt.alloc(), Kind::ConfigMap, "{}")?;
     let journal = three_writes(rt.alloc(), &object)?;
-    let view = View::whole(rt.alloc(), Kind::ConfigMap, None);
+    let view = View::unfiltered(rt.alloc(), Kind::ConfigMap, None);
     for (revision, count) in [(1, 0), (2, 1), (3, 1), (4, 0)] {
         assert_eq!(rt;
             count_at(rt.alloc(), &journal, &view, revision)?,
@@ -61,7 +61,7 @@ fn changed(alloc: Global, journal: &Journal, view: &View) -> Result<String, Allo
 fn changes_have_types(rt: HostRuntime) -> Result<(), Fail> {
     let object = stored(rt.alloc(), Kind::ConfigMap, "{}")?;
     let journal = three_writes(rt.alloc(), &object)?;
-    let view = View::whole(rt.alloc(), Kind::ConfigMap, None);
+    let view = View::unfiltered(rt.alloc(), Kind::ConfigMap, None);
     assert_eq!(rt;
         changed(rt.alloc(), &journal, &view)?.as_str(),
         "ADDED 2, MODIFIED 3, DELETED 4, "

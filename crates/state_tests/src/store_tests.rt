@@ -34,7 +34,7 @@ fn a_list_is_in_order(rt: HostRuntime) -> Result<(), Fail> {
     let object = stored(rt.alloc(), Kind::ConfigMap, "{}")?;
     let store = with_two(rt.alloc(), &object)?;
     assert_eq!(rt; store.revision(), 3);
-    let view = View::whole(rt.alloc(), Kind::ConfigMap, None);
+    let view = View::unfiltered(rt.alloc(), Kind::ConfigMap, None);
     let found = store.list(rt.alloc(), &view)?;
     assert_eq!(rt; names(rt.alloc(), found.as_slice())?.as_str(), "ab");
     Ok(())
@@ -44,7 +44,7 @@ fn a_list_is_in_order(rt: HostRuntime) -> Result<(), Fail> {
 fn a_page_ends_at_its_limit(rt: HostRuntime) -> Result<(), Fail> {
     let object = stored(rt.alloc(), Kind::ConfigMap, "{}")?;
     let store = with_two(rt.alloc(), &object)?;
-    let view = View::whole(rt.alloc(), Kind::ConfigMap, None);
+    let view = View::unfiltered(rt.alloc(), Kind::ConfigMap, None);
     let page = store.page(rt.alloc(), &view, 1, None)?;
     assert_eq!(rt; names(rt.alloc(), page.members.as_slice())?.as_str(), "a");
     assert_eq!(rt; page.remaining, 1);

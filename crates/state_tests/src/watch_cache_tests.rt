@@ -31,7 +31,7 @@ fn a_watch_is_served_from_the_floor(rt: HostRuntime) -> Result<(), Fail> {
     let object = stored(rt.alloc(), Kind::ConfigMap, "{}")?;
     let cache = two_changes(rt.alloc(), &object)?;
     assert_eq!(rt; cache.floor(), 2);
-    let view = View::whole(rt.alloc(), Kind::ConfigMap, None);
+    let view = View::unfiltered(rt.alloc(), Kind::ConfigMap, None);
     let events = cache.since(rt.alloc(), 3, &view, 2, 9)?;
     assert_eq!(rt; events.len(), 1);
     let below = cache.since(rt.alloc(), 3, &view, 1, 9);

@@ -13,7 +13,7 @@ use Rattle.std.specs.BTreeMap.Range.{entries_between, range_contains}
 use Rattle.std.specs.Str.{bytes_eq}
 use Rattle.std.specs.declared.ops.Bound.TheVariants.{Included, Excluded, Unbounded}
 use Rattle.serde_json.specs.Data.{Data}
-use Rattle.definitions.specs.History.{View, Members, in_view, in_namespace, viewed}
+use Rattle.definitions.specs.History.{View, Entries, in_view, in_namespace, viewed}
 use Rattle.definitions.specs.Kinds.{rank, kind_after}
 use Rattle.definitions.proofs.KindOrder.{rank_after, last_rank}
 use Rattle.definitions.specs.Metadata.{labels_of}
@@ -340,7 +340,7 @@ kept_at v p e es b same = by b (in_view v (key_of e.0) e.1.value) refl (is_after
     by false true is false same = refl
     by false false is a same = refl
 
-after_cond : (p : Option Place) (c : Bool) (m : Name × Data) (ms : Members) → after_place p (cond c (m ∷ ms) ms) ≡ cond c (cond (is_after p m.0) (m ∷ after_place p ms) (after_place p ms)) (after_place p ms)
+after_cond : (p : Option Place) (c : Bool) (m : Name × Data) (ms : Entries) → after_place p (cond c (m ∷ ms) ms) ≡ cond c (cond (is_after p m.0) (m ∷ after_place p ms) (after_place p ms)) (after_place p ms)
 after_cond p true m ms = refl
 after_cond p false m ms = refl
 
@@ -423,6 +423,6 @@ from-all v p start named last es plain = all_kept v (range_contains key_cmp (Inc
         all-asked v plain (key_of k) d from (subst (λ o. IfSome o (λ p. is_le (name_cmp p (key_of k)) ≡ false)) last tt)
 
 -- without a place, all are after it
-pub after-none : (ms : Members) → after_place None ms ≡ ms
+pub after-none : (ms : Entries) → after_place None ms ≡ ms
 after-none [] = refl
 after-none (m ∷ ms) = ap (λ ms. m ∷ ms) (after-none ms)

@@ -1,6 +1,6 @@
 -- What a chunk of a list says.
 use Rattle.std.specs.Prelude.{◌≡◌, ◌≤◌, ◌<◌, ◌==◌, ◌++◌, ℕ, [], length, false, map, Option, option_map}
-use Rattle.definitions.specs.History.{View, Members}
+use Rattle.definitions.specs.History.{View, Entries}
 use Rattle.definitions.specs.Lists.{is_selective}
 use Rattle.definitions.specs.Pages.{Place, place_of, page_of, remaining}
 use Rattle.keys.specs.Keys.{key_of}
@@ -18,12 +18,12 @@ pub record Tells (v : View) (left count : ℕ) : Type 0 where
   pub number : is_selective v ≡ false → count ≡ left
 
 -- the chunk is the page of these members, the list of the view, after a place, and tells how many remain
-pub record IsPage (v : View) (listed : Members) (limit : ℕ) (after : Option Place) (c : Chunk) : Type 0 where
+pub record IsPage (v : View) (listed : Entries) (limit : ℕ) (after : Option Place) (c : Chunk) : Type 0 where
   pub items : map member_of c.members.items ≡ (page_of listed limit after).items
   pub rest : Tells v (remaining listed limit after) c.remaining
 
 -- these are the first of all, as many as the limit, or all where it is 0 or there are not as many, and those are left
-pub record IsFirst (limit : ℕ) (all taken left : Members) : Type 0 where
+pub record IsFirst (limit : ℕ) (all taken left : Entries) : Type 0 where
   pub split : taken ++ left ≡ all
   pub few : 0 < limit → length taken ≤ limit
   pub short : length taken < limit → left ≡ []

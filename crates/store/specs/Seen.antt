@@ -3,7 +3,7 @@ use Rattle.std.specs.Prelude.{ℕ, ◌≡◌, ◌≤◌, List, length, map, opti
 use Rattle.std.specs.HashMap.{HashMap, get}
 use Rattle.std.specs.declared.hash.BuildHasherDefault.{BuildHasherDefault}
 use Rattle.std.specs.declared.hash.FoldHasher.{FoldHasher}
-use Rattle.definitions.specs.History.{Members, found}
+use Rattle.definitions.specs.History.{Entries, found}
 use Rattle.definitions.specs.Revisions.{greatest_revision}
 use Rattle.definitions.specs.Verbs.{most_objects}
 use Rattle.keys.specs.Keys.{key_of}
@@ -12,7 +12,7 @@ use Rattle.keys.specs.declared.key.Key.{Key}
 use Rattle.meta.specs.declared.stored.StoredObject.{StoredObject}
 
 -- keys and objects as names and data
-abbrev pub members_seen : List (Key × StoredObject) → Members
+abbrev pub members_seen : List (Key × StoredObject) → Entries
 members_seen es = map (λ e. (key_of e.0, e.1.value)) es
 
 -- objects by their keys, in no order
@@ -20,7 +20,7 @@ abbrev pub Index : Type 0
 Index = HashMap Key StoredObject (BuildHasherDefault FoldHasher)
 
 -- an index has under each key what the members have
-abbrev pub IsIndexOf : Index → Members → Type 0
+abbrev pub IsIndexOf : Index → Entries → Type 0
 IsIndexOf index members = (k : Key) → option_map (λ o. o.value) (get (key_eq.ghosts).eq index k) ≡ found (key_of k) members
 
 -- the index is that of the objects, there are no more of them than there may be, and the revision is one that a write or the empty store has

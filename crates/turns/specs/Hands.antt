@@ -1,6 +1,6 @@
 -- What was looked at and read, as definitions have it.
 use Rattle.std.specs.Prelude.{List, [], map, Option, Some, None, option_map}
-use Rattle.definitions.specs.History.{Members}
+use Rattle.definitions.specs.History.{Entries}
 use Rattle.server_state.specs.Snapshots.{Snapshot}
 use Rattle.controllers.specs.Hands as hands
 use Rattle.controllers.specs.Informers as informers
@@ -10,7 +10,7 @@ use Rattle.turns.specs.declared.hands.Read.{Read}
 use Rattle.turns.specs.declared.looks.Looks.{Looks}
 
 -- what looks show, each map by its members
-abbrev pub looks_by : {S : Type 0} → (S → Members) → Looks S → informers.Looks
+abbrev pub looks_by : {S : Type 0} → (S → Entries) → Looks S → informers.Looks
 looks_by members l =
     record {
       config_maps = members l.config_maps;
@@ -24,7 +24,7 @@ abbrev pub looks_of : {S : Type 0} → (S → Snapshot) → Looks S → informer
 looks_of snapshot l = looks_by (λ s. (snapshot s).members) l
 
 -- a look that was not taken shows nothing
-abbrev pub members_of : {S : Type 0} → (S → Snapshot) → Option S → Members
+abbrev pub members_of : {S : Type 0} → (S → Snapshot) → Option S → Entries
 members_of snapshot None = []
 members_of snapshot (Some s) = (snapshot s).members
 

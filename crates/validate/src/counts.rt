@@ -4,9 +4,9 @@ ghost use Rattle.std.specs.List.{list_all};
 ghost use Rattle.serde_json.specs.View.{view};
 ghost use Rattle.definitions.specs.Checks.{in_status, is_not_negative, are_replicas_valid, is_history_limit_valid, is_status_valid};
 
-use crate::parts::{in_spec, in_status};
 use definitions::kinds::Kind;
 use meta::Object;
+use readings::{in_spec, in_status};
 use serde_json::Value;
 
 const REPLICA_SET_COUNTS: [&str; 3] = ["replicas", "readyReplicas", "availableReplicas"];

@@ -7,7 +7,6 @@ mod finalizers;
 mod labels;
 mod object_names;
 mod owners;
-mod parts;
 mod selectors;
 mod strategies;
 mod templates;

@@ -3,9 +3,9 @@ ghost use Rattle.std.specs.Prelude.{◌≡◌, codes, nat_le, option_map, option
 ghost use Rattle.std.specs.List.{list_all};
 ghost use Rattle.serde_json.specs.Find.{as_array};
 ghost use Rattle.serde_json.specs.View.{items_view};
-ghost use Rattle.definitions.specs.Checks.{is_not_empty, is_known_uid, is_owner, controllers, are_owners_valid};
+ghost use Rattle.definitions.specs.Checks.{is_not_empty, is_possible_uid, is_owner, controllers, are_owners_valid};
 ghost use Rattle.definitions.specs.Metadata.{metadata, owners_in};
-ghost use Rattle.definitions.specs.SelectorValues.{passes};
+ghost use Rattle.definitions.specs.SelectorValues.{is_some_and};
 ghost use Rattle.meta.specs.Owners.{owner_of};
 ghost use Rattle.selector.specs.Seen.{now};
 
@@ -16,7 +16,7 @@ use serde_json::Value;
 
 /// Returns whether a text is there and not empty.
 fn is_there(text: Option<&str>) -> bool
-    ensures { result ≡ passes is_not_empty (option_map now text.entry) }
+    ensures { result ≡ is_some_and is_not_empty (option_map now text.entry) }
 {
     match text {
         Some(found) => 0 < found.len(),
@@ -26,7 +26,7 @@ fn is_there(text: Option<&str>) -> bool
 
 /// Returns whether a uid is there, and is not one of an object that is still to be created.
 fn is_known(uid: Option<&str>, present: u64) -> bool
-    ensures { result ≡ passes (is_known_uid present) (option_map now uid.entry) }
+    ensures { result ≡ is_some_and (is_possible_uid present) (option_map now uid.entry) }
 {
     match uid {
         Some(text) => 0 < text.len() && !is_of_the_future(text, present),

@@ -1,13 +1,13 @@
 //! The selectors of ReplicaSets and Deployments.
 ghost use Rattle.std.specs.Prelude.{◌≡◌, IfOk, IfErr, List, Some, codes, length, nat_lt, string_bytes, option_map};
-ghost use Rattle.definitions.specs.Checks.{in_spec, is_selector_kept, requirements, text_of};
-ghost use Rattle.definitions.specs.SelectorValues.{passes};
+ghost use Rattle.definitions.specs.Checks.{in_spec, is_selector_kept, requirements, text_or_empty};
+ghost use Rattle.definitions.specs.SelectorValues.{is_some_and};
 ghost use Rattle.definitions.specs.Selectors.{Requirement};
 ghost use Rattle.keys.specs.declared.fault.Fault.TheVariants.{NoMemory};
 
-use crate::parts::in_spec;
 use keys::Fault;
 use meta::Object;
+use readings::in_spec;
 use selector::Selector;
 use std::alloc::{AllocError, Global};
 
@@ -30,7 +30,7 @@ pub(crate) fn selector_of(alloc: Global, object: &Object) -> Result<Option<Selec
 
 /// Returns whether a selector is there and has a requirement.
 pub(crate) fn says_something(selector: &Option<Selector>) -> bool
-    ensures { result ≡ passes (λ (rs : List Requirement). nat_lt 0 (length rs)) selector.now }
+    ensures { result ≡ is_some_and (λ (rs : List Requirement). nat_lt 0 (length rs)) selector.now }
 {
     match selector {
         Some(found) => !found.is_empty(),
@@ -39,7 +39,7 @@ pub(crate) fn says_something(selector: &Option<Selector>) -> bool
 }
 
 fn selector_text(alloc: Global, object: &Object) -> Result<String, AllocError>
-    ensures { IfOk result (λ s. string_bytes s ≡ text_of (in_spec (codes "selector") object.now.value)) }
+    ensures { IfOk result (λ s. string_bytes s ≡ text_or_empty (in_spec (codes "selector") object.now.value)) }
 {
     match in_spec(object, "selector") {
         Some(found) => found.to_string(alloc),

@@ -1,98 +1,14 @@
 //! How a Deployment replaces its Pods.
-ghost use Rattle.std.specs.Prelude.{◌≡◌, ◌<◌, ◌≤◌, codes, length, option_and_then, Some, true};
-ghost use Rattle.std.specs.List.{list_all, before_first};
-ghost use Rattle.std.specs.Str.Parse.{digits_value};
-ghost use Rattle.serde_json.specs.Find.{get, as_str};
+ghost use Rattle.std.specs.Prelude.{◌≡◌, option_and_then};
+ghost use Rattle.serde_json.specs.Find.{get};
 ghost use Rattle.serde_json.specs.View.{view};
-ghost use Rattle.definitions.specs.declared.amounts.Amount.TheVariants.{Percent};
-ghost use Rattle.definitions.specs.Checks.{amount, are_amounts, is_at_most_all, is_percent_sign, is_rolling, is_strategy, is_strategy_of, is_strategy_valid, is_zero, percentage, pods};
-ghost use Rattle.definitions.specs.Moments.{is_digit};
+ghost use Rattle.definitions.specs.Checks.{amount, are_amounts, is_at_most_all, is_rolling, is_strategy, is_strategy_of, is_strategy_valid, is_zero};
 
-use crate::parts::in_spec;
+use amounts::amount;
 use definitions::amounts::Amount;
 use meta::Object;
+use readings::in_spec;
 use serde_json::Value;
-
-/// The most digits of a percentage.
-const MOST_DIGITS: usize = 9;
-
-/// The greatest number of 32 bits with a sign.
-const MOST_PODS: i64 = 2147483647;
-
-fn has_digits(text: &str) -> bool
-    ensures { result ≡ list_all is_digit text.now }
-{
-    text.bytes().all(|byte| b'0' <= byte && byte <= b'9')
-}
-
-/// Returns the amount of so many of a hundred.
-fn percent(digits: &str) -> Option<Amount>
-    requires digits { list_all is_digit digits.now ≡ true }
-    requires there { 0 < length digits.now }
-    requires few { length digits.now ≤ 9 }
-    ensures { result ≡ Some (Percent (digits_value 10 digits.now)) }
-{
-    match digits.parse::<u64>() {
-        Ok(number) => Some(Amount::Percent(number)),
-        Err(_) => None,
-    }
-}
-
-fn percentage(text: &str) -> Option<Amount>
-    ensures { result ≡ percentage text.now }
-{
-    match text.split_once('%') {
-        Some((digits, rest)) => {
-            if !rest.is_empty() {
-                return None;
-            }
-            if digits.is_empty() {
-                return None;
-            }
-            if digits.len() > MOST_DIGITS {
-                return None;
-            }
-            if !has_digits(digits) {
-                return None;
-            }
-            percent(digits)
-        }
-        None => None,
-    }
-}
-
-fn pods(number: i64) -> Option<Amount>
-    ensures { result ≡ pods number }
-{
-    if number < 0 {
-        return None;
-    }
-    if number > MOST_PODS {
-        return None;
-    }
-    Some(Amount::Pods(number))
-}
-
-fn percentage_in(value: &Value) -> Option<Amount>
-    ensures { result ≡ option_and_then percentage (as_str (view value.now)) }
-{
-    match value.as_str() {
-        Some(text) => percentage(text),
-        None => None,
-    }
-}
-
-fn amount(value: &Value) -> Option<Amount>
-    ensures { result ≡ amount (view value.now) }
-{
-    match value.as_i64() {
-        Some(number) => match pods(number) {
-            Some(found) => Some(found),
-            None => percentage_in(value),
-        },
-        None => percentage_in(value),
-    }
-}
 
 fn amount_at(value: &Value, name: &str) -> Option<Amount>
     ensures { result ≡ option_and_then amount (get name.now (view value.now)) }

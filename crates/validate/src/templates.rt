@@ -3,12 +3,12 @@ ghost use Rattle.std.specs.Prelude.{◌≡◌, List, codes, option_map};
 ghost use Rattle.serde_json.specs.View.{view};
 ghost use Rattle.definitions.specs.Checks.{in_spec, is_selected};
 ghost use Rattle.definitions.specs.Metadata.{metadata};
-ghost use Rattle.definitions.specs.SelectorValues.{passes};
+ghost use Rattle.definitions.specs.SelectorValues.{is_some_and};
 ghost use Rattle.definitions.specs.Selectors.{Requirement};
 
 use crate::labels::are_labels;
-use crate::parts::in_spec;
 use meta::Object;
+use readings::in_spec;
 use selector::Selector;
 use serde_json::Value;
 
@@ -28,7 +28,7 @@ fn is_selected(selector: &Selector, template: &Value) -> bool
 /// Returns whether an object's template is there, has valid labels, and is matched by the object's selector.
 pub(crate) fn is_template(object: &Object, selector: &Option<Selector>) -> bool
     ensures { result
-        ≡ passes (λ (rs : List Requirement). passes (is_selected rs) (in_spec (codes "template") object.now.value)) selector.now }
+        ≡ is_some_and (λ (rs : List Requirement). is_some_and (is_selected rs) (in_spec (codes "template") object.now.value)) selector.now }
 {
     match selector {
         Some(selector) => match in_spec(object, "template") {

@@ -4,7 +4,7 @@ use Rattle.definitions.specs.declared.kinds.Kind.{Kind}
 use Rattle.definitions.specs.declared.frames.FrameKind.TheVariants.{Added}
 use Rattle.definitions.specs.Events.{Event}
 use Rattle.definitions.specs.Frames.{frame_text, bookmark_frame}
-use Rattle.definitions.specs.History.{Members}
+use Rattle.definitions.specs.History.{Entries}
 use Rattle.definitions.specs.Streams.{Line, event, frame_of, added_lines}
 use Rattle.chunked.specs.Bodies.{chunk_text}
 use Rattle.connections.specs.Replies.{frames_text}
@@ -19,7 +19,7 @@ pub frames-of_changes : (k : Kind) (cs : List Event) → frames_text k (map even
 frames-of_changes k [] = refl
 frames-of_changes k (c ∷ cs) = ap (λ t. chunk_text (frame_text (frame_of k (event c))) ++ t) (frames-of_changes k cs)
 
-pub frames-of_members : (k : Kind) (ms : Members) → frames_text k (added_lines ms) ≡ object_frames (map (λ m. m.1) ms)
+pub frames-of_members : (k : Kind) (ms : Entries) → frames_text k (added_lines ms) ≡ object_frames (map (λ m. m.1) ms)
 frames-of_members k [] = refl
 frames-of_members k (m ∷ ms) = ap (λ t. chunk_text (frame_text (record { kind = Added; object = m.1 })) ++ t) (frames-of_members k ms)
 

@@ -1,6 +1,6 @@
 -- What is given, as the definitions say it.
 use Rattle.std.specs.Prelude.{◌≡◌, map, Result, Ok, Err}
-use Rattle.definitions.specs.History.{Members}
+use Rattle.definitions.specs.History.{Entries}
 use Rattle.definitions.specs.Refusals.{Refusal}
 use Rattle.definitions.specs.Versions.{Listed, listed_as}
 use Rattle.keys.specs.Faults.{refusal_of}
@@ -13,10 +13,10 @@ Gives seen is_so (Ok y) = is_so (Ok (seen y))
 Gives seen is_so (Err e) = is_so (Err (refusal_of e))
 
 -- these are the objects that are there
-abbrev pub Shows : Members → Begun → Type 0
+abbrev pub Shows : Entries → Begun → Type 0
 Shows ms b = map (λ m. m.1) ms ≡ map (λ o. o.value) b.objects.items
 
 -- what is there, or why it is refused, is so
 abbrev pub GivesBegun : (Result Listed Refusal → Type 0) → Result Begun Fault → Type 0
-GivesBegun is_so (Ok b) = (ms : Members) × Shows ms b × is_so (Ok (listed_as b.revision ms))
+GivesBegun is_so (Ok b) = (ms : Entries) × Shows ms b × is_so (Ok (listed_as b.revision ms))
 GivesBegun is_so (Err e) = is_so (Err (refusal_of e))

@@ -1,8 +1,9 @@
 //! The queue.
-ghost use Rattle.std.specs.Prelude.{◌≡◌, IfOk, OnOk, OnErr, length, option_map, ◌+◌, ◌<◌, ◌≤◌, ◌∷◌, ◌++◌, [], Some, IsSome};
+ghost use Rattle.std.specs.Prelude.{◌≡◌, IfOk, OnOk, OnErr, length, map, option_map, ◌+◌, ◌<◌, ◌≤◌, ◌∷◌, ◌++◌, [], Some, IsSome};
 ghost use Rattle.std.specs.VecDeque.{deque_len, deque_capacity};
-ghost use Rattle.controllers.specs.WorkQueues.{idle, added, got, handed, done, shut};
+ghost use Rattle.controllers.specs.WorkQueues.{WorkQueue, idle, added, add, got, handed, done, shut, after_all};
 ghost use Rattle.work_keys.specs.WorkKeys.{work_key_of};
+ghost use Rattle.workqueue.specs.Undoing.{IsFresh, IsUndoable};
 
 use std::alloc::{AllocError, Global};
 use std::collections::{BTreeSet, VecDeque};
@@ -17,6 +18,7 @@ pub struct Queue {
     dirty: BTreeSet<WorkKey>,
     processing: BTreeSet<WorkKey>,
     is_shut: bool,
+    alloc: Global,
 }
 
 impl Model for Queue {
@@ -46,6 +48,7 @@ impl Queue {
             dirty: BTreeSet::new(alloc),
             processing: BTreeSet::new(alloc),
             is_shut: false,
+            alloc,
         }
     }
 
@@ -66,6 +69,62 @@ impl Queue {
         self.dirty.insert(key)?;
         self.ready.push_back_reserved(waiting);
         Ok(())
+    }
+
+    /// Adds keys one after another, as `add` does. The error is running out of memory, and then none was added.
+    pub fn add_all(&mut self, keys: &[WorkKey]) -> Result<(), AllocError>
+        ensures ok { OnOk result (self.new ≡ after_all self.old (map add (map work_key_of keys.now))) }
+        ensures err { OnErr result (self.new ≡ self.old) }
+    {
+        let mut fresh = Vec::with_capacity(self.alloc, keys.len())?;
+        for key in keys {
+            if let Err(refused) = self.add_fresh(key, &mut fresh) {
+                self.take_back(fresh);
+                return Err(refused);
+            }
+        }
+        Ok(())
+    }
+
+    /// Adds a key as `add` does, and notes it where it was not to be processed before. The error is running out of memory, and then
+    /// nothing has changed.
+    fn add_fresh(&mut self, key: &WorkKey, fresh: &mut Vec<WorkKey>) -> Result<(), AllocError>
+        ensures ok { OnOk result (self.new ≡ added (work_key_of key.now) self.old) }
+        ensures fresh { OnOk result ((first : WorkQueue) → IsUndoable first (map work_key_of fresh.old.items) self.old
+            → IsUndoable first (map work_key_of fresh.new.items) self.new) }
+        ensures err { OnErr result (self.new ≡ self.old) }
+        ensures noted { OnErr result (fresh.new.items ≡ fresh.old.items) }
+    {
+        if self.is_shut || self.dirty.contains(key) {
+            return Ok(());
+        }
+        let noted = key.try_copy()?;
+        fresh.reserve(1)?;
+        self.add(key.try_copy()?)?;
+        fresh.push_reserved(noted);
+        Ok(())
+    }
+
+    /// Takes back keys that were added and noted, the last first.
+    fn take_back(&mut self, fresh: Vec<WorkKey>)
+        ensures { (first : WorkQueue) → IsUndoable first (map work_key_of fresh.items) self.old → self.new ≡ first }
+    {
+        let mut fresh = fresh;
+        while let Some(key) = fresh.pop() {
+            self.undo_add(&key);
+        }
+    }
+
+    /// Takes back a key that was added last and was not to be processed before.
+    fn undo_add(&mut self, key: &WorkKey)
+        ensures { (before : WorkQueue) → IsFresh (work_key_of key.now) before → self.old ≡ added (work_key_of key.now) before
+            → self.new ≡ before }
+    {
+        self.dirty.remove(key);
+        if !self.processing.contains(key) {
+            let others = self.len().saturating_sub(1);
+            self.ready.truncate(others);
+        }
     }
 
     /// Removes the key that waits longest, if one waits, and hands it to a worker.

@@ -4,7 +4,7 @@ use Rattle.serde_json.specs.Data as json
 use Rattle.serde_json.specs.Data.{Data, string, number, unsigned, member}
 use Rattle.definitions.specs.declared.kinds.Kind.{Kind}
 use Rattle.definitions.specs.State.History.{History, View}
-use Rattle.definitions.specs.Requests.Collections.{ListOptions}
+use Rattle.definitions.specs.Requests.ListQueries.{ListOptions}
 use Rattle.definitions.specs.State.Pages.{Place, Page, page_of, remaining}
 use Rattle.definitions.specs.Requests.PageTokens.{Token, token_text}
 use Rattle.definitions.specs.Objects.Refusals.{Refusal, with_optional}

@@ -42,21 +42,21 @@ abbrev mutual
   AreInOrder (member k d ms) = IsBefore k ms × IsParsed d × AreInOrder ms × IsUtf8 k
 
 -- a request as it can be read of bytes: a create is in a namespace, and a body is as a parser gives it
-abbrev pub IsAsked : Request → Type 0
-IsAsked (create_object kind ns d) = (is_namespace ns ≡ true) × IsParsed d
-IsAsked (update_object k d) = IsParsed d
-IsAsked (update_status k d) = IsParsed d
-IsAsked (patch_object k d) = IsParsed d
-IsAsked q = Unit {0}
+abbrev pub CanBeRead : Request → Type 0
+CanBeRead (create_object kind ns d) = (is_namespace ns ≡ true) × IsParsed d
+CanBeRead (update_object k d) = IsParsed d
+CanBeRead (update_status k d) = IsParsed d
+CanBeRead (patch_object k d) = IsParsed d
+CanBeRead q = Unit {0}
 
 -- a text in UTF-8 of 1 to 20 bytes, as long as a moment is; it is not read
-abbrev pub IsTime : List ℕ → Type 0
-IsTime moment = (0 < length moment) × (length moment ≤ 20) × IsUtf8 moment
+abbrev pub IsTimestamp : List ℕ → Type 0
+IsTimestamp moment = (0 < length moment) × (length moment ≤ 20) × IsUtf8 moment
 
 -- ---- what has happened
 
 -- nothing; or more, with the write of a request that was answered at a moment, or with a compaction to no more than the present revision
 pub data IsReached : History → Type 0 where
   opened : IsReached []
-  asks : (h : History) (q : Request) (moment : List ℕ) → IsReached h → IsAsked q → IsTime moment → IsReached (history_after h (accept q h moment))
+  asks : (h : History) (q : Request) (moment : List ℕ) → IsReached h → CanBeRead q → IsTimestamp moment → IsReached (history_after h (accept q h moment))
   compacts : (h : History) (r : ℕ) → IsReached h → r ≤ present h → IsReached (h ++ compaction r ∷ [])

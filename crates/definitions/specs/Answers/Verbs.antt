@@ -17,7 +17,7 @@ use Rattle.definitions.specs.Texts.GeneratedNames.{name_from}
 use Rattle.definitions.specs.Texts.Kinds.{api_version, kind_text, has_status}
 use Rattle.definitions.specs.Texts.Keys.{Key}
 use Rattle.definitions.specs.State.History as history
-use Rattle.definitions.specs.State.History.{History, Write, write, View, viewed, members, found, present}
+use Rattle.definitions.specs.State.History.{History, Write, write, View, viewed, entries_at, found, present}
 use Rattle.definitions.specs.Requests.ObjectRequests.{Request, get_object, list_objects, create_object, update_object, update_status, patch_object, delete_object}
 use Rattle.definitions.specs.Answers.Deletion.{Fate, remove, mark, keep, decided, removal_of, kept_code}
 use Rattle.definitions.specs.Objects.Metadata.{metadata_of, at_revision, name, namespace, uid, version, is_other, differs}
@@ -85,9 +85,9 @@ if_read (Err p) next = refused (bad_request p)
 if_read (Ok o) next = next o
 
 -- what is done with the object that is there, if there is one
-abbrev pub or_absent : Key → (Data → Outcome) → Option Data → Outcome
-or_absent k next None = refused (not_found k)
-or_absent k next (Some d) = next d
+abbrev pub or_not_found : Key → (Data → Outcome) → Option Data → Outcome
+or_not_found k next None = refused (not_found k)
+or_not_found k next (Some d) = next d
 
 -- an object is answered as it stands (Kubernetes API Concepts, GET)
 abbrev pub shown : Data → Outcome
@@ -108,7 +108,7 @@ abbrev pub is_past_greatest : ℕ → Bool
 is_past_greatest r = nat_lt greatest_revision r
 
 -- whether a write after revision r makes more objects than there may be, or has a revision past the greatest
-abbrev pub overflows : history.Members → ℕ → Write → Bool
+abbrev pub overflows : history.Entries → ℕ → Write → Bool
 overflows ms r w = (nat_le most_objects (length ms) && is_some w.put && not (is_some (found w.key ms))) || is_past_greatest (r + 1)
 
 -- a body read as an object of a kind, with the defaults of its spec
@@ -122,7 +122,7 @@ abbrev pub as_item : Data → Data
 as_item d = object (without (codes "kind") (without (codes "apiVersion") (members_of d)))
 
 -- a list with this metadata (Kubernetes API Concepts, Collections)
-abbrev pub list_with : Kind → Members → history.Members → Data
+abbrev pub list_with : Kind → Members → history.Entries → Data
 list_with k metadata ms =
     object
     (member (codes "apiVersion") (string (api_version k))
@@ -133,20 +133,20 @@ abbrev pub at_version : ℕ → Members
 at_version r = member (codes "resourceVersion") (string (decimal r)) no_members
 
 -- a list at a revision
-abbrev pub list_body : Kind → ℕ → history.Members → Data
+abbrev pub list_body : Kind → ℕ → history.Entries → Data
 list_body k r ms = list_with k (at_version r) ms
 
 -- ---- create
 
-abbrev pub is_free : Kind → List ℕ → history.Members → List ℕ → Bool
+abbrev pub is_free : Kind → List ℕ → history.Entries → List ℕ → Bool
 is_free kind ns ms name = not (is_some (found (record { kind = kind; namespace = ns; name = name }) ms))
 
 -- the key of a new object: its name is the one that it gives, or one that is made
-abbrev pub new_name : Kind → List ℕ → Data → history.Members → ℕ → Key
+abbrev pub new_name : Kind → List ℕ → Data → history.Entries → ℕ → Key
 new_name kind ns o ms r = record { kind = kind; namespace = ns; name = name_from (is_free kind ns ms) (name o) (generate_name o) (r + 1) }
 
 -- a new object, with its first status, is stored if no object has its key and its fields are valid (Kubernetes API Concepts, POST)
-abbrev pub create : Kind → List ℕ → Data → history.Members → ℕ → List ℕ → Outcome
+abbrev pub create : Kind → List ℕ → Data → history.Entries → ℕ → List ℕ → Outcome
 create kind ns o ms r moment =
     let k = new_name kind ns o ms r in
     let new = created kind (r + 1) ns k.name moment o in
@@ -205,17 +205,17 @@ by_decision k code old r (Ok keep) = answered (record { code = code; body = old;
 -- ---- the verbs
 
 -- what a request is answered and writes, over what is there at revision r; a merge patch (RFC 7396) updates by the object that it makes (Kubernetes API Concepts, PATCH)
-abbrev pub accept_at : Request → history.Members → ℕ → List ℕ → Outcome
-accept_at (get_object k) ms r moment = or_absent k shown (found k ms)
+abbrev pub accept_at : Request → history.Entries → ℕ → List ℕ → Outcome
+accept_at (get_object k) ms r moment = or_not_found k shown (found k ms)
 accept_at (list_objects v) ms r moment = shown (list_body v.kind r (viewed v ms))
 accept_at (create_object kind ns d) ms r moment = if_read (object_in kind d) (λ o. create kind ns o ms r moment)
-accept_at (update_object k d) ms r moment = if_named k (object_in k.kind d) (λ o. or_absent k (replace k o r) (found k ms))
+accept_at (update_object k d) ms r moment = if_named k (object_in k.kind d) (λ o. or_not_found k (replace k o r) (found k ms))
 accept_at (update_status k d) ms r moment =
-    refuse_if (not (has_status k.kind)) (not_found k) (if_named k (reading k.kind d) (λ o. or_absent k (replace_status k o r) (found k ms)))
+    refuse_if (not (has_status k.kind)) (not_found k) (if_named k (reading k.kind d) (λ o. or_not_found k (replace_status k o r) (found k ms)))
 accept_at (patch_object k d) ms r moment =
-    refuse_if (not (is_body d)) (bad_request part.Body) (or_absent k (λ old. if_named k (object_in k.kind (merged old d)) (λ o. replace k o r old)) (found k ms))
-accept_at (delete_object k o) ms r moment = or_absent k (λ old. by_decision k (kept_code o.policy) old r (decided k.kind o moment old)) (found k ms)
+    refuse_if (not (is_body d)) (bad_request part.Body) (or_not_found k (λ old. if_named k (object_in k.kind (merged old d)) (λ o. replace k o r old)) (found k ms))
+accept_at (delete_object k o) ms r moment = or_not_found k (λ old. by_decision k (kept_code o.policy) old r (decided k.kind o moment old)) (found k ms)
 
 -- the answer to a request at a moment, after all that has happened
 abbrev pub accept : Request → History → List ℕ → Outcome
-accept q h moment = accept_at q (members h (present h)) (present h) moment
+accept q h moment = accept_at q (entries_at h (present h)) (present h) moment

@@ -3,7 +3,7 @@ use Rattle.std.specs.Prelude.{ℕ, ◌+◌, List, [], ◌∷◌, ◌++◌, take,
 use Rattle.std.specs.Result.{result_map_both}
 use Rattle.definitions.specs.declared.versions.At.{At}
 use Rattle.definitions.specs.declared.versions.At.TheVariants.{Present, NotOlder, Exact}
-use Rattle.definitions.specs.State.History.{History, compaction, View, Members, present, list}
+use Rattle.definitions.specs.State.History.{History, compaction, View, Entries, present, list}
 use Rattle.definitions.specs.Objects.Refusals.{Refusal, too_new}
 use Rattle.definitions.specs.State.Events.{Event}
 use Rattle.definitions.specs.State.Windows.{since, list_within}
@@ -13,9 +13,9 @@ use Rattle.definitions.specs.State.Windows.{since, list_within}
 -- a list, and the revision at which it is
 pub record Listed : Type 0 where
   pub revision : ℕ
-  pub members : Members
+  pub members : Entries
 
-abbrev pub listed_as : ℕ → Members → Listed
+abbrev pub listed_as : ℕ → Entries → Listed
 listed_as r ms = record { revision = r; members = ms }
 
 -- what is answered at revision r, or the refusal of one above the present (Kubernetes API Concepts, Unavailable resource versions)
@@ -23,7 +23,7 @@ abbrev pub once_present : {X : Type 0} → ℕ → ℕ → X → Result X Refusa
 once_present now r x = if nat_lt now r then Err (too_new r now) else Ok x
 
 -- the list that is asked, by the present revision, the list there, and the one at each revision
-abbrev pub listed_at : ℕ → Members → (ℕ → Result Members Refusal) → At → Result Listed Refusal
+abbrev pub listed_at : ℕ → Entries → (ℕ → Result Entries Refusal) → At → Result Listed Refusal
 listed_at now ms earlier Present = Ok (listed_as now ms)
 listed_at now ms earlier (NotOlder r) = once_present now r (listed_as now ms)
 listed_at now ms earlier (Exact r) = result_map_both (listed_as r) (λ f. f) (earlier r)

@@ -17,10 +17,10 @@ use Rattle.definitions.specs.Objects.Metadata.{labels_of, Owner, metadata, metad
 use Rattle.definitions.specs.Texts.Moments.{is_digit}
 use Rattle.definitions.specs.Texts.Keys.{is_letter_or_digit, is_subdomain}
 use Rattle.definitions.specs.Texts.Selectors.{Requirement, meets_all}
-use Rattle.definitions.specs.Objects.SelectorValues.{all_items, items_in, passes, selector_of_value}
+use Rattle.definitions.specs.Objects.SelectorValues.{all_items, items_in, is_some_and, selector_of_value}
 use Rattle.definitions.specs.Texts.Uids.{uid_text, uid_revision, cluster_word}
 
--- the test of what is there; what is absent passes
+-- the test of what is there; what is absent passes none
 abbrev pub passes_if_there : {A : Type 0} → (A → Bool) → Option A → Bool
 passes_if_there test None = true
 passes_if_there test (Some a) = test a
@@ -50,7 +50,7 @@ abbrev pub is_generate_name_valid : List ℕ → Data → Bool
 is_generate_name_valid made d = is_some (name d) || passes_if_there (generates made) (generate_name d)
 
 abbrev pub text_is : (List ℕ → Bool) → Data → Bool
-text_is test d = passes test (as_str d)
+text_is test d = is_some_and test (as_str d)
 
 abbrev pub are_labels : Members → Bool
 are_labels no_members = true
@@ -87,11 +87,11 @@ abbrev pub is_of_the_future : ℕ → List ℕ → Bool
 is_of_the_future present t =
     bytes_eq t (uid_text cluster_word (uid_revision t)) && nat_lt (uid_revision t) (2 ^ 62) && nat_lt present (uid_revision t)
 
-abbrev pub is_known_uid : ℕ → List ℕ → Bool
-is_known_uid present t = is_not_empty t && not (is_of_the_future present t)
+abbrev pub is_possible_uid : ℕ → List ℕ → Bool
+is_possible_uid present t = is_not_empty t && not (is_of_the_future present t)
 
 abbrev pub is_owner : ℕ → Owner → Bool
-is_owner present o = passes is_not_empty o.api_version && passes is_not_empty o.kind && passes is_not_empty o.name && passes (is_known_uid present) o.uid
+is_owner present o = is_some_and is_not_empty o.api_version && is_some_and is_not_empty o.kind && is_some_and is_not_empty o.name && is_some_and (is_possible_uid present) o.uid
 
 abbrev pub controllers : List Owner → ℕ
 controllers [] = 0
@@ -129,22 +129,22 @@ requirements d = option_and_then (λ s. result_ok (selector_of_value s)) (in_spe
 
 -- spec.selector: a selector with at least one requirement
 abbrev pub is_selector_valid : Data → Bool
-is_selector_valid d = passes (λ (rs : List Requirement). nat_lt 0 (length rs)) (requirements d)
+is_selector_valid d = is_some_and (λ (rs : List Requirement). nat_lt 0 (length rs)) (requirements d)
 
 -- the text of what is there
-abbrev pub text_of : Option Data → List ℕ
-text_of found = unwrap_or (option_map compact_text found) []
+abbrev pub text_or_empty : Option Data → List ℕ
+text_or_empty found = unwrap_or (option_map compact_text found) []
 
 -- spec.selector stays as it was stored
 abbrev pub is_selector_kept : Data → Data → Bool
-is_selector_kept stored d = bytes_eq (text_of (in_spec (codes "selector") stored)) (text_of (in_spec (codes "selector") d))
+is_selector_kept stored d = bytes_eq (text_or_empty (in_spec (codes "selector") stored)) (text_or_empty (in_spec (codes "selector") d))
 
 abbrev pub is_selected : List Requirement → Data → Bool
 is_selected rs t = are_labels_valid t && meets_all rs (labels_of t)
 
 -- spec.template: there, with valid labels that the selector matches (Kubernetes API reference, PodTemplateSpec)
 abbrev pub is_template_valid : Data → Bool
-is_template_valid d = passes (λ rs. passes (is_selected rs) (in_spec (codes "template") d)) (requirements d)
+is_template_valid d = is_some_and (λ rs. is_some_and (is_selected rs) (in_spec (codes "template") d)) (requirements d)
 
 abbrev pub is_percent_sign : ℕ → Bool
 is_percent_sign b = b == 37
@@ -184,15 +184,15 @@ is_rolling d = are_amounts (option_and_then amount (get (codes "maxSurge") d)) (
 
 abbrev pub is_strategy_of : Data → List ℕ → Bool
 is_strategy_of d t =
-    if bytes_eq t (codes "RollingUpdate") then passes is_rolling (get (codes "rollingUpdate") d)
+    if bytes_eq t (codes "RollingUpdate") then is_some_and is_rolling (get (codes "rollingUpdate") d)
     else bytes_eq t (codes "Recreate") && not (is_some (get (codes "rollingUpdate") d))
 
 abbrev pub is_strategy : Data → Bool
-is_strategy d = passes (is_strategy_of d) (text_at (codes "type") d)
+is_strategy d = is_some_and (is_strategy_of d) (text_at (codes "type") d)
 
 -- spec.strategy: `RollingUpdate` with its amounts, or `Recreate` without any (Kubernetes API reference, DeploymentStrategy)
 abbrev pub is_strategy_valid : Data → Bool
-is_strategy_valid d = passes is_strategy (in_spec (codes "strategy") d)
+is_strategy_valid d = is_some_and is_strategy (in_spec (codes "strategy") d)
 
 -- a check: whether it passes, and the field that it is of
 abbrev pub Check : Type 0

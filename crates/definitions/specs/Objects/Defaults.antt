@@ -6,10 +6,10 @@ use Rattle.definitions.specs.declared.kinds.Kind.{Kind}
 use Rattle.definitions.specs.declared.kinds.Kind.TheVariants.{ReplicaSet, Deployment}
 use Rattle.definitions.specs.Objects.Metadata.{text_at}
 use Rattle.definitions.specs.Objects.Reading.{empty}
-use Rattle.definitions.specs.Objects.SelectorValues.{passes}
+use Rattle.definitions.specs.Objects.SelectorValues.{is_some_and}
 
-abbrev pub whole : ℕ → Data
-whole n = number (unsigned n)
+abbrev pub unsigned_value : ℕ → Data
+unsigned_value n = number (unsigned n)
 
 -- the value with this member changed, if it has the member
 abbrev pub with_changed : List ℕ → (Data → Data) → Data → Data
@@ -19,7 +19,7 @@ abbrev pub rolling_defaults : Data → Data
 rolling_defaults d = with_default (codes "maxUnavailable") (string (codes "25%")) (with_default (codes "maxSurge") (string (codes "25%")) d)
 
 abbrev pub is_rolling_update : Data → Bool
-is_rolling_update d = passes (bytes_eq (codes "RollingUpdate")) (text_at (codes "type") d)
+is_rolling_update d = is_some_and (bytes_eq (codes "RollingUpdate")) (text_at (codes "type") d)
 
 -- a rolling update has its two amounts
 abbrev pub with_rolling : Data → Data
@@ -30,12 +30,12 @@ abbrev pub strategy_defaults : Data → Data
 strategy_defaults d = with_rolling (with_default (codes "type") (string (codes "RollingUpdate")) d)
 
 abbrev pub replica_set_defaults : Data → Data
-replica_set_defaults d = with_default (codes "replicas") (whole 1) d
+replica_set_defaults d = with_default (codes "replicas") (unsigned_value 1) d
 
 abbrev pub deployment_defaults : Data → Data
 deployment_defaults d =
     with_changed (codes "strategy") strategy_defaults
-    (with_default (codes "strategy") empty (with_default (codes "revisionHistoryLimit") (whole 10) (with_default (codes "replicas") (whole 1) d)))
+    (with_default (codes "strategy") empty (with_default (codes "revisionHistoryLimit") (unsigned_value 10) (with_default (codes "replicas") (unsigned_value 1) d)))
 
 -- an object of a kind with the defaults of what its spec leaves out
 abbrev pub defaulted : Kind → Data → Data

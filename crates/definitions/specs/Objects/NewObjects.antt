@@ -3,7 +3,7 @@ use Rattle.std.specs.Prelude.{ℕ, List, Option, Some, None, codes, if◌then◌
 use Rattle.definitions.specs.Texts.Values.{Data, string, object, Members, no_members, member, put, members_of, without}
 use Rattle.definitions.specs.declared.kinds.Kind.{Kind}
 use Rattle.definitions.specs.declared.kinds.Kind.TheVariants.{Pod, ReplicaSet}
-use Rattle.definitions.specs.Objects.Defaults.{whole}
+use Rattle.definitions.specs.Objects.Defaults.{unsigned_value}
 use Rattle.definitions.specs.Texts.Kinds.{has_generation, has_status}
 use Rattle.definitions.specs.Objects.Metadata.{metadata_of, at_revision}
 use Rattle.definitions.specs.Objects.Reading.{empty}
@@ -12,7 +12,7 @@ use Rattle.definitions.specs.Texts.Uids.{uid_text, cluster_word}
 -- the status of a new object, of a kind that has one: without members, but for these (Kubernetes API Conventions, Spec and Status)
 abbrev pub first_status : Kind → Option Data
 first_status Pod = Some (object (member (codes "phase") (string (codes "Pending")) no_members))
-first_status ReplicaSet = Some (object (member (codes "replicas") (whole 0) no_members))
+first_status ReplicaSet = Some (object (member (codes "replicas") (unsigned_value 0) no_members))
 first_status k = if has_status k then Some empty else None
 
 -- the members with this status, if there is one
@@ -26,7 +26,7 @@ with_first_status k o = object (with_status (first_status k) (members_of o))
 
 -- the first generation is 1 (Kubernetes API Conventions, Metadata)
 abbrev pub with_generation : Kind → Members → Members
-with_generation k meta = if has_generation k then put (codes "generation") (whole 1) meta else meta
+with_generation k meta = if has_generation k then put (codes "generation") (unsigned_value 1) meta else meta
 
 -- what the server sets in the metadata of a new object (Kubernetes API Conventions, Metadata)
 abbrev pub new_metadata : Kind → ℕ → List ℕ → List ℕ → List ℕ → Members → Members

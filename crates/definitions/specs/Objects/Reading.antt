@@ -9,9 +9,9 @@ use Rattle.definitions.specs.declared.schemas.Shape.{Shape}
 use Rattle.definitions.specs.declared.schemas.Shape.TheVariants.{Anything, Text, VersionOf, NameOf, Truth, Whole, TextList, List as ListOf, Object}
 use Rattle.definitions.specs.declared.schemas.Schema.{Schema}
 use Rattle.definitions.specs.declared.schemas.Schema.TheVariants.{Root, Unknown}
-use Rattle.definitions.specs.declared.schemas.Member.{Member}
+use Rattle.definitions.specs.declared.schemas.Property.{Property}
 use Rattle.definitions.specs.Texts.Kinds.{api_version, kind_text}
-use Rattle.definitions.specs.Objects.Schemas.{member_at}
+use Rattle.definitions.specs.Objects.Schemas.{property_at}
 
 -- from the first number to the second
 abbrev pub is_within : ℤ → ℤ → Num → Bool
@@ -37,7 +37,7 @@ abbrev mutual
 
   pub members_fit : Schema → Members → Bool
   members_fit p no_members = true
-  members_fit p (member k d ms) = (is_null d || fits (member_at p k).shape d) && members_fit p ms
+  members_fit p (member k d ms) = (is_null d || fits (property_at p k).shape d) && members_fit p ms
 
 abbrev pub is_empty : Data → Bool
 is_empty (string s) = length s == 0
@@ -46,7 +46,7 @@ is_empty (object ms) = members_len ms == 0
 is_empty d = false
 
 -- a member that is null counts as absent, and where its table says so an empty one too
-abbrev pub is_absent : Member → Data → Bool
+abbrev pub is_absent : Property → Data → Bool
 is_absent m d = is_null d || (m.drops_empty && is_empty d)
 
 abbrev pub schema_of : Shape → Schema
@@ -72,8 +72,8 @@ abbrev mutual
   pub tidied_members : Schema → Members → Members
   tidied_members p no_members = no_members
   tidied_members p (member k d ms) =
-      if is_absent (member_at p k) (tidied (member_at p k).shape d) then tidied_members p ms
-      else member k (tidied (member_at p k).shape d) (tidied_members p ms)
+      if is_absent (property_at p k) (tidied (property_at p k).shape d) then tidied_members p ms
+      else member k (tidied (property_at p k).shape d) (tidied_members p ms)
 
 abbrev pub empty : Data
 empty = object no_members

@@ -65,7 +65,7 @@ pub record Told : Type 0 where
   pub message : List ℕ
   pub about : Option Key
 
--- what it is told of each refusal (Kubernetes API machinery, the errors package)
+-- what it is told of each refusal (Kubernetes API machinery, the errors package; the words `LengthRequired` and `StorageFull` are our own)
 abbrev pub told : Refusal → Told
 told (bad_request p) = record { code = 400; reason = codes "BadRequest"; message = codes "bad request: " ++ part_text p; about = None }
 told (not_found k) = record { code = 404; reason = codes "NotFound"; message = quoted_name k ++ codes " not found"; about = Some k }

@@ -5,33 +5,33 @@ use Rattle.std.specs.Str.{bytes_eq}
 use Rattle.definitions.specs.Texts.Values.{Data, object, Members, put, get, get_member, as_number, as_u64, compact_text, members_of, without}
 use Rattle.definitions.specs.declared.kinds.Kind.{Kind}
 use Rattle.definitions.specs.declared.kinds.Kind.TheVariants.{Deployment}
-use Rattle.definitions.specs.Objects.Checks.{text_of}
-use Rattle.definitions.specs.Objects.Defaults.{whole}
+use Rattle.definitions.specs.Objects.Checks.{text_or_empty}
+use Rattle.definitions.specs.Objects.Defaults.{unsigned_value}
 use Rattle.definitions.specs.Texts.Kinds.{has_generation, has_status}
 use Rattle.definitions.specs.Objects.Metadata.{metadata, metadata_of, with_metadata, is_being_deleted, at_revision}
 use Rattle.definitions.specs.Objects.NewObjects.{first_status, with_status}
 use Rattle.definitions.specs.Texts.Revisions.{greatest_revision}
 
-abbrev pub as_held : List ℕ → Option Data → Members → Members
-as_held k None ms = without k ms
-as_held k (Some d) ms = put k d ms
+abbrev pub as_stored : List ℕ → Option Data → Members → Members
+as_stored k None ms = without k ms
+as_stored k (Some d) ms = put k d ms
 
 -- the members, those of these names as the stored object has them
 abbrev pub keeping : List (List ℕ) → Members → Members → Members
 keeping [] existing ms = ms
-keeping (k ∷ ks) existing ms = keeping ks existing (as_held k (get_member k existing) ms)
+keeping (k ∷ ks) existing ms = keeping ks existing (as_stored k (get_member k existing) ms)
 
 -- what an update leaves as it is, whatever the body says (Kubernetes API Conventions, Metadata)
-abbrev pub kept : List (List ℕ)
-kept = codes "namespace" ∷ codes "uid" ∷ codes "creationTimestamp" ∷ codes "deletionTimestamp" ∷ codes "generation" ∷ codes "resourceVersion" ∷ []
+abbrev pub unchanged_metadata : List (List ℕ)
+unchanged_metadata = codes "namespace" ∷ codes "uid" ∷ codes "creationTimestamp" ∷ codes "deletionTimestamp" ∷ codes "generation" ∷ codes "resourceVersion" ∷ []
 
 -- and of the other members the status, of a kind that has one (Kubernetes API Conventions, Spec and Status)
-abbrev pub kept_of : Kind → List (List ℕ)
-kept_of k = if has_status k then codes "status" ∷ [] else []
+abbrev pub unchanged_members : Kind → List (List ℕ)
+unchanged_members k = if has_status k then codes "status" ∷ [] else []
 
 -- a body's object in the place of the stored one, still at the stored resourceVersion
 abbrev pub in_place : Kind → Data → Data → Data
-in_place k existing o = with_metadata (keeping kept (metadata_of existing) (metadata_of o)) (object (keeping (kept_of k) (members_of existing) (members_of o)))
+in_place k existing o = with_metadata (keeping unchanged_metadata (metadata_of existing) (metadata_of o)) (object (keeping (unchanged_members k) (members_of existing) (members_of o)))
 
 -- the status of a body, or the first one where it has none
 abbrev pub status_in : Kind → Option Data → Option Data
@@ -46,7 +46,7 @@ abbrev pub says_the_same : Data → Data → Bool
 says_the_same existing d = bytes_eq (compact_text existing) (compact_text d)
 
 abbrev pub has_changed : Option Data → Option Data → Bool
-has_changed existing now = not (bytes_eq (text_of existing) (text_of now))
+has_changed existing now = not (bytes_eq (text_or_empty existing) (text_or_empty now))
 
 abbrev pub has_new_spec : Data → Data → Bool
 has_new_spec existing d = has_changed (get (codes "spec") existing) (get (codes "spec") d)
@@ -68,7 +68,7 @@ abbrev pub next_generation : ℕ → ℕ
 next_generation n = if nat_lt n greatest_revision then n + 1 else n
 
 abbrev pub with_next_generation : Bool → Data → Members → Members
-with_next_generation is_new existing meta = if is_new then put (codes "generation") (whole (next_generation (generation existing))) meta else meta
+with_next_generation is_new existing meta = if is_new then put (codes "generation") (unsigned_value (next_generation (generation existing))) meta else meta
 
 -- what is stored in the place of the stored object, at a revision
 abbrev pub updated : Kind → ℕ → Data → Data → Data

@@ -26,9 +26,9 @@ all_items test no_items = true
 all_items test (item d ds) = test d && all_items test ds
 
 -- the test of what is there
-abbrev pub passes : {A : Type 0} → (A → Bool) → Option A → Bool
-passes test None = false
-passes test (Some a) = test a
+abbrev pub is_some_and : {A : Type 0} → (A → Bool) → Option A → Bool
+is_some_and test None = false
+is_some_and test (Some a) = test a
 
 -- ---- requirements
 

@@ -17,17 +17,17 @@ abbrev pub pairs_of : List ℕ → Pairs
 pairs_of target = raw_pairs (query_of target)
 
 -- a decoded name or value, as a text
-abbrev pub text_of : List ℕ → List ℕ
-text_of bytes = utf8_lossy (decode bytes)
+abbrev pub decoded_text : List ℕ → List ℕ
+decoded_text bytes = utf8_lossy (decode bytes)
 
--- the value of a member: of those with its name the first counts
-abbrev pub member : List ℕ → Pairs → Option (List ℕ)
-member name [] = None
-member name ((n, v) ∷ pairs) = if bytes_eq (text_of n) name then Some (text_of v) else member name pairs
+-- the value of a parameter: of those with its name the first counts
+abbrev pub parameter : List ℕ → Pairs → Option (List ℕ)
+parameter name [] = None
+parameter name ((n, v) ∷ pairs) = if bytes_eq (decoded_text n) name then Some (decoded_text v) else parameter name pairs
 
--- whether one of these names is a member's
+-- whether a parameter has one of these names
 abbrev pub has_any : List (List ℕ) → Pairs → Bool
-has_any names pairs = list_any (λ p. list_any (bytes_eq (text_of p.0)) names) pairs
+has_any names pairs = list_any (λ p. list_any (bytes_eq (decoded_text p.0)) names) pairs
 
 -- a text that is absent counts as empty
 abbrev pub or_empty : Option (List ℕ) → List ℕ

@@ -15,13 +15,13 @@ use Rattle.definitions.specs.declared.policies.StatedPolicy.{StatedPolicy}
 use Rattle.definitions.specs.declared.policies.StatedPolicy.TheVariants.{Nothing}
 use Rattle.definitions.specs.declared.refusals.Part.{Part}
 use Rattle.definitions.specs.declared.refusals.Part.TheVariants as part
-use Rattle.definitions.specs.Texts.Kinds.{group, plural, kind_named, has_status}
+use Rattle.definitions.specs.Texts.Kinds.{group, plural, kind_with_plural, has_status}
 use Rattle.definitions.specs.Texts.Keys.{Key, is_namespace}
 use Rattle.definitions.specs.State.History.{View}
 use Rattle.definitions.specs.Requests.DeleteOptions.{Options, options_of, options_with, stated_policy}
-use Rattle.definitions.specs.Requests.Collections as collections
-use Rattle.definitions.specs.Requests.Collections.{ListOptions, WatchOptions, Collection, Read, everything, collection_of}
-use Rattle.definitions.specs.Requests.Queries.{Pairs, pairs_of, member, has_any}
+use Rattle.definitions.specs.Requests.ListQueries as collections
+use Rattle.definitions.specs.Requests.ListQueries.{ListOptions, WatchOptions, Collection, Read, everything, collection_of}
+use Rattle.definitions.specs.Requests.Queries.{Pairs, pairs_of, parameter, has_any}
 use Rattle.definitions.specs.Texts.Values.{data_of}
 use Rattle.definitions.specs.Objects.Refusals.{Refusal, bad_request, no_such_path, method_not_allowed, too_large}
 use Rattle.definitions.specs.Requests.ObjectRequests.{Request, get_object, create_object, update_object, update_status, patch_object, delete_object}
@@ -62,18 +62,18 @@ after_words [] segs = Some segs
 after_words (word ∷ words) [] = None
 after_words (word ∷ words) (s ∷ segs) = if bytes_eq word s then after_words words segs else None
 
-abbrev pub with_status : Kind → Option Kind
-with_status k = if has_status k then Some k else None
+abbrev pub kind_with_status : Kind → Option Kind
+kind_with_status k = if has_status k then Some k else None
 
 -- below a prefix: `P`, `namespaces/N/P`, `namespaces/N/P/O` and `namespaces/N/P/O/status`
 abbrev pub below : Group → List (List ℕ) → Option Route
-below g (resource ∷ []) = option_map (λ k. collection k None) (kind_named g resource)
-below g (word ∷ n ∷ resource ∷ []) = if bytes_eq (codes "namespaces") word then option_map (λ k. collection k (Some n)) (kind_named g resource) else None
+below g (resource ∷ []) = option_map (λ k. collection k None) (kind_with_plural g resource)
+below g (word ∷ n ∷ resource ∷ []) = if bytes_eq (codes "namespaces") word then option_map (λ k. collection k (Some n)) (kind_with_plural g resource) else None
 below g (word ∷ n ∷ resource ∷ name ∷ []) =
-    if bytes_eq (codes "namespaces") word then option_map (λ k. object_at (record { kind = k; namespace = n; name = name })) (kind_named g resource) else None
+    if bytes_eq (codes "namespaces") word then option_map (λ k. object_at (record { kind = k; namespace = n; name = name })) (kind_with_plural g resource) else None
 below g (word ∷ n ∷ resource ∷ name ∷ last ∷ []) =
     if bytes_eq (codes "namespaces") word && bytes_eq (codes "status") last
-    then option_map (λ k. status_of (record { kind = k; namespace = n; name = name })) (option_and_then with_status (kind_named g resource)) else None
+    then option_map (λ k. status_of (record { kind = k; namespace = n; name = name })) (option_and_then kind_with_status (kind_with_plural g resource)) else None
 below g segs = None
 
 -- the prefix is `api/v1` or `apis/apps/v1`
@@ -159,7 +159,7 @@ only_policy pairs policy = if has_any (codes "dryRun" ∷ []) pairs then Err par
 -- what the query of a target adds, by the method and the route, or which part of it is not understood
 abbrev pub query_for : Method → Route → List ℕ → Result Query Part
 query_for Get (collection k ns) target = result_map_both (λ c. record { collection = c; policy = Nothing }) (λ p. p) (collection_of (pairs_of target))
-query_for Delete r target = only_policy (pairs_of target) (stated_policy (member (codes "propagationPolicy") (pairs_of target)))
+query_for Delete r target = only_policy (pairs_of target) (stated_policy (parameter (codes "propagationPolicy") (pairs_of target)))
 query_for method r target = only_policy (pairs_of target) Nothing
 
 -- what is selected of a collection

@@ -2,7 +2,7 @@
 use Rattle.std.specs.Prelude.{ℕ, ◌+◌, ◌-◌, List, [], ◌∷◌, ◌++◌, length, drop, Option, Some, None}
 use Rattle.serde_json.specs.Data.{Data}
 use Rattle.definitions.specs.Texts.Keys.{Key}
-use Rattle.definitions.specs.State.History.{History, Write, View, Members, up_to, last_of, put_or_remove, seen}
+use Rattle.definitions.specs.State.History.{History, Write, View, Entries, up_to, last_of, put_or_remove, seen}
 use Rattle.definitions.specs.Objects.Metadata.{metadata_of, at_revision}
 use Rattle.definitions.specs.declared.frames.ChangeKind.{ChangeKind}
 use Rattle.definitions.specs.declared.frames.ChangeKind.TheVariants.{Added, Modified, Deleted}
@@ -26,17 +26,17 @@ event_of r k (Some old) (Some new) = record { kind = Modified; revision = r; key
 event_of r k (Some old) None = record { kind = Deleted; revision = r; key = k; object = gone_at r old } ∷ []
 
 -- the event, if there is one, of a write after these
-abbrev pub write_change : View → List Write → Write → List Event
-write_change v before w = event_of (length before + 2) w.key (seen v w.key (last_of None w.key before)) (seen v w.key w.put)
+abbrev pub event_of_write : View → List Write → Write → List Event
+event_of_write v before w = event_of (length before + 2) w.key (seen v w.key (last_of None w.key before)) (seen v w.key w.put)
 
 -- the events of writes after these, in order
-abbrev pub changes_after : View → List Write → List Write → List Event
-changes_after v before [] = []
-changes_after v before (w ∷ ws) = write_change v before w ++ changes_after v (before ++ w ∷ []) ws
+abbrev pub events_after : View → List Write → List Write → List Event
+events_after v before [] = []
+events_after v before (w ∷ ws) = event_of_write v before w ++ events_after v (before ++ w ∷ []) ws
 
 -- the events of the writes with a revision above a and up to b, in order
 abbrev pub events : History → View → ℕ → ℕ → List Event
-events h v a b = changes_after v (up_to a h) (drop (a - 1) (up_to b h))
+events h v a b = events_after v (up_to a h) (drop (a - 1) (up_to b h))
 
 -- ---- what they make of the list
 
@@ -46,10 +46,10 @@ put_of Deleted d = None
 put_of kind d = Some d
 
 -- an event applied to what is there
-abbrev pub apply : Members → Event → Members
+abbrev pub apply : Entries → Event → Entries
 apply ms c = put_or_remove ms c.key (put_of c.kind c.object)
 
 -- events applied one after another
-abbrev pub applied : Members → List Event → Members
+abbrev pub applied : Entries → List Event → Entries
 applied ms [] = ms
 applied ms (c ∷ cs) = applied (apply ms c) cs

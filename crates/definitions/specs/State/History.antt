@@ -48,25 +48,25 @@ abbrev pub state : History → ℕ → Key → Option Data
 state h r k = last_of None k (up_to r h)
 
 -- keys and their objects, in the order of keys
-abbrev pub Members : Type 0
-Members = List (Key × Data)
+abbrev pub Entries : Type 0
+Entries = List (Key × Data)
 
-abbrev pub put_or_remove : Members → Key → Option Data → Members
+abbrev pub put_or_remove : Entries → Key → Option Data → Entries
 put_or_remove ms k None = remove_entry (is_at (key_cmp k)) ms
 put_or_remove ms k (Some d) = insert_entry key_cmp ms k d
 
-abbrev pub after : Members → Write → Members
+abbrev pub after : Entries → Write → Entries
 after ms w = put_or_remove ms w.key w.put
 
-abbrev pub after_all : Members → List Write → Members
+abbrev pub after_all : Entries → List Write → Entries
 after_all ms [] = ms
 after_all ms (w ∷ ws) = after_all (after ms w) ws
 
 -- all that is there at a revision
-abbrev pub members : History → ℕ → Members
-members h r = after_all [] (up_to r h)
+abbrev pub entries_at : History → ℕ → Entries
+entries_at h r = after_all [] (up_to r h)
 
-abbrev pub found : Key → Members → Option Data
+abbrev pub found : Key → Entries → Option Data
 found k ms = lookup (is_at (key_cmp k)) ms
 
 -- what a list or a watch asks for: a kind, in one namespace or in all, with these labels and fields (Kubernetes API Concepts, Resource URIs; Labels and Selectors; Field Selectors)
@@ -77,8 +77,8 @@ pub record View : Type 0 where
   pub fields : List FieldRequirement
 
 -- all objects of a kind, in one namespace or in all
-abbrev pub whole : Kind → Option (List ℕ) → View
-whole k ns = record { kind = k; namespace = ns; labels = []; fields = [] }
+abbrev pub unfiltered : Kind → Option (List ℕ) → View
+unfiltered k ns = record { kind = k; namespace = ns; labels = []; fields = [] }
 
 abbrev pub in_namespace : Option (List ℕ) → List ℕ → Bool
 in_namespace None ns = true
@@ -89,12 +89,12 @@ abbrev pub in_view : View → Key → Data → Bool
 in_view v k d =
     (rank v.kind == rank k.kind) && in_namespace v.namespace k.namespace && meets_all v.labels (labels_of d) && fields_meet v.fields k.name k.namespace
 
-abbrev pub viewed : View → Members → Members
+abbrev pub viewed : View → Entries → Entries
 viewed v ms = filter (λ m. in_view v m.0 m.1) ms
 
 -- the list of a view at a revision, by namespace, then name (Kubernetes API Concepts, Collections)
-abbrev pub list : History → View → ℕ → Members
-list h v r = viewed v (members h r)
+abbrev pub list : History → View → ℕ → Entries
+list h v r = viewed v (entries_at h r)
 
 -- the object under a key, if there is one and the view asks for it
 abbrev pub seen : View → Key → Option Data → Option Data

@@ -5,7 +5,7 @@ use Rattle.std.specs.Ordering.{nat_cmp, then_cmp, on, is_lt}
 use Rattle.std.specs.Cmp.Lexicographic.{slice_cmp}
 use Rattle.std.specs.declared.cmp.Ordering.{Ordering}
 use Rattle.definitions.specs.Texts.Keys.{Key}
-use Rattle.definitions.specs.State.History.{Members}
+use Rattle.definitions.specs.State.History.{Entries}
 
 -- where a page ends: the namespace and the name of its last object
 pub record Place : Type 0 where
@@ -20,7 +20,7 @@ abbrev pub place_cmp : Place → Place → Ordering
 place_cmp = then_cmp (on (λ (p : Place). p.namespace) (slice_cmp nat_cmp)) (on (λ (p : Place). p.name) (slice_cmp nat_cmp))
 
 -- the members stand in strictly ascending order of their places
-abbrev pub AreInPlace : Members → Type 0
+abbrev pub AreInPlace : Entries → Type 0
 AreInPlace ms = IsStrictlySortedBy place_cmp (map (λ m. place_of m.0) ms)
 
 -- whether a key comes after a place; where there is none, each does
@@ -29,26 +29,26 @@ is_after None k = true
 is_after (Some p) k = is_lt (place_cmp p (place_of k))
 
 -- the members after a place
-abbrev pub after_place : Option Place → Members → Members
+abbrev pub after_place : Option Place → Entries → Entries
 after_place p ms = filter (λ m. is_after p m.0) ms
 
 -- the place of the last member
-abbrev pub last_place : Members → Option Place
+abbrev pub last_place : Entries → Option Place
 last_place [] = None
 last_place (m ∷ []) = Some (place_of m.0)
 last_place (m ∷ n ∷ ms) = last_place (n ∷ ms)
 
 -- a part of a list, and the place after which the next part begins, if there is one
 pub record Page : Type 0 where
-  pub items : Members
+  pub items : Entries
   pub next : Option Place
 
 -- the page of a list after a place: at most n members, and where they end if there are more; a limit of 0 is no limit
-abbrev pub page_of : Members → ℕ → Option Place → Page
+abbrev pub page_of : Entries → ℕ → Option Place → Page
 page_of ms n p =
     let rest = after_place p ms in
     if n == 0 || nat_le (length rest) n then record { items = rest; next = None } else record { items = take n rest; next = last_place (take n rest) }
 
 -- how many members follow that page
-abbrev pub remaining : Members → ℕ → Option Place → ℕ
+abbrev pub remaining : Entries → ℕ → Option Place → ℕ
 remaining ms n p = if n == 0 then 0 else length (after_place p ms) - n

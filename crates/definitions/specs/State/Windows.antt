@@ -4,7 +4,7 @@ use Rattle.serde_json.specs.Data.{Data}
 use Rattle.definitions.specs.declared.kinds.Kind.{Kind}
 use Rattle.definitions.specs.Texts.Kinds.{rank}
 use Rattle.definitions.specs.Texts.Keys.{Key}
-use Rattle.definitions.specs.State.History.{History, Write, write, compaction, View, Members, writes, present, last_of, list}
+use Rattle.definitions.specs.State.History.{History, Write, write, compaction, View, Entries, writes, present, last_of, list}
 use Rattle.definitions.specs.Objects.Refusals.{Refusal, expired, too_new}
 use Rattle.definitions.specs.State.Events.{Event, events}
 
@@ -76,5 +76,5 @@ abbrev pub since : ℕ → History → View → ℕ → ℕ → Result (List Eve
 since size h v a n = within (floor v.kind size h) (present h) a (take n (events h v a (present h)))
 
 -- the list of the view at r
-abbrev pub list_within : ℕ → History → View → ℕ → Result Members Refusal
+abbrev pub list_within : ℕ → History → View → ℕ → Result Entries Refusal
 list_within size h v r = within (floor v.kind size h) (present h) r (list h v r)

@@ -82,5 +82,5 @@ abbrev pub resource : Kind → List ℕ
 resource k = resource_in (group k) (plural k)
 
 -- the kind of a group that has this plural name (Kubernetes API Concepts, Resource URIs)
-abbrev pub kind_named : Group → List ℕ → Option Kind
-kind_named g name = find (λ k. bytes_eq (text_of_group g) (group_name k) && bytes_eq name (plural k)) kinds
+abbrev pub kind_with_plural : Group → List ℕ → Option Kind
+kind_with_plural g name = find (λ k. bytes_eq (text_of_group g) (group_name k) && bytes_eq name (plural k)) kinds

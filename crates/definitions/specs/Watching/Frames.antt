@@ -26,8 +26,8 @@ kind_text Bookmark = codes "BOOKMARK"
 kind_text Error = codes "ERROR"
 
 -- the kind of the frame with this `type`
-abbrev pub kind_named : List ℕ → Option FrameKind
-kind_named t =
+abbrev pub frame_kind_named : List ℕ → Option FrameKind
+frame_kind_named t =
     if bytes_eq t (codes "ADDED") then Some Added
     else
     (if bytes_eq t (codes "MODIFIED") then Some Modified

@@ -4,7 +4,7 @@ use Rattle.serde_json.specs.Data.{Data}
 use Rattle.definitions.specs.declared.kinds.Kind.{Kind}
 use Rattle.definitions.specs.declared.frames.FrameKind.TheVariants.{Added}
 use Rattle.definitions.specs.Texts.Keys.{Key}
-use Rattle.definitions.specs.State.History.{History, View, Members, list, put_or_remove}
+use Rattle.definitions.specs.State.History.{History, View, Entries, list, put_or_remove}
 use Rattle.definitions.specs.Watching.Frames.{Frame, frame_kind, frame_text, bookmark_frame}
 use Rattle.definitions.specs.State.Events.{Event, events, apply}
 
@@ -23,23 +23,23 @@ frame_of k (initial n d) = record { kind = Added; object = d }
 frame_of k (initial_end r) = bookmark_frame k true r
 
 -- the bytes of lines
-abbrev pub text_of : Kind → List Line → List ℕ
-text_of k ls = flat_map (λ l. frame_text (frame_of k l)) ls
+abbrev pub text_of_lines : Kind → List Line → List ℕ
+text_of_lines k ls = flat_map (λ l. frame_text (frame_of k l)) ls
 
 -- these events in order, and bookmarks, each at least at the revision of what is before it, below that of each event after it, and at most at b (Kubernetes API Concepts, Watch bookmarks)
-abbrev pub Goes : ℕ → ℕ → List Event → List Line → Type 0
-Goes at b [] [] = Unit {0}
-Goes at b (c ∷ cs) (event d ∷ ls) = (d ≡ c) × Goes c.revision b cs ls
-Goes at b [] (bookmark r ∷ ls) = (at ≤ r) × (r ≤ b) × Goes r b [] ls
-Goes at b (c ∷ cs) (bookmark r ∷ ls) = (at ≤ r) × (r ≤ b) × (r < c.revision) × Goes r b (c ∷ cs) ls
-Goes at b cs ls = ⊥
+abbrev pub AreEventsWithBookmarks : ℕ → ℕ → List Event → List Line → Type 0
+AreEventsWithBookmarks at b [] [] = Unit {0}
+AreEventsWithBookmarks at b (c ∷ cs) (event d ∷ ls) = (d ≡ c) × AreEventsWithBookmarks c.revision b cs ls
+AreEventsWithBookmarks at b [] (bookmark r ∷ ls) = (at ≤ r) × (r ≤ b) × AreEventsWithBookmarks r b [] ls
+AreEventsWithBookmarks at b (c ∷ cs) (bookmark r ∷ ls) = (at ≤ r) × (r ≤ b) × (r < c.revision) × AreEventsWithBookmarks r b (c ∷ cs) ls
+AreEventsWithBookmarks at b cs ls = ⊥
 
 -- a stream of the view v from a to b, in the history h
 abbrev pub IsStream : History → View → ℕ → ℕ → List Line → Type 0
-IsStream h v a b ls = Goes a b (events h v a b) ls
+IsStream h v a b ls = AreEventsWithBookmarks a b (events h v a b) ls
 
 -- the objects that are there, each as if it had just been added
-abbrev pub added_lines : Members → List Line
+abbrev pub added_lines : Entries → List Line
 added_lines ms = map (λ m. initial m.0 m.1) ms
 
 -- the list at a, the bookmark that closes it, then a stream from a (Kubernetes API Concepts, Streaming lists)
@@ -48,12 +48,12 @@ IsInitialStream h v a b ls = (more : List Line) × (ls ≡ added_lines (list h v
 
 -- ---- what they make of the list
 
-abbrev pub apply_line : Members → Line → Members
+abbrev pub apply_line : Entries → Line → Entries
 apply_line ms (event c) = apply ms c
 apply_line ms (initial n d) = put_or_remove ms n (Some d)
 apply_line ms l = ms
 
 -- lines applied one after another
-abbrev pub applied_lines : Members → List Line → Members
+abbrev pub applied_lines : Entries → List Line → Entries
 applied_lines ms [] = ms
 applied_lines ms (l ∷ ls) = applied_lines (apply_line ms l) ls

@@ -3,7 +3,7 @@ use Rattle.std.specs.Prelude.{ℕ, List, [], ◌∷◌, ◌++◌, nat_lt, map, B
 use Rattle.std.specs.Result.{result_map_both}
 use Rattle.definitions.specs.State.History as history
 use Rattle.definitions.specs.State.History.{History, View, present, list}
-use Rattle.definitions.specs.Requests.Collections.{WatchOptions}
+use Rattle.definitions.specs.Requests.ListQueries.{WatchOptions}
 use Rattle.definitions.specs.Objects.Refusals.{Refusal}
 use Rattle.definitions.specs.Watching.Streams.{Line, event, bookmark, added_lines}
 use Rattle.definitions.specs.Answers.Versions.{Watched, last_change, watched_from}
@@ -17,7 +17,7 @@ abbrev pub told_lines : Bool → ℕ → Watched → List Line
 told_lines bookmarks a w = if bookmarks then lines_from a w else map event w.events
 
 -- a watch's lines, by what is there and by what a watch from each revision is given
-abbrev pub lines_by : history.Members → (ℕ → Result Watched Refusal) → Bool → Option ℕ → Result (List Line) Refusal
+abbrev pub lines_by : history.Entries → (ℕ → Result Watched Refusal) → Bool → Option ℕ → Result (List Line) Refusal
 lines_by ms watched bookmarks None = Ok (added_lines ms)
 lines_by ms watched bookmarks (Some a) = result_map_both (told_lines bookmarks a) (λ f. f) (watched a)
 

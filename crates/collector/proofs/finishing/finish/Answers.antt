@@ -6,7 +6,7 @@ use Rattle.keys.specs.Keys.{key_of}
 use Rattle.turns.specs.Commands.{command_of}
 use Rattle.turns.specs.Entries.{entry_of}
 use Rattle.turns.specs.Hands.{looks_by, members_of}
-use Rattle.plans.specs.Collections.{orphaned, is_blocked}
+use Rattle.plans.specs.GarbageCollection.{orphaned, is_blocked}
 use Rattle.plans.specs.MetadataEdits.{without_finalizer}
 use Rattle.plans.specs.Standings.{dependents}
 use Rattle.collector.proofs.ByCases.{waited, neither}

@@ -3,7 +3,7 @@ use Rattle.controllers.specs.Commands.{Command}
 use Rattle.controllers.specs.Hands.{live}
 use Rattle.turns.specs.Commands.{command_of}
 use Rattle.turns.specs.Hands.{hand_of, reads_of}
-use Rattle.plans.specs.Collections.{collect}
+use Rattle.plans.specs.GarbageCollection.{collect}
 use Rattle.plans.specs.Standings.{dependents}
 use Rattle.collector.proofs.ByCases.{planned}
 use Rattle.collector.proofs.planning.commands.Goals as goal

@@ -1,6 +1,6 @@
 use Rattle.std.proofs.Common.{◌≡◌, ◌∙◌, IfOk, map, ap, subst, rules}
 use Rattle.std.specs.Prelude.{filter}
-use Rattle.definitions.specs.History.{Members}
+use Rattle.definitions.specs.History.{Entries}
 use Rattle.turns.specs.Entries.{entry_of}
 use Rattle.turns.specs.Hands.{members_of}
 use Rattle.deployment.proofs.Found.{here, managed_here}
@@ -14,4 +14,4 @@ returns g c =
     let members = members_of g.S.Seen.snapshot c.args.look.now in
     let shown : map entry_of c.as_slice.result.now ≡ map entry_of c.in_ok-owned.owned.items = ap (map entry_of) c.as_slice.ensures.value in
     let is = ap (filter (here ns uid)) (shown ∙ search rules) ∙ managed_here ns uid owner members (search rules) in
-    subst (λ (ms : Members). IfOk c.controlled.result (λ v. map entry_of v.items ≡ ms)) is c.controlled.ensures
+    subst (λ (ms : Entries). IfOk c.controlled.result (λ v. map entry_of v.items ≡ ms)) is c.controlled.ensures

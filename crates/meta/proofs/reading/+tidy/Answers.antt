@@ -4,7 +4,7 @@ use Rattle.std.specs.Map.{keys_of}
 use Rattle.serde_json.specs.View.{view, items_of}
 use Rattle.serde_json.proofs.Views.{Entry}
 use Rattle.definitions.specs.Reading.{tidied}
-use Rattle.definitions.specs.Schemas.{member_at}
+use Rattle.definitions.specs.Schemas.{property_at}
 use Rattle.meta.proofs.Tidying.{tidied_items-items_of, tidied_members-one_more, left}
 use Rattle.meta.proofs.reading.+tidy.Goals as goal
 
@@ -32,7 +32,7 @@ tidy_members-loop-key-preserved t c =
     let rest = c.next.new.self in
     let all : c.args.members.entries ≡ done ++ e ∷ rest = l.invariant.1 ∙ ap (λ es. done ++ es) c.in-Some.ensures.steps in
     let last = tidied_members-one_more p done e rest (subst (λ es. IsStrictlySortedBy string_cmp (keys_of es)) all c.len.ensures.ordered) in
-    let table : c.member_at-described.result ≡ member_at p (string_bytes e.0) = c.member_at-described.ensures ∙ ap (member_at p) c.as_str.ensures.value in
+    let table : c.property_at-described.result ≡ property_at p (string_bytes e.0) = c.property_at-described.ensures ∙ ap (property_at p) c.as_str.ensures.value in
     let made : view c.in_ok-inner.inner ≡ left p e = c.in_ok-inner.ensures ∙ ap (λ m. tidied m.shape (view e.1)) table in (
       done ++ e ∷ [],
       all ∙ sym (append_assoc done (e ∷ []) rest),

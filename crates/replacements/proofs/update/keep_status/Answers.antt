@@ -2,9 +2,9 @@ use Rattle.std.proofs.Common.{codes, ap, ◌∙◌}
 use Rattle.serde_json.specs.Find.{get_member}
 use Rattle.definitions.specs.Metadata.{metadata_of}
 use Rattle.definitions.specs.Values.{members_of}
-use Rattle.replacements.proofs.Replacing.{metadata_of-as_held}
+use Rattle.replacements.proofs.Replacing.{metadata_of-as_stored}
 use Rattle.replacements.proofs.update.keep_status.Goals as goal
 
 pub returns-clause-metadata : goal.returns-clause-metadata
 returns-clause-metadata c =
-    ap metadata_of c.in_ok-kept.ensures.value ∙ metadata_of-as_held (get_member (codes "status") (members_of c.args.existing.now.value)) c.args.object.value
+    ap metadata_of c.in_ok-with_status.ensures.value ∙ metadata_of-as_stored (get_member (codes "status") (members_of c.args.existing.now.value)) c.args.object.value

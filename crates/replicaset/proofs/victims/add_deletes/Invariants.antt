@@ -1,11 +1,10 @@
 use Rattle.std.proofs.Common.{◌≡◌, ◌++◌, map, drop}
 use Rattle.plans.specs.ReplicaSets.{delete_pod}
-use Rattle.replicaset.specs.declared.ranks.Ranked.{Ranked}
+use Rattle.replicaset.specs.Ranks.{pods_of}
 use Rattle.turns.specs.Commands.{command_of}
-use Rattle.turns.specs.Entries.{entry_of}
 use Rattle.replicaset.proofs.victims.add_deletes.Given as goal
 
 abbrev pub invariant-loop-victim : goal.invariant-loop-victim
 invariant-loop-victim l =
-    map command_of l.commands.items ++ map delete_pod (map (λ (r : Ranked). entry_of r.pod) (drop l.victim-index l.victims))
-    ≡ map command_of l.fn.commands.items ++ map delete_pod (map (λ (r : Ranked). entry_of r.pod) l.victims)
+    map command_of l.commands.items ++ map delete_pod (pods_of (drop l.victim-index l.victims))
+    ≡ map command_of l.fn.commands.items ++ map delete_pod (pods_of l.victims)

@@ -1,8 +1,9 @@
 use Rattle.std.proofs.Common.{◌≡◌, ◌++◌, OnOk, map, take, sym, ap, ◌∙◌, subst}
 use Rattle.std.proofs.lemmas.List.{take-map}
-use Rattle.definitions.specs.History.{Members}
+use Rattle.definitions.specs.History.{Entries}
 use Rattle.plans.specs.PodRanks.{ranked}
 use Rattle.plans.specs.ReplicaSets.{delete_pod}
+use Rattle.replicaset.specs.Ranks.{pods_of}
 use Rattle.replicaset.specs.declared.ranks.Ranked.{Ranked}
 use Rattle.turns.specs.Commands.{command_of}
 use Rattle.turns.specs.Entries.{entry_of}
@@ -10,10 +11,10 @@ use Rattle.replicaset.proofs.victims.delete_lowest.Goals as goal
 
 pub returns : goal.returns
 returns c =
-    let pods = map entry_of c.args.pods.now in
+    let pods = pods_of c.args.pods.now in
     let surplus = c.args.surplus in
     let all = c.in_ok-victims.victims.items in
     let victim = λ (r : Ranked). entry_of r.pod in
     let is : map victim c.as_slice.result.now ≡ take surplus (ranked pods) =
     ap (map victim) (c.as_slice.ensures.value ∙ c.truncate.ensures.items) ∙ sym (take-map victim surplus all) ∙ ap (take surplus) c.in_ok-victims.ensures in
-    subst (λ (ps : Members). OnOk c.add_deletes.result (map command_of c.add_deletes.new.commands.items ≡ map command_of c.args.commands.now.items ++ map delete_pod ps)) is c.add_deletes.ensures
+    subst (λ (ps : Entries). OnOk c.add_deletes.result (map command_of c.add_deletes.new.commands.items ≡ map command_of c.args.commands.now.items ++ map delete_pod ps)) is c.add_deletes.ensures

@@ -1,5 +1,5 @@
 use Rattle.std.proofs.Common.{ap}
-use Rattle.definitions.specs.Collections.{going_on}
+use Rattle.definitions.specs.ListQueries.{going_on}
 use Rattle.definitions.proofs.TokensRead.{token_is_read}
 use Rattle.pages.specs.Seen.{token_of}
 use Rattle.requests.proofs.TokenTexts.{goes_nowhere}

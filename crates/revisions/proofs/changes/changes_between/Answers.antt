@@ -5,7 +5,7 @@ use Rattle.std.specs.Prelude.{option_map}
 use Rattle.keys.specs.Keys.{key_of}
 use Rattle.definitions.specs.History as history
 use Rattle.definitions.specs.History.{after_all}
-use Rattle.definitions.specs.Events.{changes_after}
+use Rattle.definitions.specs.Events.{events_after}
 use Rattle.selector.specs.Views.{view_of}
 use Rattle.revisions.specs.Events.{event_seen}
 use Rattle.revisions.specs.Seen.{seen}
@@ -22,8 +22,8 @@ loop-place-init c =
     record {
       state = state ∙ ap (λ ws. after_all [] (take (c.args.from - 1) ws)) (writes-history_of writes)
           ∙ ap (after_all []) (take-map write_of (c.args.from - 1) writes ∙ ap (map write_of) (sym front) ∙ sym (append-nil (map write_of before)));
-      told = ap (λ ws. ws ++ changes_after (view_of c.args.view.now) (map write_of before ++ []) (map write_of c.split_at.result.1.now)) (ap (map event_seen) c.new-changes.ensures.items)
-          ∙ ap (λ ws. changes_after (view_of c.args.view.now) ws (map write_of c.split_at.result.1.now)) (append-nil (map write_of before));
+      told = ap (λ ws. ws ++ events_after (view_of c.args.view.now) (map write_of before ++ []) (map write_of c.split_at.result.1.now)) (ap (map event_seen) c.new-changes.ensures.items)
+          ∙ ap (λ ws. events_after (view_of c.args.view.now) ws (map write_of c.split_at.result.1.now)) (append-nil (map write_of before));
     }
 
 pub loop-place-preserved : goal.loop-place-preserved
@@ -62,8 +62,8 @@ returns c =
     ap (map write_of) (c.split_at.ensures.back ∙ short_drop ws (length c.up_to.result.now) m cut) ∙ sym (drop-map write_of m ws) ∙ ap (drop m) is in
     let none : drop c.loop-place.place (map write_of after) ≡ [] = drop_all c.loop-place.place (map write_of after) (omega (arith, length-map after write_of, c.loop-place-test.false)) in
     sym (append-nil so_far)
-    ∙ ap (λ us. so_far ++ changes_after v (map write_of before ++ take c.loop-place.place (map write_of after)) us) (sym none)
+    ∙ ap (λ us. so_far ++ events_after v (map write_of before ++ take c.loop-place.place (map write_of after)) us) (sym none)
     ∙ c.loop-place.invariant.told
-    ∙ ap (λ us. changes_after v us (map write_of after)) front ∙ ap (changes_after v (take m (take n all))) back
+    ∙ ap (λ us. events_after v us (map write_of after)) front ∙ ap (events_after v (take m (take n all))) back
     ∙ changes_of_part v all m n
-    ∙ ap (λ us. changes_after v (take m us) (drop m (take n us))) (sym (writes-history_of c.args.writes.now))
+    ∙ ap (λ us. events_after v (take m us) (drop m (take n us))) (sym (writes-history_of c.args.writes.now))

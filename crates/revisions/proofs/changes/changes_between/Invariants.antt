@@ -1,7 +1,7 @@
 use Rattle.std.proofs.Common.{◌≡◌, ◌++◌, [], map, take, drop}
 use Rattle.meta.specs.Writes.{write_of}
 use Rattle.definitions.specs.History.{after_all}
-use Rattle.definitions.specs.Events.{changes_after}
+use Rattle.definitions.specs.Events.{events_after}
 use Rattle.selector.specs.Views.{view_of}
 use Rattle.revisions.specs.Events.{event_seen}
 use Rattle.revisions.specs.Seen.{seen}
@@ -11,6 +11,6 @@ use Rattle.revisions.proofs.changes.changes_between.Given as goal
 abbrev pub invariant-loop-place : goal.invariant-loop-place
 invariant-loop-place l = record {
   state : seen l.state.entries ≡ after_all [] (map write_of l.before ++ take l.place (map write_of l.after));
-  told : map event_seen l.changes.items ++ changes_after (view_of l.view) (map write_of l.before ++ take l.place (map write_of l.after)) (drop l.place (map write_of l.after))
-      ≡ changes_after (view_of l.view) (map write_of l.before) (map write_of l.after);
+  told : map event_seen l.changes.items ++ events_after (view_of l.view) (map write_of l.before ++ take l.place (map write_of l.after)) (drop l.place (map write_of l.after))
+      ≡ events_after (view_of l.view) (map write_of l.before) (map write_of l.after);
 }

@@ -1,5 +1,5 @@
 use Rattle.std.proofs.Common.{◌∙◌, ap, option_map}
-use Rattle.definitions.specs.History.{Members, found}
+use Rattle.definitions.specs.History.{Entries, found}
 use Rattle.keys.specs.Keys.{key_of}
 use Rattle.indexer.proofs.SeenMaps.{data_of, seen-lookup, option_map-copied}
 use Rattle.indexer.proofs.objects.ObjectMap.get.Goals as goal
@@ -7,4 +7,4 @@ use Rattle.indexer.proofs.objects.ObjectMap.get.Goals as goal
 pub returns : goal.returns
 returns c =
     option_map-copied c.get.result ∙ ap (option_map data_of) c.get.ensures.value ∙ seen-lookup c.self.inside.objects.entries c.args.key.now
-    ∙ ap (λ (ms : Members). found (key_of c.args.key.now) ms) c.self.view_is
+    ∙ ap (λ (ms : Entries). found (key_of c.args.key.now) ms) c.self.view_is

@@ -1,0 +1,2 @@
+//! What the workers of controllers share, as mathematics: the board.
+#![tactic(auto)]

@@ -1,0 +1,199 @@
+//! The board.
+ghost use Rattle.std.specs.Prelude.{◌≡◌, ◌+◌, ◌≤◌, IfOk, OnOk, OnErr, length, map, option_map, string_bytes};
+ghost use Rattle.control.specs.Boards.{begun, taken, finished, requeued, observed, expecting_creations, expecting_deletions, is_satisfied, forgotten, lowered, all_lowered, may_tick, ticked, last_moment};
+ghost use Rattle.controllers.specs.WorkQueues.{handed};
+ghost use Rattle.control_desk.specs.Seen.{owner_of, observation_of};
+ghost use Rattle.keys.specs.Keys.{key_of};
+ghost use Rattle.work_keys.specs.WorkKeys.{work_key_of};
+
+use crate::observation::{Observation, Owner};
+use backoff::{Backoff, Delayed};
+use expectations::Table;
+use keys::Key;
+use std::alloc::{AllocError, Global};
+use std::marker::Model;
+use work_keys::WorkKey;
+use workqueue::Queue;
+
+/// The last moment of a board, in milliseconds: 2^53 - 1, the greatest number that every JSON reader represents exactly.
+const LAST_MOMENT: u64 = 9_007_199_254_740_991;
+
+/// The keys that wait and those in workers' hands, the keys with a delay, the failures in a row, what is expected, and the
+/// time in milliseconds.
+#[derive(Drop)]
+pub struct Board {
+    queue: Queue,
+    delayed: Delayed,
+    backoff: Backoff,
+    expectations: Table,
+    time: u64,
+}
+
+impl Model for Board {
+    ghost use Rattle.std.specs.Prelude.{◌≤◌};
+    ghost use Rattle.control.specs.Boards as boards;
+    ghost use Rattle.control.specs.Boards.{last_moment};
+    ghost use Rattle.control_desk.specs.Seen.{board_code};
+
+    ghost Value = { boards.Board };
+
+    ghost coded = { board_code };
+
+    ghost view = { λ b. record { work = b.queue; delays = b.delayed; failures = b.backoff; expected = b.expectations; time = b.time } };
+
+    ghost invariant = { λ b. b.time ≤ last_moment };
+}
+
+impl Board {
+    /// Returns a board at time 0 on which nothing waits and nothing is expected.
+    pub fn new(alloc: Global) -> Board
+        ensures { result ≡ begun }
+    {
+        Board {
+            queue: Queue::new(alloc),
+            delayed: Delayed::new(alloc),
+            backoff: Backoff::new(alloc),
+            expectations: Table::new(alloc),
+            time: 0,
+        }
+    }
+
+    /// Hands the key that waits longest to a worker, if one waits. The error is running out of memory, and then nothing has
+    /// changed.
+    pub fn take_key(&mut self) -> Result<Option<WorkKey>, AllocError>
+        ensures ok { OnOk result (self.new ≡ taken self.old) }
+        ensures key { IfOk result (λ k. option_map work_key_of k ≡ handed self.old.work) }
+        ensures err { OnErr result (self.new ≡ self.old) }
+    {
+        self.queue.get()
+    }
+
+    /// Takes a key back from its worker, and forgets its failures.
+    pub fn done(&mut self, key: &WorkKey)
+        ensures { self.new ≡ finished (work_key_of key.now) self.old }
+    {
+        self.queue.done(key);
+        self.backoff.forget(key);
+    }
+
+    /// Takes a key that failed back from its worker: it waits for its delay, and what was not done is expected no longer. The
+    /// error is running out of memory, and then nothing has changed.
+    pub fn requeue(&mut self, key: &WorkKey, undone: &[Observation]) -> Result<(), AllocError>
+        ensures ok { OnOk result (self.new ≡ requeued (work_key_of key.now) (map observation_of undone.now) self.old) }
+        ensures err { OnErr result (self.new ≡ self.old) }
+    {
+        let again = key.try_copy()?;
+        let before = self.backoff.failures(key);
+        let delay = self.backoff.delay(key)?;
+        if let Err(refused) = self.delayed.add_after(again, self.time + delay) {
+            self.backoff.restore(key, before);
+            return Err(refused);
+        }
+        self.queue.done(key);
+        lower_all(&mut self.expectations, undone);
+        Ok(())
+    }
+
+    /// Notes what a change shows of the pods that are expected, and adds the keys that it owes. The error is running out of
+    /// memory, and then nothing has changed.
+    pub fn observe(
+        &mut self,
+        observations: &[Observation],
+        keys: &[WorkKey],
+    ) -> Result<(), AllocError>
+        ensures ok { OnOk result (self.new ≡ observed (map observation_of observations.now) (map work_key_of keys.now) self.old) }
+        ensures err { OnErr result (self.new ≡ self.old) }
+    {
+        self.queue.add_all(keys)?;
+        lower_all(&mut self.expectations, observations);
+        Ok(())
+    }
+
+    /// Sets that a ReplicaSet expects so many pods to be created, from now on, and nothing else. The error is running out of
+    /// memory, and then nothing has changed.
+    pub fn expect_creations(&mut self, owner: &Owner, creations: u32) -> Result<(), AllocError>
+        ensures ok { OnOk result (self.new ≡ expecting_creations (owner_of owner.now) creations self.old) }
+        ensures err { OnErr result (self.new ≡ self.old) }
+    {
+        self.expectations
+            .expect_creations(&owner.key, owner.uid.as_str(), creations, self.time)
+    }
+
+    /// Sets that a ReplicaSet expects the pods of these uids to be deleted, from now on, and nothing else. The error is running
+    /// out of memory, and then nothing has changed.
+    pub fn expect_deletions(&mut self, owner: &Owner, pods: Vec<String>) -> Result<(), AllocError>
+        ensures ok { OnOk result (self.new ≡ expecting_deletions (owner_of owner.now) (map string_bytes pods.items) self.old) }
+        ensures err { OnErr result (self.new ≡ self.old) }
+    {
+        self.expectations
+            .expect_deletions(&owner.key, owner.uid.as_str(), pods, self.time)
+    }
+
+    /// Returns whether a ReplicaSet expects nothing: nothing was set, nothing is left, or more than five minutes have passed.
+    pub fn satisfied(&self, owner: &Owner) -> bool
+        ensures { result ≡ is_satisfied (owner_of owner.now) self.now }
+    {
+        self.expectations
+            .satisfied(&owner.key, owner.uid.as_str(), self.time)
+    }
+
+    /// Removes what every ReplicaSet of this key expects, whatever its uid.
+    pub fn forget(&mut self, key: &Key)
+        ensures { self.new ≡ forgotten (key_of key.now) self.old }
+    {
+        self.expectations.forget(key);
+    }
+
+    /// Lets so many milliseconds pass, adds the keys whose moment has come, and returns true. Beyond the last moment, 2^53 - 1,
+    /// nothing changes, and it returns false. The error is running out of memory, and then nothing has changed.
+    pub fn tick(&mut self, milliseconds: u64) -> Result<bool, AllocError>
+        ensures ok { OnOk result (self.new ≡ ticked milliseconds self.old) }
+        ensures open { IfOk result (λ b. b ≡ may_tick milliseconds self.old) }
+        ensures err { OnErr result (self.new ≡ self.old) }
+    {
+        if milliseconds > LAST_MOMENT - self.time {
+            return Ok(false);
+        }
+        let now = self.time + milliseconds;
+        let keys = self.delayed.due_keys(now)?;
+        self.queue.add_all(&keys)?;
+        self.delayed.drop_due(now);
+        self.time = now;
+        Ok(true)
+    }
+
+    /// Returns the time, in milliseconds.
+    pub fn time(&self) -> u64
+        ensures { result ≡ self.now.time }
+    {
+        self.time
+    }
+
+    /// Returns how many keys wait.
+    pub fn len(&self) -> usize
+        ensures { result ≡ length self.now.work.queue }
+    {
+        self.queue.len()
+    }
+}
+
+/// Notes what is expected no longer.
+fn lower_all(table: &mut Table, observations: &[Observation])
+    ensures { table.new ≡ all_lowered (map observation_of observations.now) table.old }
+{
+    for observation in observations {
+        lower(table, observation);
+    }
+}
+
+/// Notes one creation or deletion that is expected no longer.
+fn lower(table: &mut Table, observation: &Observation)
+    ensures { table.new ≡ lowered (observation_of observation.now) table.old }
+{
+    match observation {
+        Observation::CreationObserved { owner } => table.created(&owner.key, owner.uid.as_str()),
+        Observation::DeletionObserved { owner, pod } => {
+            table.deleted(&owner.key, owner.uid.as_str(), pod.as_str());
+        }
+    }
+}

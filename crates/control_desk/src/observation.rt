@@ -1,0 +1,18 @@
+//! What is expected no longer.
+use keys::Key;
+
+/// One ReplicaSet: its key and its uid.
+#[derive(Drop)]
+pub struct Owner {
+    pub key: Key,
+    pub uid: String,
+}
+
+/// A pod that a ReplicaSet expects no longer: it was seen created or deleted, or the request was refused or not sent.
+#[derive(Drop)]
+pub enum Observation {
+    /// A pod of this ReplicaSet is expected no longer to be created.
+    CreationObserved { owner: Owner },
+    /// The pod of this uid is expected no longer to be deleted.
+    DeletionObserved { owner: Owner, pod: String },
+}

@@ -1,0 +1,4 @@
+-- The definitions, in reading order.
+pub mod Requests
+pub mod Answers
+pub mod Laws

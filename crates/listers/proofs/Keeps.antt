@@ -1,0 +1,107 @@
+-- Each step keeps the rule.
+use Rattle.std.proofs.Common.{◌≡◌, ◌≢◌, ℕ, zero, suc, ◌+◌, List, [], ◌∷◌, ◌++◌, length, fold, set, sym, refl, ap, ◌∙◌, subst, ⊎_elim, append-nil, append_assoc, length-append, arith}
+use Rattle.std.proofs.lemmas.List.Elements.{All-append}
+use Rattle.std.specs.Prelude.{All, slice_index_or}
+use mathlib.Core.Option.{some}
+use lib.ListN.{get_elem?}
+use Rattle.crossbeam_utils.specs.Register.{Admits, TurnsAt, Turns, Forks, Merges}
+use Rattle.atomic_table.proofs.Lists.{at_set, at_snoc}
+use Rattle.server_state.specs.Snapshots.{Snapshot}
+use Rattle.controllers.specs.Informers.{nothing, applied, all_applied}
+use Rattle.controllers.specs.Reflectors as words
+use Rattle.reflector.specs.Deltas.{delta_of, deltas_of}
+use Rattle.reflector.specs.declared.deltas.Delta.{Delta}
+use Rattle.listers.specs.declared.published.Published.{Published}
+use Rattle.listers.specs.declared.views.View.{View}
+use Rattle.listers.specs.Published.{with_delta, IsAfter}
+use Rattle.listers.specs.Knowing.{StartsWith, StartsWithAll, knowing_nothing, knowing, knowing_both, first_of, latest, IsKept, HasSeen}
+
+-- ---- deltas applied one after another
+
+pub applied_both : (m : Snapshot) (ds es : List words.Delta) → all_applied m (ds ++ es) ≡ all_applied (all_applied m ds) es
+applied_both m [] es = refl
+applied_both m (d ∷ ds) es = applied_both (applied m d) ds es
+
+pub deltas_both : (ds es : List Delta) → deltas_of (ds ++ es) ≡ deltas_of ds ++ deltas_of es
+deltas_both [] es = refl
+deltas_both (d ∷ ds) es = ap (λ xs. delta_of d ∷ xs) (deltas_both ds es)
+
+pub folded : (ps : List Delta) (p : Published) → (fold with_delta p ps).indexed ≡ all_applied p.indexed (deltas_of ps)
+folded [] p = refl
+folded (d ∷ ps) p = folded ps (with_delta p d)
+
+counted : (ps : List Delta) (p : Published) → (fold with_delta p ps).count ≡ p.count + length ps
+counted [] p = omega arith
+counted (d ∷ ps) p = let e = counted ps (with_delta p d) in omega (arith, e)
+
+pub after_more : (ds ps : List Delta) (p : Published) → IsAfter ds p → IsAfter (ds ++ ps) (fold with_delta p ps)
+after_more ds ps p after = (
+  folded ps p ∙ ap (λ s. all_applied s (deltas_of ps)) after.0 ∙ sym (applied_both nothing (deltas_of ds) (deltas_of ps)) ∙ ap (all_applied nothing) (sym (deltas_both ds ps)),
+  (let n = counted ps p in let m = after.1 in omega (arith, length-append ds ps, n, m)),
+)
+
+-- ---- beginnings
+
+none_known : (ds : List Delta) → StartsWithAll ds knowing_nothing
+none_known ds k d h = absurd (omega arith)
+
+one_known : (ds : List Delta) → StartsWithAll ds (knowing ds)
+one_known ds zero d h = ([], sym (append-nil ds))
+one_known ds (suc k) d h = absurd (omega arith)
+
+still_known : (ds more : List Delta) (v : View) → StartsWithAll ds v → StartsWithAll (ds ++ more) v
+still_known ds more v all k d h =
+    let s = all k d h in (s.0 ++ more, ap (λ z. z ++ more) s.1 ∙ append_assoc (slice_index_or v.known k d) s.0 more)
+
+first_known : (ds : List Delta) (ks : List (List Delta)) → All (λ front. StartsWith ds front) ks → StartsWith ds (first_of ks)
+first_known ds [] all = (ds, refl)
+first_known ds (f ∷ ks) all = all zero f (omega arith)
+
+whole : (ds front rest : List Delta) → ds ≡ front ++ rest → length ds ≡ length front → ds ≡ front
+whole ds front [] is same = is ∙ append-nil front
+whole ds front (d ∷ rest) is same = absurd (let n : length ds ≡ length (front ++ d ∷ rest) = ap length is in omega (arith, n, same, length-append front (d ∷ rest)))
+
+-- ---- the rule
+
+abbrev Each : List Delta → List View → Type 0
+Each ds views = (seat : ℕ) (v : View) → get_elem? views seat ≡ some v → StartsWithAll ds v
+
+each_set : (ds : List Delta) (views : List View) (seat : ℕ) (w : View) → Each ds views → StartsWithAll ds w → Each ds (set views seat w)
+each_set ds views seat w each at_w j u e = ⊎_elim (λ (t : (j ≡ seat) × (w ≡ u)). subst (StartsWithAll ds) t.1 at_w) (λ (t : (j ≢ seat) × (get_elem? views j ≡ some u)). each j u t.1) (at_set views seat j w u e)
+
+each_more : (ds : List Delta) (views : List View) (w : View) → Each ds views → StartsWithAll ds w → Each ds (views ++ w ∷ [])
+each_more ds views w each at_w j u e = ⊎_elim (each j u) (λ (is : w ≡ u). subst (StartsWithAll ds) is at_w) (at_snoc views w u j e)
+
+pub opens : (p : Published) → IsAfter [] p → IsKept p (knowing_nothing ∷ [])
+opens p after = ([], after, each_more [] [] knowing_nothing (λ seat v at. absurd (cc)) (none_known []))
+
+pub admits : Admits IsKept knowing_nothing
+admits p views k = (k.0, k.1, each_more k.0 views knowing_nothing k.2 (none_known k.0))
+
+pub sees : (seat : ℕ) (v : View) → Turns IsKept seat v (λ p. p) (λ v x y w. HasSeen v y w)
+sees seat v p views k at = (knowing k.0, (k.0, k.1, each_set k.0 views seat (knowing k.0) k.2 (one_known k.0)), (k.0, refl, k.1, k.2 seat v at))
+
+pub publishes : (seat : ℕ) (v : View) (p next : Published) (ps : List Delta) → IsAfter (latest v) p → next ≡ fold with_delta p ps → TurnsAt IsKept seat v p next (λ v x y w. w ≡ knowing (latest v ++ ps))
+publishes seat v p next ps mine is views k at =
+    let front = first_known k.0 v.known (k.2 seat v at) in
+    let same : k.0 ≡ latest v = whole k.0 (latest v) front.0 front.1 (sym k.1.1 ∙ mine.1) in
+    let each : Each (latest v) views = subst (λ ds. Each ds views) same k.2 in
+    let all = latest v ++ ps in (
+      knowing all,
+      (
+        all,
+        subst (IsAfter all) (sym is) (after_more (latest v) ps p mine),
+        each_set all views seat (knowing all) (λ j u e. still_known (latest v) ps u (each j u e)) (one_known all),
+      ),
+      refl,
+    )
+
+pub forks : (seat : ℕ) (v : View) → Forks IsKept seat v v v
+forks seat v p views k at = (k.0, k.1, each_more k.0 (set views seat v) v (each_set k.0 views seat v k.2 (k.2 seat v at)) (k.2 seat v at))
+
+pub merges : (seat : ℕ) (v : View) (other : ℕ) (w : View) → Merges IsKept seat v other w (knowing_both w v) knowing_nothing
+merges seat v other w p views k at apart there =
+    let ds = k.0 in
+    let told : StartsWithAll ds w = ⊎_elim (λ (t : (other ≡ seat) × (knowing_both w v ≡ w)). absurd (apart t.0)) (λ (t : (other ≢ seat) × (get_elem? views other ≡ some w)). k.2 other w t.1) (at_set views seat other (knowing_both w v) w there) in
+    let both : StartsWithAll ds (knowing_both w v) = All-append (λ front. StartsWith ds front) w.known v.known told (k.2 seat v at) in
+    (ds, k.1, each_set ds (set views seat (knowing_both w v)) other knowing_nothing (each_set ds views seat (knowing_both w v) k.2 both) (none_known ds))

@@ -1,0 +1,13 @@
+use Rattle.std.proofs.Common.{List, sym, ap, subst}
+use Rattle.reflector.specs.declared.deltas.Delta.{Delta}
+use Rattle.listers.specs.Knowing.{StartsWithAll, latest}
+use Rattle.listers.specs.Listers.{known}
+use Rattle.listers.proofs.Keeps.{sees}
+use Rattle.listers.proofs.listers.Lister.look.Goals as goal
+
+pub enter_as-requires : goal.enter_as-requires
+enter_as-requires c = sees _ _
+
+-- the list that is seen is the one that the step names
+pub returns-in-Ok-clause-later : goal.returns-in-Ok-clause-later
+returns-in-Ok-clause-later c = let s = c.in-Ok.ensures.1 in subst (λ (ds : List Delta). StartsWithAll ds (known c.args.self)) (sym (ap latest s.1)) s.3

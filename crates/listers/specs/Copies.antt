@@ -1,0 +1,29 @@
+-- The two copies of a map.
+use Rattle.std.specs.Prelude.{◌≡◌, ◌++◌, List, [], drop}
+use Rattle.server_state.specs.Snapshots.{Snapshot}
+use Rattle.left_right.specs.Sides.{view}
+use Rattle.controllers.specs.Informers.{all_applied}
+use Rattle.reflector.specs.Deltas.{deltas_of}
+use Rattle.reflector.specs.declared.deltas.Delta.{Delta}
+use Rattle.listers.specs.Knowing.{latest}
+use Rattle.listers.specs.declared.copies.Copies.{Copies}
+
+-- the map that readers see
+abbrev pub shown : Copies → Snapshot
+shown c = c.writer.desk.shown.value.indexed
+
+-- the deltas that made it
+abbrev pub deltas_shown : Copies → List Delta
+deltas_shown c = latest (view c.writer.desk.place)
+
+-- the deltas that wait
+abbrev pub deltas_waiting : Copies → List Delta
+deltas_waiting c = drop c.writer.behind c.writer.log.items
+
+-- nothing that readers see or that waits has changed
+abbrev pub IsSame : Copies → Copies → Type 0
+IsSame c d = (shown d ≡ shown c) × (deltas_shown d ≡ deltas_shown c) × (deltas_waiting d ≡ deltas_waiting c)
+
+-- the deltas that waited are applied, and none waits
+abbrev pub IsPublished : Copies → Copies → Type 0
+IsPublished c d = (shown d ≡ all_applied (shown c) (deltas_of (deltas_waiting c))) × (deltas_shown d ≡ deltas_shown c ++ deltas_waiting c) × (deltas_waiting d ≡ [])

@@ -1,0 +1,5 @@
+pub mod Published
+pub mod Knowing
+pub mod Copies
+pub mod Listers
+pub mod Informers

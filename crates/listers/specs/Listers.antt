@@ -1,0 +1,29 @@
+-- What listers know, and what looks show.
+use Rattle.std.specs.Prelude.{List}
+use Rattle.left_right.specs.Sides.{view}
+use Rattle.server_state.specs.Snapshots.{Snapshot}
+use Rattle.reflector.specs.declared.deltas.Delta.{Delta}
+use Rattle.listers.specs.Knowing.{latest}
+use Rattle.listers.specs.declared.listers.Lister.{Lister}
+use Rattle.listers.specs.declared.listers.Look.{Look}
+use Rattle.listers.specs.declared.views.View.{View}
+
+-- the lists of published deltas that a lister has seen or was told of
+abbrev pub known : Lister → View
+known l = view l.reader.place
+
+-- and the one that it was told of or saw last
+abbrev pub known_last : Lister → List Delta
+known_last l = latest (known l)
+
+-- what a lister knows while it looks, and once it has looked
+abbrev pub known_then : Look → View
+known_then l = view l.reading.place
+
+-- the deltas that made the map which is seen
+abbrev pub seen : Look → List Delta
+seen l = latest (known_then l)
+
+-- the map with its revision
+abbrev pub shown : Look → Snapshot
+shown l = l.reading.part.value.indexed

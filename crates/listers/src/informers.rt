@@ -1,0 +1,79 @@
+//! An informer whose map is read without waiting.
+use crate::copies::Copies;
+use crate::listers::Lister;
+use core::mem::replace_with;
+use indexer::Indexed;
+use reflector::Delta;
+use std::alloc::{AllocError, Global};
+use std::sync::Wait;
+
+/// A map that is published, and the deltas that wait to be. It is not dropped: end it by `close`.
+pub struct Informer {
+    pub(crate) copies: Copies,
+}
+
+impl Informer {
+    ghost use Rattle.std.specs.Prelude.{◌≡◌, ◌^◌, ◌<◌, [], ◌∷◌, ◌++◌, IfOk, IfErr, OnOk, OnErr};
+    ghost use Rattle.controllers.specs.Informers.{begun, appended, after_publish};
+    ghost use Rattle.reflector.specs.Deltas.{delta_of};
+    ghost use Rattle.listers.specs.Informers.{informer_of, published_deltas, pending_deltas, IsSame};
+    ghost use Rattle.listers.specs.Listers.{known_last};
+
+    /// Returns an informer that has published nothing yet, an empty map at revision 0, with room for so many listers. The
+    /// error is running out of memory.
+    pub fn open(alloc: Global, listers: usize) -> Result<Informer, AllocError>
+        requires { (0 < listers) × (listers < 2 ^ 32) }
+        ensures begun { IfOk result (λ i. informer_of i ≡ begun) }
+        ensures deltas { IfOk result (λ i. published_deltas i ≡ []) }
+    {
+        Ok(Informer {
+            copies: Copies::open(alloc, listers)?,
+        })
+    }
+
+    /// Returns a lister that was told of all that is published. The error is that there is no room for one more, or running
+    /// out of memory.
+    pub fn lister(&mut self) -> Result<Lister, AllocError>
+        ensures same { IsSame self.old self.new }
+        ensures told { IfOk result (λ l. known_last l ≡ published_deltas self.old) }
+    {
+        Ok(Lister {
+            reader: self.copies.reader()?,
+        })
+    }
+
+    /// Appends a delta, which waits for the next publish. The error is running out of memory: it has the delta, and nothing
+    /// else changes.
+    pub fn append(&mut self, delta: Delta) -> Result<(), Delta>
+        ensures ok { OnOk result (informer_of self.new ≡ appended (informer_of self.old) (delta_of delta)) }
+        ensures waits { OnOk result (pending_deltas self.new ≡ pending_deltas self.old ++ delta ∷ []) }
+        ensures deltas { published_deltas self.new ≡ published_deltas self.old }
+        ensures err { OnErr result (IsSame self.old self.new) }
+        ensures returned { IfErr result (λ d. d ≡ delta) }
+    {
+        self.copies.append(delta)
+    }
+
+    /// Publishes the deltas that wait, all of them. It costs what they cost, and not the map. It waits for looks at the map
+    /// that was published before the present one. The error is running out of memory: none is published, and all wait.
+    pub fn publish<R: Wait>(&mut self, rt: &R) -> Result<(), AllocError>
+        ensures ok { OnOk result (informer_of self.new ≡ after_publish (informer_of self.old)) }
+        ensures deltas { OnOk result (published_deltas self.new ≡ published_deltas self.old ++ pending_deltas self.old) }
+        ensures err { OnErr result (IsSame self.old self.new) }
+    {
+        replace_with(&mut self.copies, rt, |copies, rt| copies.publish(rt))
+    }
+
+    /// Returns a reference to the published map. It takes no memory.
+    pub fn published(&self) -> &Indexed
+        ensures { result.now ≡ (informer_of self.now).published }
+    {
+        self.copies.published()
+    }
+
+    /// Ends it, once all looks have ended: from then on listers get none. What waits is dropped.
+    pub fn close<R: Wait>(self, rt: &R) {
+        let Informer { copies } = self;
+        copies.close(rt);
+    }
+}

@@ -1,0 +1,68 @@
+//! Listers, and what they look at.
+use crate::copies::MapReader;
+use crate::published::Published;
+use crate::rules::{Rule, Sees};
+use crate::views::View;
+use indexer::Indexed;
+use left_right::reader::Reading;
+
+/// The right to look at what an informer has published, one look at a time.
+#[derive(Drop)]
+pub struct Lister {
+    pub(crate) reader: MapReader,
+}
+
+impl Lister {
+    ghost use Rattle.std.specs.Prelude.{◌≡◌, IfOk, IfErr};
+    ghost use Rattle.controllers.specs.Informers.{nothing, all_applied};
+    ghost use Rattle.reflector.specs.Deltas.{deltas_of};
+    ghost use Rattle.listers.specs.Knowing.{StartsWithAll};
+    ghost use Rattle.listers.specs.Listers.{known, seen, shown};
+
+    /// Returns a look at the map that is published. It waits for nobody and takes no memory. The error is that the informer is
+    /// closed, and gives the lister back.
+    pub fn look(self) -> Result<Look, Lister>
+        ensures shown { IfOk result (λ l. shown l ≡ all_applied nothing (deltas_of (seen l))) }
+        ensures later { IfOk result (λ l. StartsWithAll (seen l) (known self)) }
+        ensures err { IfErr result (λ l. known l ≡ known self) }
+    {
+        match self.reader.enter_as::<Sees>() {
+            Ok(reading) => Ok(Look { reading }),
+            Err(reader) => Err(Lister { reader }),
+        }
+    }
+}
+
+/// A look at a map that was published. While it lasts, the map stays as it is. The next publish but one waits for its end.
+pub struct Look {
+    pub(crate) reading: Reading<Published, View, Rule>,
+}
+
+impl Look {
+    ghost use Rattle.std.specs.Prelude.{◌≡◌, ◌∷◌, []};
+    ghost use Rattle.listers.specs.Listers.{known, known_then, shown};
+
+    /// Returns the map. It takes no memory.
+    pub fn indexed(&self) -> &Indexed
+        ensures { result.now ≡ shown self.now }
+    {
+        &self.reading.get().indexed
+    }
+
+    /// Ends the look, and returns the lister, which knows what was seen. It waits for nobody and takes no memory.
+    pub fn leave(self) -> Lister
+        ensures { known result ≡ known_then self }
+    {
+        let Look { reading } = self;
+        Lister {
+            reader: reading.leave(),
+        }
+    }
+}
+
+impl Drop for Look {
+    fn drop(self) {
+        let Look { reading } = self;
+        drop(reading.leave());
+    }
+}

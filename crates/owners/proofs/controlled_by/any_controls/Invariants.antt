@@ -1,0 +1,9 @@
+use Rattle.std.proofs.Common.{◌≡◌, drop}
+use Rattle.std.specs.List.{list_any}
+use Rattle.serde_json.specs.View.{items_view}
+use Rattle.definitions.specs.Metadata.{Owner, owners_in}
+use Rattle.owners.proofs.controlled_by.any_controls.Given as goal
+
+abbrev pub invariant-loop-reference : goal.invariant-loop-reference
+invariant-loop-reference l =
+    list_any (λ (o : Owner). o.is_controller) (owners_in (items_view (drop l.reference-index l.references))) ≡ list_any (λ (o : Owner). o.is_controller) (owners_in (items_view l.references))

@@ -1,0 +1,11 @@
+use Rattle.std.proofs.Common.{◌≡◌, ◌&&◌, drop}
+use Rattle.std.specs.List.{list_any}
+use Rattle.serde_json.specs.View.{items_view}
+use Rattle.definitions.specs.Metadata.{Owner, owners_in}
+use Rattle.controllers.specs.OwnerReferences.{is_text}
+use Rattle.owners.proofs.controlled_by.any_controls_with.Given as goal
+
+abbrev pub invariant-loop-reference : goal.invariant-loop-reference
+invariant-loop-reference l =
+    list_any (λ (o : Owner). o.is_controller && is_text l.uid o.uid) (owners_in (items_view (drop l.reference-index l.references)))
+    ≡ list_any (λ (o : Owner). o.is_controller && is_text l.uid o.uid) (owners_in (items_view l.references))

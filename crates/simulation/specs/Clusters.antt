@@ -1,0 +1,89 @@
+-- A cluster: a server, and a follower of each kind, one step after another.
+use Rattle.std.specs.Prelude.{ℕ, List, [], ◌∷◌}
+use Rattle.definitions.specs.declared.kinds.Kind.{Kind}
+use Rattle.definitions.specs.declared.kinds.Kind.TheVariants.{ConfigMap, Pod, ReplicaSet, Deployment}
+use Rattle.definitions.specs.History.{History}
+use Rattle.definitions.specs.Replies.{Session, start}
+use Rattle.line_protocol.specs.Lines as lines
+use Rattle.line_protocol.specs.Lines.{line_of, reply_to, session_after}
+use Rattle.controllers.specs.Informers.{Looks}
+use Rattle.simulation.specs.Followers.{Follower, begun}
+use Rattle.simulation.specs.Moves.{Move, Outcome, replied, restarted, Moved, move}
+
+-- what has happened at the server, the moment and the size of its windows; and what follows each kind
+pub record Cluster : Type 0 where
+  pub session : Session
+  pub config_maps : Follower
+  pub pods : Follower
+  pub replica_sets : Follower
+  pub deployments : Follower
+
+-- all followers begin anew
+abbrev pub with_new_followers : Session → Cluster
+with_new_followers s = record { session = s; config_maps = begun ConfigMap; pods = begun Pod; replica_sets = begun ReplicaSet; deployments = begun Deployment }
+
+-- nothing has happened yet, and windows have this size
+abbrev pub opened : ℕ → Cluster
+opened window = with_new_followers (start window)
+
+abbrev pub history : Cluster → History
+history c = c.session.history
+
+abbrev pub follower : Kind → Cluster → Follower
+follower ConfigMap c = c.config_maps
+follower Pod c = c.pods
+follower ReplicaSet c = c.replica_sets
+follower Deployment c = c.deployments
+
+abbrev pub with_follower : Kind → Follower → Cluster → Cluster
+with_follower ConfigMap f c = record c { config_maps = f }
+with_follower Pod f c = record c { pods = f }
+with_follower ReplicaSet f c = record c { replica_sets = f }
+with_follower Deployment f c = record c { deployments = f }
+
+-- what is published of each kind
+abbrev pub looks : Cluster → Looks
+looks c =
+    record {
+      config_maps = c.config_maps.informer.published.members;
+      pods = c.pods.informer.published.members;
+      replica_sets = c.replica_sets.informer.published.members;
+      deployments = c.deployments.informer.published.members;
+    }
+
+-- ---- steps
+
+-- the server reads a line, which asks or sets the moment; it compacts up to a revision; a move of the follower of a kind; all
+-- followers begin anew
+pub data ClusterStep : Type 0 where
+  request : List ℕ → ClusterStep
+  compact : ℕ → ClusterStep
+  moves : Kind → Move → ClusterStep
+  restart : ClusterStep
+
+-- a cluster after a step, and what is told of it
+pub record Stepped : Type 0 where
+  pub cluster : Cluster
+  pub outcome : Outcome
+
+abbrev pub moved_in : Kind → Cluster → Moved → Stepped
+moved_in k c m = record { cluster = with_follower k m.follower c; outcome = m.outcome }
+
+abbrev pub asked_of : Cluster → lines.Line → Stepped
+asked_of c l = record { cluster = record c { session = session_after c.session l }; outcome = replied (reply_to c.session l) }
+
+abbrev pub step : Cluster → ClusterStep → Stepped
+step c (request t) = asked_of c (line_of t)
+step c (compact r) = asked_of c (lines.compact r)
+step c (moves k m) = moved_in k c (move k c.session.window c.session.history (follower k c) m)
+step c restart = record { cluster = with_new_followers c.session; outcome = restarted }
+
+-- one step after another
+abbrev pub run : Cluster → List ClusterStep → Cluster
+run c [] = c
+run c (s ∷ ss) = run (step c s).cluster ss
+
+-- what is told of each
+abbrev pub outcomes : Cluster → List ClusterStep → List Outcome
+outcomes c [] = []
+outcomes c (s ∷ ss) = (step c s).outcome ∷ outcomes (step c s).cluster ss

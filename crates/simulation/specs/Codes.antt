@@ -1,0 +1,34 @@
+-- Codes by which models may store links and followers.
+use Rattle.std.specs.Prelude.{ℕ, List, Bool, Option, refl}
+use Rattle.std.specs.Coded.{Coded, code_by, coded×, coded_ℕ, coded_bool, coded_list, coded_option}
+use Rattle.serde_json.specs.Data.{Data}
+use Rattle.codes.specs.Codes.{coded_text, coded_data}
+use Rattle.codes.specs.HistoryCodes.{coded_key}
+use Rattle.definitions.specs.Keys.{Key}
+use Rattle.controllers.specs.Codes.{coded_reflector}
+use Rattle.controllers.specs.InformerCodes.{coded_informer}
+use Rattle.controllers.specs.Informers.{Informer}
+use Rattle.controllers.specs.Reflectors.{Reflector}
+use Rattle.controllers.specs.Shifts.{Shift}
+use Rattle.simulation.specs.Followers.{Link, Notification, Follower}
+
+abbrev pub coded_link : Coded Link
+coded_link =
+    code_by (ℕ × (List ℕ × Bool)) (coded× coded_ℕ (coded× coded_text coded_bool)) (λ l. (l.stands, (l.unread, l.is_refused)))
+    (λ p. record { stands = p.0; unread = p.1.0; is_refused = p.1.1 }) (λ _. refl)
+
+abbrev pub coded_shift : Coded Shift
+coded_shift =
+    code_by (Key × (Option Data × Option Data)) (coded× coded_key (coded× (coded_option coded_data) (coded_option coded_data))) (λ s. (s.key, (s.old, s.new)))
+    (λ p. record { key = p.0; old = p.1.0; new = p.1.1 }) (λ _. refl)
+
+abbrev pub coded_notification : Coded Notification
+coded_notification =
+    code_by (Shift × Bool) (coded× coded_shift coded_bool) (λ n. (n.shift, n.is_in_initial_list)) (λ p. record { shift = p.0; is_in_initial_list = p.1 }) (λ _. refl)
+
+abbrev pub coded_follower : Coded Follower
+coded_follower =
+    code_by ((Option Link × Reflector) × (Informer × (List Notification × Bool)))
+    (coded× (coded× (coded_option coded_link) coded_reflector) (coded× coded_informer (coded× (coded_list coded_notification) coded_bool)))
+    (λ f. ((f.link, f.reflector), (f.informer, (f.unhandled, f.has_listed))))
+    (λ p. record { link = p.0.0; reflector = p.0.1; informer = p.1.0; unhandled = p.1.1.0; has_listed = p.1.1.1 }) (λ _. refl)

@@ -1,0 +1,6 @@
+pub mod Followers
+pub mod Codes
+pub mod Moves
+pub mod Clusters
+pub mod OutcomeTexts
+pub mod StepLines

@@ -1,0 +1,4 @@
+pub mod Texts
+pub mod RunExamples
+pub mod MoveExamples
+pub mod LineExamples

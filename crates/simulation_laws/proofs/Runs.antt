@@ -1,0 +1,154 @@
+-- Whatever steps are taken: the server's history is reached, and each follower follows it.
+use Rattle.std.proofs.Common.{◌≡◌, ◌≤◌, ℕ, List, [], ◌∷◌, codes, refl, sym, ap, subst, arith}
+use Rattle.json.proofs.Printed.Utf8.{IsUtf8-are_ascii}
+use Rattle.definitions.specs.declared.kinds.Kind.{Kind}
+use Rattle.definitions.specs.declared.kinds.Kind.TheVariants.{ConfigMap, Pod, ReplicaSet, Deployment}
+use Rattle.definitions.specs.History.{History, compaction}
+use Rattle.definitions.specs.Reached as reached
+use Rattle.definitions.specs.Reached.{IsReached, IsTimestamp, asks, compacts}
+use Rattle.definitions.specs.Replies.{Session, start}
+use Rattle.definitions.specs.Verbs.{accept, write_of}
+use Rattle.line_protocol.specs.Lines as lines
+use Rattle.line_protocol.specs.Lines.{Line, cut, line_of, session_after}
+use Rattle.server_state.specs.Snapshots.{Snapshot}
+use Rattle.laws.proofs.ReadRequests.{IsTimed, timed_from, by_line}
+use Rattle.laws.proofs.Runs.{Begins, nothing as none_more, begins-write, begins-entry}
+use Rattle.simulation.specs.Followers.{Follower, begun}
+use Rattle.simulation.specs.Moves as moving
+use Rattle.simulation.specs.Clusters.{Cluster, with_new_followers, opened, history, follower, with_follower, ClusterStep, request, compact, moves, restart, step, run}
+use Rattle.simulation_laws.specs.FollowerLaws.{IsFollowing}
+use Rattle.simulation_laws.specs.ClusterLaws.{IsFollowed, StepsKeep, RunsAreFollowed, InformersShowServerLists, NoRestart, PublishedRevisionsRise, RestartsBeginAnew}
+use Rattle.simulation_laws.proofs.Growing.{stand}
+use Rattle.simulation_laws.proofs.Moving.{moves_follow}
+use Rattle.simulation_laws.proofs.Rising.{rise}
+
+-- ---- parts of a cluster
+
+begun_follows : (h : History) (k : Kind) → IsFollowing h k (begun k)
+begun_follows h k = record { kind = refl; reached = omega arith; published = refl; passed = omega arith; pending = refl; linked = refl }
+
+-- a property of the follower of each kind, at the beginning
+at_first : (P : Kind → Follower → Type 0) (s : Session) → ((k : Kind) → P k (begun k)) → (k : Kind) → P k (follower k (with_new_followers s))
+at_first P s p ConfigMap = p ConfigMap
+at_first P s p Pod = p Pod
+at_first P s p ReplicaSet = p ReplicaSet
+at_first P s p Deployment = p Deployment
+
+-- and with another session
+with_session : (P : Kind → Follower → Type 0) (c : Cluster) (s : Session) → ((k : Kind) → P k (follower k c)) → (k : Kind) → P k (follower k (record c { session = s }))
+with_session P c s p ConfigMap = p ConfigMap
+with_session P c s p Pod = p Pod
+with_session P c s p ReplicaSet = p ReplicaSet
+with_session P c s p Deployment = p Deployment
+
+-- a move concerns the follower of its kind alone
+pub with_moved : (P : Kind → Follower → Type 0) (c : Cluster) (k : Kind) (f : Follower) → P k f → ((j : Kind) → P j (follower j c)) → (j : Kind) → P j (follower j (with_follower k f c))
+with_moved P c ConfigMap f q p ConfigMap = q
+with_moved P c ConfigMap f q p Pod = p Pod
+with_moved P c ConfigMap f q p ReplicaSet = p ReplicaSet
+with_moved P c ConfigMap f q p Deployment = p Deployment
+with_moved P c Pod f q p ConfigMap = p ConfigMap
+with_moved P c Pod f q p Pod = q
+with_moved P c Pod f q p ReplicaSet = p ReplicaSet
+with_moved P c Pod f q p Deployment = p Deployment
+with_moved P c ReplicaSet f q p ConfigMap = p ConfigMap
+with_moved P c ReplicaSet f q p Pod = p Pod
+with_moved P c ReplicaSet f q p ReplicaSet = q
+with_moved P c ReplicaSet f q p Deployment = p Deployment
+with_moved P c Deployment f q p ConfigMap = p ConfigMap
+with_moved P c Deployment f q p Pod = p Pod
+with_moved P c Deployment f q p ReplicaSet = p ReplicaSet
+with_moved P c Deployment f q p Deployment = q
+
+same_session : (c : Cluster) (k : Kind) (f : Follower) → (with_follower k f c).session ≡ c.session
+same_session c ConfigMap f = refl
+same_session c Pod f = refl
+same_session c ReplicaSet f = refl
+same_session c Deployment f = refl
+
+-- ---- the server
+
+-- reached, and what had happened before it goes on
+abbrev Goes : History → History → Type 0
+Goes h g = IsReached g × Begins h g
+
+read_on : (s : Session) (l : Line) → IsTimed l → IsReached s.history → IsTimestamp s.moment → IsTimestamp (session_after s l).moment × Goes s.history (session_after s l).history
+read_on s l timed reached time =
+    by_line (Goes s.history) (λ q h moment read at p. (asks h q moment p.0 read at, begins-write s.history h (write_of (accept q h moment)) p.1))
+    (λ h r le p. (compacts h r p.0 le, begins-entry s.history h (compaction r) p.1)) s l timed (time, (reached, ([], none_more s.history)))
+
+-- ---- each step
+
+by_server : (c : Cluster) (l : Line) → IsTimed l → IsFollowed c → IsFollowed (record c { session = session_after c.session l })
+by_server c l timed is =
+    let on = read_on c.session l timed is.0 is.1 in
+    let later : (k : Kind) → IsFollowing (session_after c.session l).history k (follower k c) =
+    λ k. subst (λ h. IsFollowing h k (follower k c)) (sym on.1.1.1) (stand k (history c) on.1.1.0 (follower k c) (is.2 k)) in (
+      on.1.0,
+      on.0,
+      with_session (IsFollowing (session_after c.session l).history) c (session_after c.session l) later,
+    )
+
+pub keeps : StepsKeep
+keeps c (request t) is = by_server c (line_of t) (timed_from (cut t)) is
+keeps c (compact r) is = by_server c (lines.compact r) tt is
+keeps c (moves k m) is =
+    let f = (moving.move k c.session.window (history c) (follower k c) m).follower in
+    let here = moves_follow k c.session.window (history c) (follower k c) m is.0 (is.2 k) in
+    subst (λ s. IsReached s.history × IsTimestamp s.moment × ((j : Kind) → IsFollowing s.history j (follower j (with_follower k f c)))) (sym (same_session c k f))
+    (is.0, is.1, with_moved (IsFollowing (history c)) c k f here is.2)
+keeps c restart is = (is.0, is.1, at_first (IsFollowing (history c)) c.session (begun_follows (history c)))
+
+-- ---- all steps
+
+opens : (size : ℕ) → IsFollowed (opened size)
+opens size = (reached.opened, (omega arith, omega arith, IsUtf8-are_ascii (codes "2026-01-01T00:00:00Z") refl), at_first (IsFollowing []) (start size) (begun_follows []))
+
+run_keeps : (c : Cluster) (ss : List ClusterStep) → IsFollowed c → IsFollowed (run c ss)
+run_keeps c [] is = is
+run_keeps c (s ∷ ss) is = run_keeps (step c s).cluster ss (keeps c s is)
+
+pub runs_followed : RunsAreFollowed
+runs_followed size ss = run_keeps (opened size) ss (opens size)
+
+pub lists_shown : InformersShowServerLists
+lists_shown size ss k =
+    let is = (runs_followed size ss).2 k in (ap (λ (z : Snapshot). z.members) is.published, omega (arith, is.passed, is.reached))
+
+-- ---- the revisions that are published
+
+module _ (k : Kind) where
+  abbrev at : Cluster → ℕ
+  at c = (follower k c).informer.published.revision
+
+  rise_server : (c : Cluster) (s : Session) → at c ≤ at (record c { session = s })
+  rise_server c s = with_session (λ k f. (follower k c).informer.published.revision ≤ f.informer.published.revision) c s (λ k. omega arith) k
+
+  rise_one : (c : Cluster) (s : ClusterStep) → NoRestart (s ∷ []) → IsFollowed c → at c ≤ at (step c s).cluster
+  rise_one c (request t) none is = rise_server c (session_after c.session (line_of t))
+  rise_one c (compact r) none is = rise_server c (session_after c.session (lines.compact r))
+  rise_one c (moves j m) none is =
+      with_moved (λ j f. (follower j c).informer.published.revision ≤ f.informer.published.revision) c j (moving.move j c.session.window (history c) (follower j c) m).follower
+      (rise j c.session.window (history c) (follower j c) m (is.2 j)) (λ j. omega arith) k
+  rise_one c restart none is = absurd none
+
+  first_no : (s : ClusterStep) (ss : List ClusterStep) → NoRestart (s ∷ ss) → NoRestart (s ∷ []) × NoRestart ss
+  first_no (request t) ss none = (tt, none)
+  first_no (compact r) ss none = (tt, none)
+  first_no (moves j m) ss none = (tt, none)
+  first_no restart ss none = absurd none
+
+  rise_all : (c : Cluster) (ss : List ClusterStep) → NoRestart ss → IsFollowed c → at c ≤ at (run c ss)
+  rise_all c [] none is = omega arith
+  rise_all c (s ∷ ss) none is =
+      let parts = first_no s ss none in
+      let here = rise_one c s parts.0 is in
+      let later = rise_all (step c s).cluster ss parts.1 (keeps c s is) in omega (arith, here, later)
+
+pub revisions_rise : PublishedRevisionsRise
+revisions_rise size before ss k none = rise_all k (run (opened size) before) ss none (runs_followed size before)
+
+-- ---- restarts
+
+pub restarts : RestartsBeginAnew
+restarts c k = (at_first (λ k f. f ≡ begun k) c.session (λ k. refl) k, refl)

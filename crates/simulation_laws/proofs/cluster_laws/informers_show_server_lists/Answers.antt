@@ -1,0 +1,5 @@
+use Rattle.simulation_laws.proofs.Runs.{lists_shown}
+use Rattle.simulation_laws.proofs.cluster_laws.informers_show_server_lists.Goals as goal
+
+pub returns : goal.returns
+returns c = lists_shown

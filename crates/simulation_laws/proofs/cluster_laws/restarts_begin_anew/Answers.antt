@@ -1,0 +1,5 @@
+use Rattle.simulation_laws.proofs.Runs.{restarts}
+use Rattle.simulation_laws.proofs.cluster_laws.restarts_begin_anew.Goals as goal
+
+pub returns : goal.returns
+returns c = restarts

@@ -1,0 +1,87 @@
+-- What a follower has published, and what it has still to publish, by what has happened at the server.
+use Rattle.std.specs.Prelude.{◌≡◌, ◌≤◌, ℕ, List, [], ◌++◌, Option, Some, None, IfSome, is_some}
+use Rattle.std.specs.List.{AllByRecursion}
+use Rattle.definitions.specs.declared.kinds.Kind.{Kind}
+use Rattle.definitions.specs.Frames.{frame_text, error_frame}
+use Rattle.definitions.specs.History.{History, present, list}
+use Rattle.definitions.specs.Reached.{IsReached}
+use Rattle.definitions.specs.Refusals.{Refusal}
+use Rattle.definitions.specs.Streams.{Line, IsStream, text_of_lines}
+use Rattle.server_state.specs.Servers.{Server, IsServerAfter}
+use Rattle.server_state.specs.Snapshots.{Snapshot}
+use Rattle.controllers.specs.declared.reflectors.Phase.TheVariants.{Watching}
+use Rattle.controllers.specs.Informers.{all_applied}
+use Rattle.controllers.specs.Reflectors.{Reflector, fed}
+use Rattle.laws.specs.SentLaws.{whole}
+use Rattle.framing.specs.Texts.{ReadsAs}
+use Rattle.reflector.specs.Laws.{IsReadBack}
+use Rattle.simulation.specs.Followers.{Link, Follower}
+use Rattle.simulation.specs.Moves.{Move, answers_by, move_by, move}
+
+-- ---- what a follower is
+
+-- the server's list of a kind at a revision, with the revision
+abbrev pub list_at : History → Kind → ℕ → Snapshot
+list_at h k r = record { members = list h (whole k) r; revision = r }
+
+-- a reflector that watches from a revision, with nothing buffered
+abbrev pub watching : Kind → ℕ → Reflector
+watching k a = record { kind = k; revision = a; phase = Watching; buffered = [] }
+
+-- the bytes of an ERROR frame, if one was written
+abbrev pub refusal_text : Option Refusal → List ℕ
+refusal_text None = []
+refusal_text (Some e) = frame_text (error_frame e)
+
+-- they are read back as that frame, whatever follows
+abbrev pub IsRefusalRead : Refusal → Type 0
+IsRefusalRead e = ReadsAs (frame_text (error_frame e)) (error_frame e)
+
+-- the link began at a revision, these lines were written on it, a stream from there to where it stands, and then maybe a refusal;
+-- the reflector is as it is after the bytes that were read, which came to no end, and the others are to come
+pub record IsLinkedFrom (h : History) (k : Kind) (s : Reflector) (l : Link) (from : ℕ) (ls : List Line) (refusal : Option Refusal) (read : List ℕ) : Type 0 where
+  pub forward : from ≤ l.stands
+  pub reached : l.stands ≤ present h
+  pub stream : IsStream h (whole k) from l.stands ls
+  pub lines_read : AllByRecursion (IsReadBack k) ls
+  pub refusal_read : IfSome refusal IsRefusalRead
+  pub is_refused : l.is_refused ≡ is_some refusal
+  pub bytes : read ++ l.unread ≡ text_of_lines k ls ++ refusal_text refusal
+  pub goes_on : (fed (watching k from) read).ended ≡ None
+  pub taken : s ≡ (fed (watching k from) read).after
+
+-- where no link is open, nothing of a frame is buffered
+abbrev pub IsLinked : History → Kind → Reflector → Option Link → Type 0
+IsLinked h k s None = s.buffered ≡ []
+IsLinked h k s (Some l) = (from : ℕ) × (ls : List Line) × (refusal : Option Refusal) × (read : List ℕ) × IsLinkedFrom h k s l from ls refusal read
+
+-- what is published is the server's list at the revision that is published with it, which the reflector has passed; with what waits
+-- to be published it is the list at the reflector's revision; and the link goes on from there
+pub record IsFollowing (h : History) (k : Kind) (f : Follower) : Type 0 where
+  pub kind : f.reflector.kind ≡ k
+  pub reached : f.reflector.revision ≤ present h
+  pub published : f.informer.published ≡ list_at h k f.informer.published.revision
+  pub passed : f.informer.published.revision ≤ f.reflector.revision
+  pub pending : all_applied f.informer.published f.informer.pending ≡ list_at h k f.reflector.revision
+  pub linked : IsLinked h k f.reflector f.link
+
+-- ---- what moves do
+
+-- each move leaves a follower that follows what has happened
+abbrev pub MovesFollow : Type 0
+MovesFollow = (k : Kind) (size : ℕ) (h : History) (f : Follower) (m : Move) → IsReached h → IsFollowing h k f → IsFollowing h k (move k size h f m).follower
+
+-- and so does whatever else happens at the server
+abbrev pub FollowersStand : Type 0
+FollowersStand = (k : Kind) (h more : History) (f : Follower) → IsFollowing h k f → IsFollowing (h ++ more) k f
+
+-- no move lowers the revision that is published
+abbrev pub MovesRise : Type 0
+MovesRise =
+    (k : Kind) (size : ℕ) (h : History) (f : Follower) (m : Move) → IsFollowing h k f → f.informer.published.revision ≤ (move k size h f m).follower.informer.published.revision
+
+-- ---- a server in the place of what has happened
+
+-- a server that follows what has happened answers the same, so each move is the same by either
+abbrev pub ServersServe : Type 0
+ServersServe = (size : ℕ) (s : Server) (h : History) (k : Kind) (f : Follower) (m : Move) → IsServerAfter size s h → move_by k (answers_by k s) f m ≡ move k size h f m

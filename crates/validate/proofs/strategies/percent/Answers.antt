@@ -1,5 +1,0 @@
-use Rattle.validate.proofs.Digits.{is_read}
-use Rattle.validate.proofs.strategies.percent.Goals as goal
-
-pub returns-in-Err : goal.returns-in-Err
-returns-in-Err c = absurd (c.in-Err.ensures.value.0 (is_read c.args.digits.now c.requires.digits c.requires.there c.requires.few))

@@ -1,0 +1,17 @@
+-- Keys that were added, taken back.
+use Rattle.std.specs.Prelude.{◌≡◌, List, [], ◌∷◌, false, reverse}
+use Rattle.std.specs.FinSet as set
+use Rattle.controllers.specs.WorkQueues.{WorkKey, WorkQueue, added}
+
+-- a key that may be added, and is not to be processed yet
+abbrev pub IsFresh : WorkKey → WorkQueue → Type 0
+IsFresh k w = (w.is_shut ≡ false) × (set.contains w.dirty k ≡ false)
+
+-- a queue became another by these keys, each fresh as it was added, the last first
+abbrev pub IsMadeBy : WorkQueue → List WorkKey → WorkQueue → Type 0
+IsMadeBy first [] now = now ≡ first
+IsMadeBy first (k ∷ ks) now = (before : WorkQueue) × IsMadeBy first ks before × IsFresh k before × (now ≡ added k before)
+
+-- the same, the last key last
+abbrev pub IsUndoable : WorkQueue → List WorkKey → WorkQueue → Type 0
+IsUndoable first ks now = IsMadeBy first (reverse ks) now

@@ -1,0 +1,19 @@
+-- What a server answers who follows it.
+use Rattle.std.specs.Prelude.{◌≡◌, Some, None}
+use Rattle.definitions.specs.declared.kinds.Kind.{Kind}
+use Rattle.definitions.specs.History.{unfiltered}
+use Rattle.definitions.specs.Verbs.{Outcome, answered, refused}
+use Rattle.definitions.specs.Texts.Values.{compact_text}
+use Rattle.definitions.specs.declared.versions.At.TheVariants.{Present}
+use Rattle.controllers.specs.Reflectors.{list_of}
+use Rattle.server_state.specs.Servers.{Server, list_served}
+use Rattle.simulation.specs.Moves.{answers_by, listed_of}
+
+-- a body that is read as the present list of the kind
+abbrev pub IsListBody : Kind → Server → Outcome → Type 0
+IsListBody k s (answered a) = list_of k (compact_text a.body) ≡ Some (listed_of k (answers_by k s))
+IsListBody k s (refused f) = ⊥
+
+-- who asks for all objects of a kind is answered by the present list
+abbrev pub AnswersLists : Kind → Server → Type 0
+AnswersLists k s = IsListBody k s (list_served s (unfiltered k None) (record { at = Present; limit = 0; after = None }))

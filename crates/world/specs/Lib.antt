@@ -1,0 +1,5 @@
+pub mod Answered
+pub mod Notified
+pub mod Outcomes
+pub mod Steps
+pub mod Texts

@@ -1,0 +1,28 @@
+//! What is told of a step.
+use controllers::reflectors::End;
+use meta::Kind;
+
+/// What is told of a step.
+#[derive(Drop)]
+pub enum Outcome {
+    /// The line that a request is answered, or nothing.
+    Replied(Vec<u8>),
+    /// The step was not open, and changed nothing.
+    NoStep,
+    /// A list was taken in: its revision, and how many objects it has.
+    Listed(Kind, u64, u64),
+    /// A watch was opened from a revision.
+    Opened(Kind, u64),
+    /// A watch was refused, and a list is asked for again.
+    Expired(Kind),
+    /// So many frames were written.
+    Sent(Kind, u64),
+    /// Bytes were taken in: the revision from then on, and why the watch is over, if it is.
+    Fed(Kind, u64, Option<End>),
+    /// The link was cut at a revision.
+    Cut(Kind, u64),
+    /// What waited was published: the revision, and how many objects there are.
+    Published(Kind, u64, u64),
+    /// All followers begin anew.
+    Restarted,
+}
