@@ -2,7 +2,7 @@
 use Rattle.std.proofs.Common.{◌≡◌, refl, sym, ap, ◌∙◌, ℕ, List, [], ◌∷◌, ◌++◌}
 use mathlib.Core.List.{append_assoc}
 use Rattle.simulation.specs.OutcomeTexts.{words_line}
-use Rattle.world.specs.Texts.{after_words}
+use Rattle.followers.specs.Texts.{after_words}
 
 -- a line is its words and its end
 pub words_line-is : (w : List ℕ) (ws : List (List ℕ)) → words_line w ws ≡ w ++ (after_words ws ++ 10 ∷ [])

@@ -2,8 +2,8 @@
 ghost use Rattle.std.specs.Prelude.{◌≡◌, ◌++◌, ◌∷◌, [], IfOk, OnOk, map, decimal};
 ghost use Rattle.definitions.specs.Kinds.{plural};
 ghost use Rattle.simulation.specs.OutcomeTexts.{outcome_text, end_words, words_line};
-ghost use Rattle.world.specs.Outcomes.{outcome_of};
-ghost use Rattle.world.specs.Texts.{after_words};
+ghost use Rattle.followers.specs.Outcomes.{outcome_of};
+ghost use Rattle.followers.specs.Texts.{after_words};
 
 use crate::outcomes::Outcome;
 use controllers::reflectors::End;

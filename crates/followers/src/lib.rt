@@ -1,18 +1,16 @@
-//! What follows one kind of a server in a simulated world: a link to it, a reflector, and what is published, move by move.
+//! What follows one kind of a server in a simulated cluster: a link to it, a reflector, and what is published, move by move.
 //!
 //! Each move is one atomic step, and its contract is the definition's: what is told, and the follower after it. A move that runs
-//! out of memory changes nothing. The world of all four kinds, with the server among them, is to be built on this.
+//! out of memory changes nothing. The world of all four kinds stands on this.
 #![tactic(auto)]
 
 pub mod followers;
 pub mod links;
-pub mod moves;
 pub mod notifications;
 pub mod outcome_texts;
 pub mod outcomes;
 
 pub use followers::Follower;
 pub use links::Link;
-pub use moves::Move;
 pub use notifications::Notification;
 pub use outcomes::Outcome;

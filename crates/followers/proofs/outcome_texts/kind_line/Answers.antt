@@ -2,10 +2,10 @@ use Rattle.std.proofs.Common.{sym, ap, ◌∙◌, ◌++◌, ◌∷◌, [], map, 
 use mathlib.Core.List.{append_assoc}
 use Rattle.definitions.specs.Kinds.{plural}
 use Rattle.simulation.specs.OutcomeTexts.{end_words}
-use Rattle.world.specs.Texts.{after_words}
+use Rattle.followers.specs.Texts.{after_words}
 use Rattle.std.proofs.lemmas.List.{drop_all}
-use Rattle.world.proofs.Words.{words_line-is}
-use Rattle.world.proofs.outcome_texts.kind_line.Goals as goal
+use Rattle.followers.proofs.Words.{words_line-is}
+use Rattle.followers.proofs.outcome_texts.kind_line.Goals as goal
 
 pub returns : goal.returns
 returns c =

@@ -3,7 +3,7 @@ use Rattle.std.specs.Prelude.{ℕ, Bool, true, false, length}
 use Rattle.controllers.specs.Reflectors.{Delta, replace, put, remove, mark}
 use Rattle.indexer.specs.Shifted.{shift_of}
 use Rattle.simulation.specs.Followers as followers
-use Rattle.world.specs.declared.notifications.Notification.{Notification}
+use Rattle.followers.specs.declared.notifications.Notification.{Notification}
 
 abbrev pub notification_of : Notification → followers.Notification
 notification_of n = record { shift = shift_of n.shift; is_in_initial_list = n.is_in_initial_list }

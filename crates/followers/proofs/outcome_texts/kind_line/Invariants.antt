@@ -1,8 +1,8 @@
 use Rattle.std.proofs.Common.{◌≡◌, ◌++◌, ◌∷◌, map, decimal, drop}
 use Rattle.definitions.specs.Kinds.{plural}
 use Rattle.simulation.specs.OutcomeTexts.{end_words}
-use Rattle.world.specs.Texts.{after_words}
-use Rattle.world.proofs.outcome_texts.kind_line.Given as goal
+use Rattle.followers.specs.Texts.{after_words}
+use Rattle.followers.proofs.outcome_texts.kind_line.Given as goal
 
 -- with the words that are still to be added, it is all
 abbrev pub invariant-loop-number : goal.invariant-loop-number

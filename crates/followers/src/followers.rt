@@ -1,10 +1,9 @@
 //! What follows one kind.
 ghost use Rattle.std.specs.Prelude.{◌≡◌};
 ghost use Rattle.reflector.specs.Deltas.{delta_of};
-ghost use Rattle.world.specs.Notified.{listed_count};
+ghost use Rattle.followers.specs.Notified.{listed_count};
 
 use crate::links::Link;
-use crate::moves::Move;
 use crate::notifications::{Notification, apply_all};
 use crate::outcomes::Outcome;
 use controllers::reflectors::Ask;
@@ -18,6 +17,7 @@ use revisions::Watched;
 use selector::View;
 use std::alloc::{AllocError, Global};
 use std::marker::Model;
+use steps::Move;
 
 /// A link, where a watch is open; a reflector; what is published, and the deltas that wait to be; the published changes that are
 /// still to be handled, the oldest first; and whether the first list was published.
@@ -37,7 +37,7 @@ impl Model for Follower {
     ghost use Rattle.reflector.specs.Deltas.{deltas_of};
     ghost use Rattle.simulation.specs.Followers as followers;
     ghost use Rattle.simulation.specs.Codes.{coded_follower};
-    ghost use Rattle.world.specs.Notified.{notification_of};
+    ghost use Rattle.followers.specs.Notified.{notification_of};
 
     ghost Value = { followers.Follower };
 
@@ -61,9 +61,9 @@ impl Follower {
     ghost use Rattle.simulation.specs.Moves.{Answers, answers_by, listed_of, list_in, watch_in, send_on, bookmark_on, deliver_on, deliver_all_on, cut_on, publish_by, move_by};
     ghost use Rattle.definitions.specs.History.{unfiltered};
     ghost use Rattle.selector.specs.Views.{view_of};
-    ghost use Rattle.world.specs.Answered.{AnswersLists};
-    ghost use Rattle.world.specs.Outcomes.{outcome_of};
-    ghost use Rattle.world.specs.Steps.{move_of};
+    ghost use Rattle.followers.specs.Answered.{AnswersLists};
+    ghost use Rattle.followers.specs.Outcomes.{outcome_of};
+    ghost use Rattle.steps.specs.Steps.{move_of};
 
     /// Returns what follows a kind and has seen nothing yet.
     pub fn new(alloc: Global, kind: Kind) -> Follower

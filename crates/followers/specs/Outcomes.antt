@@ -1,7 +1,7 @@
 -- Outcomes as code has them.
 use Rattle.simulation.specs.Moves as moves
-use Rattle.world.specs.declared.outcomes.Outcome.{Outcome}
-use Rattle.world.specs.declared.outcomes.Outcome.TheVariants as code
+use Rattle.followers.specs.declared.outcomes.Outcome.{Outcome}
+use Rattle.followers.specs.declared.outcomes.Outcome.TheVariants as code
 
 abbrev pub outcome_of : Outcome → moves.Outcome
 outcome_of (code.Replied text) = moves.replied text.items
