@@ -1,5 +1,5 @@
 //! An informer with one map.
-use crate::publishing::apply_all;
+use crate::publishing::publish_all;
 use indexer::{Indexed, Shift};
 use reflector::Delta;
 use std::alloc::{AllocError, AllocFailed, Global};
@@ -60,10 +60,9 @@ impl PlainInformer {
         ensures shifts { IfOk result (λ v. map shift_of v.items ≡ all_shifts self.old.published.members self.old.pending) }
         ensures err { OnErr result (self.new ≡ self.old) }
     {
-        let applied = apply_all(self.alloc, &self.map, self.waiting.as_slice())?;
-        self.map = applied.objects;
+        let shifts = publish_all(self.alloc, &mut self.map, self.waiting.as_slice())?;
         self.waiting.clear();
-        Ok(applied.shifts)
+        Ok(shifts)
     }
 
     /// Returns a reference to the published map. It takes no memory.

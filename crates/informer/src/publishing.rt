@@ -1,5 +1,5 @@
 //! Deltas applied one after another, with what each changes.
-ghost use Rattle.std.specs.Prelude.{◌≡◌, ◌++◌, IfOk, OnOk, map};
+ghost use Rattle.std.specs.Prelude.{◌≡◌, ◌++◌, IfOk, OnOk, OnErr, map};
 ghost use Rattle.controllers.specs.Informers.{all_applied, applied};
 ghost use Rattle.controllers.specs.Shifts.{all_shifts, shifts_of};
 ghost use Rattle.reflector.specs.Deltas.{delta_of, deltas_of};
@@ -11,9 +11,9 @@ use std::alloc::{AllocError, Global};
 
 /// A map after deltas, and what they changed, delta by delta.
 #[derive(Drop)]
-pub struct Applied {
-    pub objects: Indexed,
-    pub shifts: Vec<Shift>,
+struct Applied {
+    objects: Indexed,
+    shifts: Vec<Shift>,
 }
 
 /// Appends shifts to others. The error is running out of memory, after which some may be there.
@@ -41,7 +41,7 @@ fn apply_more(
 }
 
 /// Returns a copy of a map after deltas, and what they change. The error is running out of memory.
-pub fn apply_all(alloc: Global, from: &Indexed, deltas: &[Delta]) -> Result<Applied, AllocError>
+fn apply_all(alloc: Global, from: &Indexed, deltas: &[Delta]) -> Result<Applied, AllocError>
     ensures objects { IfOk result (λ p. p.objects ≡ all_applied from.now (deltas_of deltas.now)) }
     ensures shifts { IfOk result (λ p. map shift_of p.shifts.items ≡ all_shifts from.now.members (deltas_of deltas.now)) }
 {
@@ -51,4 +51,25 @@ pub fn apply_all(alloc: Global, from: &Indexed, deltas: &[Delta]) -> Result<Appl
         apply_more(alloc, &mut objects, &mut shifts, delta)?;
     }
     Ok(Applied { objects, shifts })
+}
+
+/// Applies deltas to a map, all of them, and returns what they change, delta by delta. One alone is applied in place, since it
+/// changes nothing where it fails; more are applied to a copy. The error is running out of memory, and changes nothing.
+pub(crate) fn publish_all(
+    alloc: Global,
+    published: &mut Indexed,
+    deltas: &[Delta],
+) -> Result<Vec<Shift>, AllocError>
+    ensures ok { OnOk result (published.new ≡ all_applied published.old (deltas_of deltas.now)) }
+    ensures shifts { IfOk result (λ v. map shift_of v.items ≡ all_shifts published.old.members (deltas_of deltas.now)) }
+    ensures err { OnErr result (published.new ≡ published.old) }
+{
+    match deltas {
+        [delta] => published.apply_with_shifts(alloc, delta),
+        _ => {
+            let applied = apply_all(alloc, published, deltas)?;
+            *published = applied.objects;
+            Ok(applied.shifts)
+        }
+    }
 }
