@@ -1,7 +1,8 @@
 """Runs the gate: whether the negative tests still apply and the made documents are the present ones, `rt ci`, the conformance cases, and
 the cases over HTTP with the program that `rt ci` built, one after another, whatever the others say.
 
-It shows what they print, and ends with tables of what took how long, what the first of them named, and a line 'N passed, M failed'.
+It shows what they print, and ends with tables of what took how long, what the first of them named, what `rt ci` found wrong, and a line
+'N passed, M failed'.
 What was printed, with the second of each line, and the figures are kept in a temporary folder, whose name it says; it writes
 nothing into the repository. The status is 0 only where all passed.
 """
@@ -19,6 +20,8 @@ sys.dont_write_bytecode = True
 ROOT = pathlib.Path(__file__).resolve().parent.parent
 PROGRAM = "crates/kcp/out/kcp"
 RANDOM_HEADS = 5000
+# What `rt ci` says of a proof, a negative test, a test or a program that is not as it has to be.
+WRONG = re.compile("NOT PROVED|NOT REFUSED|NOT TRIED|BAD EDIT|FAILED|not what|ended with status")
 sys.path[:0] = [str(ROOT / ".ci"), str(ROOT / "conformance")]
 import figures
 import sampler
@@ -49,6 +52,10 @@ class Run:
         found = [it for it in (re.fullmatch(r"(\d+) passed, (\d+) failed", line) for _, line in self.lines) if it]
         passed, failed = (int(found[-1][1]), int(found[-1][2])) if found else (0, 0)
         return passed, max(failed, 1) if self.status else failed
+
+    def wrong(self):
+        """Returns the lines that say what was not as it has to be, the last of them where they are many."""
+        return [line for _, line in self.lines if WRONG.search(line)][-40:]
 
     def second_of(self, text):
         """Returns the second at which a line came, or None."""
@@ -141,7 +148,7 @@ def main():
         served = asked_over_http(log)
     show(room, proved, conforms, looking, used)
     print(f"kept: {room}/output.txt, {room}/figures.json\n")
-    print("\n".join(line for _, line in first["negative tests apply"].lines))
+    print("\n".join([*(line for _, line in first["negative tests apply"].lines), *proved.wrong()]))
     runs = {**first, "rt ci": proved, "conformance": conforms, **served}
     for name, run in runs.items():
         print(f"{name}: {'ok' if not run.counts()[1] else 'FAILED'}")
