@@ -7,7 +7,7 @@ in the Pods and does nothing more.
 
 Usage: informer.py [--program PATH] [--thousands N] [--runs N] [--seconds N]
   --program PATH   an executable that is built; without it `rt run -- owner 1` in crates/informer_bench proves and builds one first
-  --thousands N    how many thousand times each is done, copies and publishes a hundredth of that; 10 if left out
+  --thousands N    how many thousand times each is done, copies a hundredth of that; 10 if left out
   --runs N         runs of each kind, of which the best counts, 5 if left out
   --seconds N      the longest that one run may take, 120 if left out
 It uses no network, and writes no files but those of the build.
@@ -25,7 +25,7 @@ PARTS = [
     ("copy", "a copy is copied", 100),
     ("owner", "the 100 Pods of a ReplicaSet are looked up", 1),
     ("owed", "the keys that a change of a Pod owes", 1),
-    ("publish", "a delta is published", 100),
+    ("publish", "a delta is published", 1),
 ]
 
 
