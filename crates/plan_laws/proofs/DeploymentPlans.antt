@@ -120,7 +120,7 @@ scales_make_none (s ∷ ss) (n ∷ ns) =
     let rest = scales_make_none ss ns in
     created-append (scale s n) (scale_each ss ns) ∙ omega arith
 
-deletes_make_none : (ss : Entries) → created (map delete_set ss) ≡ 0
+pub deletes_make_none : (ss : Entries) → created (map delete_set ss) ≡ 0
 deletes_make_none [] = refl
 deletes_make_none (s ∷ ss) = deletes_make_none ss
 
@@ -160,7 +160,7 @@ waiting_ones_report h d e waits =
 
 -- ---- which sets are deleted
 
-all_implied : {A : Type 0} (P Q : A → Type 0) → ((a : A) → P a → Q a) → (as' : List A) → AllByRecursion P as' → AllByRecursion Q as'
+pub all_implied : {A : Type 0} (P Q : A → Type 0) → ((a : A) → P a → Q a) → (as' : List A) → AllByRecursion P as' → AllByRecursion Q as'
 all_implied P Q f [] h = tt
 all_implied P Q f (a ∷ as') h = (f a h.0, all_implied P Q f as' h.1)
 
@@ -169,7 +169,7 @@ kept-at P t true a as' e p h = ((p, e), h)
 kept-at P t false a as' e p h = h
 
 -- of those that pass a test
-kept : {A : Type 0} (P : A → Type 0) (t : A → Bool) (as' : List A) → AllByRecursion P as' → AllByRecursion (λ x. P x × (t x ≡ true)) (filter t as')
+pub kept : {A : Type 0} (P : A → Type 0) (t : A → Bool) (as' : List A) → AllByRecursion P as' → AllByRecursion (λ x. P x × (t x ≡ true)) (filter t as')
 kept P t [] h = tt
 kept P t (a ∷ as') h = kept-at P t (t a) a (filter t as') refl h.0 (kept P t as' h.1)
 
@@ -188,11 +188,11 @@ pub all_ordered : {A : Type 0} (P : A → Type 0) (cmp : A → A → Ordering) (
 all_ordered P cmp [] h = tt
 all_ordered P cmp (a ∷ as') h = all_placed P cmp a (in_order cmp as') h.0 (all_ordered P cmp as' h.1)
 
-all_both : {A : Type 0} (P Q : A → Type 0) (as' : List A) → AllByRecursion P as' → AllByRecursion Q as' → AllByRecursion (λ x. P x × Q x) as'
+pub all_both : {A : Type 0} (P Q : A → Type 0) (as' : List A) → AllByRecursion P as' → AllByRecursion Q as' → AllByRecursion (λ x. P x × Q x) as'
 all_both P Q [] h k = tt
 all_both P Q (a ∷ as') h k = ((h.0, k.0), all_both P Q as' h.1 k.1)
 
-spent : (d : Data) → is_spent d ≡ true → (replicas d ≡ 0) × (count_in_status (codes "replicas") d ≡ 0)
+pub spent : (d : Data) → is_spent d ≡ true → (replicas d ≡ 0) × (count_in_status (codes "replicas") d ≡ 0)
 spent d e =
     let seen = and_parts ((replicas d == 0) && (count_in_status (codes "replicas") d == 0)) (nat_le (generation d) (count_in_status (codes "observedGeneration") d)) e in
     let gone = and_parts (replicas d == 0) (count_in_status (codes "replicas") d == 0) seen.0 in

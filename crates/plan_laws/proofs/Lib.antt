@@ -9,3 +9,6 @@ pub mod Permuted
 pub mod Counted
 pub mod PlanLaws
 pub mod DeploymentPlans
+pub mod SetLists
+pub mod AskedSets
+pub mod RolloutPlans

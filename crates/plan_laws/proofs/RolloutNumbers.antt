@@ -1,12 +1,13 @@
 -- The numbers of rolling updates.
 use Rattle.std.proofs.Common.{◌≡◌, ℕ, ◌+◌, ◌-◌, ◌≤◌, ◌<◌, List, [], ◌∷◌, Bool, true, false, refl, sym, ap, ◌∙◌, min, max, nat_lt, if◌then◌else◌, ◌==◌, map, Less, Equal, inl, inr, ◌⊎◌, arith}
+use Rattle.std.specs.List.{AllByRecursion}
 use Rattle.std.specs.Cmp.{nat_cmp_is}
 use Rattle.std.specs.Cmp.Lexicographic.{slice_cmp}
 use Rattle.std.specs.Ordering.{nat_cmp, is_le, ordering_then}
 use Rattle.std.proofs.lemmas.Bool.{ltb-true, cases_lt}
 use Rattle.plans.specs.Rollouts.{total, asked, available, most, fewest, cuts, less, missing, room, without_missing}
 use Rattle.plans.specs.declared.rollouts.Tally.{Tally}
-use Rattle.plan_laws.specs.DeploymentLaws.{SurgeIsLeast, UnavailableIsGreatest, GrowthIsGreatest, Bounded, CutsAreGreatest, ResizesStayBelow, MadeStayBelow, OldSetsOnlyShrink, lost, AvailablePodsStay, FewestStay}
+use Rattle.plan_laws.specs.DeploymentLaws.{SurgeIsLeast, UnavailableIsGreatest, GrowthIsGreatest, Bounded, CutsAreGreatest, ResizesStayBelow, MadeStayBelow, OldSetsOnlyShrink, lost, AvailablePodsStay, FewestStay, OldSetsStandIn}
 
 pub surge : SurgeIsLeast
 surge p r = (omega arith, λ s h. omega arith)
@@ -109,3 +110,39 @@ available_stay p new old =
 
 pub fewest_stay : FewestStay
 fewest_stay p new old h = let stay = available_stay p new old in omega arith
+
+-- ---- what old sets go on to ask for
+
+less-total : (ns cs : List ℕ) → Bounded cs ns → total (less ns cs) + total cs ≡ total ns
+less-total [] [] h = refl
+less-total [] (c ∷ cs) h = absurd h
+less-total (n ∷ ns) [] h = absurd h
+less-total (n ∷ ns) (c ∷ cs) h = let rest = less-total ns cs h.1 in omega (arith, h.0)
+
+missing-bounded : (ts : List Tally) → Bounded (map missing ts) (asked ts)
+missing-bounded [] = tt
+missing-bounded (t ∷ ts) = (omega arith, missing-bounded ts)
+
+available-left : (ts : List Tally) (cs : List ℕ) → AllByRecursion (λ t. t.available ≤ t.replicas) ts → Bounded cs (map missing ts) → available ts ≤ total (less (asked ts) cs)
+available-left [] cs within h = omega arith
+available-left (t ∷ ts) [] within h = absurd h
+available-left (t ∷ ts) (c ∷ cs) within h = let rest = available-left ts cs within.1 h.1 in omega (arith, within.0, h.0)
+
+stands-in : (b : Bool) (f n old left room spare gone : ℕ) (ns ms : List ℕ) → (room == 0) ≡ b → total ns ≡ old → total ms + gone ≡ left → gone ≤ spare → f ≤ old + n
+    → (old + n) - f ≡ room → old ≤ left + room → f ≤ left + n - spare → f ≤ total (if b then ns else ms) + n
+stands-in true f n old left room spare gone ns ms e all rest most enough is first second = omega arith
+stands-in false f n old left room spare gone ns ms e all rest most enough is first second = omega arith
+
+pub stand_in : OldSetsStandIn
+stand_in p new old within enough =
+    let r = room p new old in
+    let bounds = map missing old in
+    let left = without_missing r old in
+    let spare = available (new ∷ old) - fewest p in
+    let first = cuts-bounded r bounds in
+    let kept = available-left old (cuts r bounds) within first in
+    let below = cuts-total r bounds in
+    let sum = less-total (asked old) (cuts r bounds) (bounded-all (cuts r bounds) bounds (asked old) first (missing-bounded old)) in
+    let second = less-total left (cuts spare left) (cuts-bounded spare left) in
+    let most = cuts-total spare left in
+    stands-in (r == 0) (fewest p) new.available (total (asked old)) (total left) r spare (total (cuts spare left)) (asked old) (less left (cuts spare left)) refl refl second most enough (omega arith) (omega arith) (omega arith)

@@ -86,6 +86,12 @@ FewestStay =
     (p : Pace) (new : Tally) (old : List Tally) → fewest p ≤ available (new ∷ old)
     → fewest p + lost old (shrunk p new old) ≤ available (new ∷ old)
 
+-- what the old sets are to have, with the available pods of the new set, stays the fewest, where no old set has more available pods than that
+abbrev pub OldSetsStandIn : Type 0
+OldSetsStandIn =
+    (p : Pace) (new : Tally) (old : List Tally) → AllByRecursion (λ t. t.available ≤ t.replicas) old → fewest p ≤ total (asked old) + new.available
+    → fewest p ≤ total (shrunk p new old) + new.available
+
 -- ---- what commands say
 
 -- a set that is scaled to a number is to have just so many pods

@@ -1,3 +1,4 @@
 pub mod CollectorLaws
 pub mod DeploymentLaws
 pub mod ReplicaSetLaws
+pub mod RolloutLaws

@@ -1,5 +1,6 @@
 //! Laws of the Deployment controller's plans.
-ghost use Rattle.plan_laws.specs.DeploymentLaws.{SurgeIsLeast, UnavailableIsGreatest, GrowthIsGreatest, CutsAreGreatest, MadeStayBelow, ResizesStayBelow, OldSetsOnlyShrink, AvailablePodsStay, FewestStay, ScalesAskForTheirNumber, MadeSetsAskForTheirNumber, UpdatesNameTheLookedVersion, AtMostOneSetIsMade, WaitingOnesReport, OnlySpentSetsAreDeleted, LatestRevisionsStay};
+ghost use Rattle.plan_laws.specs.DeploymentLaws.{SurgeIsLeast, UnavailableIsGreatest, GrowthIsGreatest, CutsAreGreatest, MadeStayBelow, ResizesStayBelow, OldSetsOnlyShrink, AvailablePodsStay, FewestStay, OldSetsStandIn, ScalesAskForTheirNumber, MadeSetsAskForTheirNumber, UpdatesNameTheLookedVersion, AtMostOneSetIsMade, WaitingOnesReport, OnlySpentSetsAreDeleted, LatestRevisionsStay};
+ghost use Rattle.plan_laws.specs.RolloutLaws.{SurgeIsNeverPassed, TakenLeaveFewest, FewestStayAvailable};
 
 /// The surge of a percentage is the least whole number that is no less than it.
 pub fn surge_is_least()
@@ -46,6 +47,11 @@ pub fn fewest_stay()
     ensures { FewestStay }
 {}
 
+/// The old sets go on to ask for the fewest pods that are to be available, but for those that the new set has available.
+pub fn old_sets_stand_in()
+    ensures { OldSetsStandIn }
+{}
+
 /// A set that is scaled to a number asks for just so many pods.
 pub fn scales_ask_for_their_number()
     ensures { ScalesAskForTheirNumber }
@@ -80,4 +86,20 @@ pub fn only_spent_sets_are_deleted()
 /// Of the old sets those of the latest revisions stay: as many as the history is to have, or all.
 pub fn latest_revisions_stay()
     ensures { LatestRevisionsStay }
+{}
+
+/// However many commands of a plan are accepted, the sets ask for no more pods than the replicas and the surge, or than before.
+pub fn surge_is_never_passed()
+    ensures { SurgeIsNeverPassed }
+{}
+
+/// A rolling update takes no more of the available pods than leaves the fewest that are to be available, where so many are,
+/// however many of its commands are accepted.
+pub fn taken_leave_fewest()
+    ensures { TakenLeaveFewest }
+{}
+
+/// Where no set has more available pods than it asks for, the fewest that are to be available stay, where so many are.
+pub fn fewest_stay_available()
+    ensures { FewestStayAvailable }
 {}
