@@ -23,12 +23,13 @@ BESIDE = {
     "controllers": ["ReadFrames", "Reflectors", "WorkQueues", "Delays", "Expectations", "Informers", "Shifts", "OwnerReferences", "OwedKeys", "Hands", "Commands"],
     "control": ["Boards"],
     "simulation": ["Followers", "Moves", "Clusters", "OutcomeTexts", "StepLines"],
+    "reconciling": ["Turns", "NextSteps", "PodObservations", "Managers", "Outcomes", "ControlPlanes", "OutcomeTexts", "StepLines"],
     "plans": ["Pods", "PodClaims", "PodRanks", "NewPods", "ReplicaSets", "Rollouts", "Templates", "Revisions", "Deployments", "Standings", "GarbageCollection", "MetadataEdits",
               "Counts", "Statuses", "Orders"],
 }
 
 # The crates of laws: a file of laws stands in src, with `_laws` at the end of its name.
-LAWS = ["laws", "informer_laws", "plan_laws", "simulation_laws", "exchanges"]
+LAWS = ["laws", "informer_laws", "plan_laws", "reconciling_laws", "simulation_laws", "control_plane_laws", "exchanges"]
 
 HEAD = """# Definitions
 
@@ -43,7 +44,8 @@ Texts are lists of bytes, and numbers are natural, unless a definition says othe
 LAWS_HEAD = """# Laws
 
 What follows from the [definitions](DEFINITIONS.md), whatever code meets them. Each law is the contract of a public function in
-the crates `laws`, `informer_laws`, `plan_laws`, `simulation_laws` and `exchanges`, and proved. Single cases, computed, are in `crates/examples` and `crates/simulation_examples`. `docs/definitions.py` makes this page.
+the crates `laws`, `informer_laws`, `plan_laws`, `reconciling_laws`, `simulation_laws`, `control_plane_laws` and `exchanges`, and proved. Single cases, computed, are in
+`crates/examples`, `crates/simulation_examples` and `crates/reconciling_examples`. `docs/definitions.py` makes this page.
 """
 
 

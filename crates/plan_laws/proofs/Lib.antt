@@ -12,3 +12,7 @@ pub mod DeploymentPlans
 pub mod SetLists
 pub mod AskedSets
 pub mod RolloutPlans
+pub mod AskedEdits
+pub mod AskedReplicaSets
+pub mod AskedDeployments
+pub mod AskedPlans

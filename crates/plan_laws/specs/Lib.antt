@@ -1,3 +1,4 @@
+pub mod AskedLaws
 pub mod CollectorLaws
 pub mod DeploymentLaws
 pub mod ReplicaSetLaws

@@ -1,10 +1,10 @@
 mod Appending
 mod Feeding
 mod FramesRead
-mod Growing
+pub mod Growing
 mod Moving
 mod RefusalsRead
-mod Requests
+pub mod Requests
 mod Rising
-mod Runs
+pub mod Runs
 pub mod Serving

@@ -11,7 +11,7 @@ use Rattle.laws.proofs.NamedVersions.{updates_version, statuses_version, patches
 use Rattle.simulation.specs.Moves.{replied}
 use Rattle.simulation_laws.specs.ClusterLaws.{Asks, NamesVersion, update, status, patch, delete, NamedVersionsAreReplaced}
 
-replaces : (h : History) (k : Key) (named : List ℕ) (q : Request) (moment : List ℕ) → NamesVersion h k named q → ReplacesVersion k named h (accept q h moment)
+pub replaces : (h : History) (k : Key) (named : List ℕ) (q : Request) (moment : List ℕ) → NamesVersion h k named q → ReplacesVersion k named h (accept q h moment)
 replaces h k named q moment (update d o read names) = updates_version k d o named h moment read names
 replaces h k named q moment (status d o read names) = statuses_version k d o named h moment read names
 replaces h k named q moment (patch d existing o there read names) = patches_version k d existing o named h moment there read names

@@ -24,18 +24,18 @@ use Rattle.simulation_laws.proofs.Rising.{rise}
 
 -- ---- parts of a cluster
 
-begun_follows : (h : History) (k : Kind) → IsFollowing h k (begun k)
+pub begun_follows : (h : History) (k : Kind) → IsFollowing h k (begun k)
 begun_follows h k = record { kind = refl; reached = omega arith; published = refl; passed = omega arith; pending = refl; linked = refl }
 
 -- a property of the follower of each kind, at the beginning
-at_first : (P : Kind → Follower → Type 0) (s : Session) → ((k : Kind) → P k (begun k)) → (k : Kind) → P k (follower k (with_new_followers s))
+pub at_first : (P : Kind → Follower → Type 0) (s : Session) → ((k : Kind) → P k (begun k)) → (k : Kind) → P k (follower k (with_new_followers s))
 at_first P s p ConfigMap = p ConfigMap
 at_first P s p Pod = p Pod
 at_first P s p ReplicaSet = p ReplicaSet
 at_first P s p Deployment = p Deployment
 
 -- and with another session
-with_session : (P : Kind → Follower → Type 0) (c : Cluster) (s : Session) → ((k : Kind) → P k (follower k c)) → (k : Kind) → P k (follower k (record c { session = s }))
+pub with_session : (P : Kind → Follower → Type 0) (c : Cluster) (s : Session) → ((k : Kind) → P k (follower k c)) → (k : Kind) → P k (follower k (record c { session = s }))
 with_session P c s p ConfigMap = p ConfigMap
 with_session P c s p Pod = p Pod
 with_session P c s p ReplicaSet = p ReplicaSet
@@ -60,7 +60,7 @@ with_moved P c Deployment f q p Pod = p Pod
 with_moved P c Deployment f q p ReplicaSet = p ReplicaSet
 with_moved P c Deployment f q p Deployment = q
 
-same_session : (c : Cluster) (k : Kind) (f : Follower) → (with_follower k f c).session ≡ c.session
+pub same_session : (c : Cluster) (k : Kind) (f : Follower) → (with_follower k f c).session ≡ c.session
 same_session c ConfigMap f = refl
 same_session c Pod f = refl
 same_session c ReplicaSet f = refl
@@ -101,7 +101,7 @@ keeps c restart is = (is.0, is.1, at_first (IsFollowing (history c)) c.session (
 
 -- ---- all steps
 
-opens : (size : ℕ) → IsFollowed (opened size)
+pub opens : (size : ℕ) → IsFollowed (opened size)
 opens size = (reached.opened, (omega arith, omega arith, IsUtf8-are_ascii (codes "2026-01-01T00:00:00Z") refl), at_first (IsFollowing []) (start size) (begun_follows []))
 
 run_keeps : (c : Cluster) (ss : List ClusterStep) → IsFollowed c → IsFollowed (run c ss)
@@ -138,7 +138,7 @@ module _ (k : Kind) where
   first_no (moves j m) ss none = (tt, none)
   first_no restart ss none = absurd none
 
-  rise_all : (c : Cluster) (ss : List ClusterStep) → NoRestart ss → IsFollowed c → at c ≤ at (run c ss)
+  pub rise_all : (c : Cluster) (ss : List ClusterStep) → NoRestart ss → IsFollowed c → at c ≤ at (run c ss)
   rise_all c [] none is = omega arith
   rise_all c (s ∷ ss) none is =
       let parts = first_no s ss none in

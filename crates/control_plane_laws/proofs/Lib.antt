@@ -1,0 +1,5 @@
+mod Asking
+mod PlaneRuns
+mod Replacing
+mod Rising
+mod StoredLists

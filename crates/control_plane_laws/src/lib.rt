@@ -1,0 +1,5 @@
+//! Laws of the simulated control plane and its server: what informers publish and workers look at is what the server's lists
+//! were, and conditional writes replace the version that they name, whatever steps are taken.
+#![tactic(auto)]
+
+pub mod plane_laws;

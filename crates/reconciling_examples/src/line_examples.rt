@@ -1,0 +1,17 @@
+//! Worked facts of lines.
+ghost use Rattle.reconciling_examples.specs.LineExamples.{ActionsAreRead, OthersAreNot, OutcomesAreTold};
+
+/// An action, the number of a worker and what it is of ask for a step.
+pub fn actions_are_read()
+    ensures { ActionsAreRead }
+{}
+
+/// A line of another form asks for none.
+pub fn others_are_not()
+    ensures { OthersAreNot }
+{}
+
+/// An outcome is told by a word, the number of the worker, and what it did.
+pub fn outcomes_are_told()
+    ensures { OutcomesAreTold }
+{}

@@ -1,0 +1,15 @@
+pub mod Acting
+mod Actions
+pub mod Counting
+mod Dirty
+pub mod Following
+pub mod Growing
+mod HandRuns
+mod InHands
+pub mod IssuedRuns
+pub mod Lists
+pub mod Moved
+pub mod Nexts
+pub mod Owed
+mod Processing
+mod Steps

@@ -1,0 +1,5 @@
+use Rattle.reconciling_laws.proofs.Owed.{nothing_forgotten}
+use Rattle.reconciling_laws.proofs.owed_laws.nothing_is_forgotten.Goals as goal
+
+pub returns : goal.returns
+returns c = nothing_forgotten

@@ -1,0 +1,46 @@
+-- What the steps of a control plane do, and what they do not.
+use Rattle.std.specs.Prelude.{◌≡◌, ◌+◌, ℕ, List, length, true, false, Some, slice_get}
+use Rattle.definitions.specs.declared.kinds.Kind.{Kind}
+use Rattle.laws.specs.DueLaws.{IsDue}
+use Rattle.controllers.specs.WorkQueues.{WorkKey}
+use Rattle.control.specs.Boards as boards
+use Rattle.control.specs.Boards.{may_tick}
+use Rattle.simulation.specs.Clusters.{follower, restart}
+use Rattle.simulation.specs.Followers as followers
+use Rattle.simulation.specs.Followers.{Notification}
+use Rattle.reconciling.specs.ControlPlanes.{ControlPlane, Step, in_cluster, handle, tick, opened, step, run}
+use Rattle.reconciling.specs.NextSteps.{first}
+use Rattle.reconciling.specs.Outcomes.{was_open}
+use Rattle.reconciling.specs.Turns.{Turn}
+use Rattle.reconciling_laws.specs.OwedLaws.{unhandled, is_dirty}
+
+-- a step that is not open changes nothing
+abbrev pub ClosedStepsChangeNothing : Type 0
+ClosedStepsChangeNothing = (p : ControlPlane) (s : Step) → was_open (step p s).outcome ≡ false → (step p s).plane ≡ p
+
+-- one that is open is counted
+abbrev pub OpenStepsAreCounted : Type 0
+OpenStepsAreCounted = (p : ControlPlane) (s : Step) → was_open (step p s).outcome ≡ true → (step p s).plane.taken ≡ p.taken + 1
+
+-- a restart leaves what has happened at the server, what was issued, and as many workers; and nothing else
+abbrev pub RestartsBeginAnew : Type 0
+RestartsBeginAnew =
+    (p : ControlPlane)
+    → (let q = (step p (in_cluster restart)).plane in
+    (q.cluster.session ≡ p.cluster.session) × (q.manager.issued ≡ p.manager.issued) × (length q.manager.turns ≡ length p.manager.turns)
+    × (q.manager.board ≡ boards.begun) × ((w : ℕ) (t : Turn) → slice_get q.manager.turns w ≡ Some (Some t) → ⊥) × ((k : Kind) → follower k q.cluster ≡ followers.begun k))
+
+-- a change of the first list shows nothing of expected pods
+abbrev pub FirstListsShowNothing : Type 0
+FirstListsShowNothing =
+    (p : ControlPlane) (k : Kind) (n : Notification) → first (unhandled k p) ≡ Some n → n.is_in_initial_list ≡ true
+    → (step p (handle k)).plane.manager.board.expected ≡ p.manager.board.expected
+
+-- over every list of steps, a tick moves the time on, and each key whose moment has come then is dirty
+abbrev pub TicksAddWhatIsDue : Type 0
+TicksAddWhatIsDue =
+    (window workers : ℕ) (steps : List Step) (n : ℕ)
+    → (let p = run (opened window workers) steps in
+    let b = p.manager.board in
+    let q = (step p (tick n)).plane in
+    may_tick n b ≡ true → (q.manager.board.time ≡ b.time + n) × ((k : WorkKey) → IsDue (b.time + n) b.delays k → is_dirty k q ≡ true))
