@@ -58,7 +58,7 @@ const R: &str =
 fn turn(alloc: Global, kind: Kind, name: &str, pods: &[&str]) -> Result<Hand<Indexed>, Fail> {
     Ok(Hand {
         key: key(alloc, kind, name)?,
-        looks: looks(alloc, &[], pods, &[])?,
+        looks: looks(alloc, &[], pods, &[], &[])?,
         is_satisfied: true,
         reads: Vec::new(alloc),
     })
@@ -72,56 +72,102 @@ fn answers(alloc: Global, turn: &Hand<Indexed>) -> Result<String, Fail> {
     Ok(text)
 }
 
-/// What the turn of the pod `p` asks for and commands after these reads.
-fn after(alloc: Global, first: Read, second: Option<Read>) -> Result<String, Fail> {
-    let mut turn = turn(alloc, Kind::Pod, "p", &[OF_A])?;
-    turn.reads.push(first)?;
-    if let Some(second) = second {
-        turn.reads.push(second)?;
-    }
+/// A turn with one more live read.
+fn and_read(turn: Hand<Indexed>, read: Read) -> Result<Hand<Indexed>, Fail> {
+    let mut turn = turn;
+    turn.reads.push(read)?;
+    Ok(turn)
+}
+
+/// What the turn of the pod `p` asks for and commands after this read.
+fn after(alloc: Global, item: Read) -> Result<String, Fail> {
+    let turn = turn(alloc, Kind::Pod, "p", &[OF_A])?;
+    let turn = and_read(turn, item)?;
     answers(alloc, &turn)
+}
+
+/// What the turn of the pod `p` asks for and commands, as it was read, after the read of its owner.
+fn after_owner(alloc: Global, owner: Read) -> Result<String, Fail> {
+    let item = read(alloc, Kind::Pod, "p", OF_A)?;
+    let turn = turn(alloc, Kind::Pod, "p", &[OF_A])?;
+    let turn = and_read(turn, item)?;
+    let turn = and_read(turn, owner)?;
+    answers(alloc, &turn)
+}
+
+/// The turn of the pod `p` with two owners.
+fn turn_of_two(alloc: Global) -> Result<Hand<Indexed>, Fail> {
+    turn(alloc, Kind::Pod, "p", &[WITH_TWO_OWNERS])
+}
+
+/// That turn, as the pod was read.
+fn read_of_two(alloc: Global) -> Result<Hand<Indexed>, Fail> {
+    let item = read(alloc, Kind::Pod, "p", WITH_TWO_OWNERS)?;
+    let turn = turn_of_two(alloc)?;
+    and_read(turn, item)
+}
+
+/// What that turn asks for and commands after the reads of both owners.
+fn after_both(alloc: Global, first: Read, second: Read) -> Result<String, Fail> {
+    let turn = read_of_two(alloc)?;
+    let turn = and_read(turn, first)?;
+    let turn = and_read(turn, second)?;
+    answers(alloc, &turn)
+}
+
+/// What a turn still asks for.
+fn asked(alloc: Global, turn: &Hand<Indexed>) -> Result<String, Fail> {
+    keys_text(alloc, asks(alloc, turn)?.as_slice())
+}
+
+/// What the turn of the pod with two owners asks for first.
+fn asked_first(alloc: Global) -> Result<String, Fail> {
+    let turn = turn_of_two(alloc)?;
+    asked(alloc, &turn)
+}
+
+/// What it asks for as the pod was read.
+fn asked_then(alloc: Global) -> Result<String, Fail> {
+    let turn = read_of_two(alloc)?;
+    asked(alloc, &turn)
 }
 
 /// What the turn of the set asks for and commands, as it is read live, with these pods.
 fn finished(alloc: Global, set: &str, pods: &[&str]) -> Result<String, Fail> {
-    let mut turn = turn(alloc, Kind::ReplicaSet, "web", pods)?;
-    turn.reads.push(read(alloc, Kind::ReplicaSet, "web", set)?)?;
+    let set = read(alloc, Kind::ReplicaSet, "web", set)?;
+    let turn = turn(alloc, Kind::ReplicaSet, "web", pods)?;
+    let turn = and_read(turn, set)?;
     answers(alloc, &turn)
 }
 
 #[test]
-fn the_item_and_then_its_owners_are_read(rt: HostRuntime) -> Result<(), Fail> {
-    let alloc = rt.alloc();
-    let mut turn = turn(alloc, Kind::Pod, "p", &[WITH_TWO_OWNERS])?;
-    assert_eq!(rt;
-        keys_text(alloc, asks(alloc, &turn)?.as_slice())?.as_str(),
-        "Pod p\n"
-    );
-    turn.reads
-        .push(read(alloc, Kind::Pod, "p", WITH_TWO_OWNERS)?)?;
-    assert_eq!(rt;
-        keys_text(alloc, asks(alloc, &turn)?.as_slice())?.as_str(),
-        "ConfigMap a\nConfigMap b\n"
-    );
+fn the_item_is_read(rt: HostRuntime) -> Result<(), Fail> {
+    let text = asked_first(rt.alloc())?;
+    assert_eq!(rt; text.as_str(), "Pod p\n");
+    Ok(())
+}
+
+#[test]
+fn then_its_owners_are_read(rt: HostRuntime) -> Result<(), Fail> {
+    let text = asked_then(rt.alloc())?;
+    assert_eq!(rt; text.as_str(), "ConfigMap a\nConfigMap b\n");
     Ok(())
 }
 
 #[test]
 fn the_reference_to_a_live_owner_stays(rt: HostRuntime) -> Result<(), Fail> {
     let alloc = rt.alloc();
-    let mut turn = turn(alloc, Kind::Pod, "p", &[WITH_TWO_OWNERS])?;
-    turn.reads
-        .push(read(alloc, Kind::Pod, "p", WITH_TWO_OWNERS)?)?;
-    turn.reads.push(read(alloc, Kind::ConfigMap, "a", A)?)?;
-    turn.reads.push(read_none(alloc, Kind::ConfigMap, "b")?)?;
-    assert_eq!(rt; answers(alloc, &turn)?.as_str(), WITH_THE_FIRST);
+    let a = read(alloc, Kind::ConfigMap, "a", A)?;
+    let b = read_none(alloc, Kind::ConfigMap, "b")?;
+    let text = after_both(alloc, a, b)?;
+    assert_eq!(rt; text.as_str(), WITH_THE_FIRST);
     Ok(())
 }
 
 #[test]
 fn an_item_that_is_gone_is_left(rt: HostRuntime) -> Result<(), Fail> {
     let alloc = rt.alloc();
-    let text = after(alloc, read_none(alloc, Kind::Pod, "p")?, None)?;
+    let text = after(alloc, read_none(alloc, Kind::Pod, "p")?)?;
     assert_eq!(rt; text.as_str(), "");
     Ok(())
 }
@@ -129,7 +175,7 @@ fn an_item_that_is_gone_is_left(rt: HostRuntime) -> Result<(), Fail> {
 #[test]
 fn an_owner_of_another_kind_is_there(rt: HostRuntime) -> Result<(), Fail> {
     let alloc = rt.alloc();
-    let text = after(alloc, read(alloc, Kind::Pod, "p", OF_A_JOB)?, None)?;
+    let text = after(alloc, read(alloc, Kind::Pod, "p", OF_A_JOB)?)?;
     assert_eq!(rt; text.as_str(), "");
     Ok(())
 }
@@ -137,28 +183,20 @@ fn an_owner_of_another_kind_is_there(rt: HostRuntime) -> Result<(), Fail> {
 #[test]
 fn an_owner_that_was_made_again_is_another(rt: HostRuntime) -> Result<(), Fail> {
     let alloc = rt.alloc();
-    let first = read(alloc, Kind::Pod, "p", OF_A)?;
-    let second = read(alloc, Kind::ConfigMap, "a", MADE_AGAIN)?;
-    let text = after(alloc, first, Some(second))?;
-    assert_eq!(rt;
-        text.as_str(),
-        "delete p uid u-p version 3 policy Some(Background)\n"
-    );
+    let text = after_owner(alloc, read(alloc, Kind::ConfigMap, "a", MADE_AGAIN)?)?;
+    assert_eq!(rt; text.as_str(), DELETED);
     Ok(())
 }
 
 #[test]
 fn a_pod_of_a_waiting_owner_is_deleted(rt: HostRuntime) -> Result<(), Fail> {
     let alloc = rt.alloc();
-    let first = read(alloc, Kind::Pod, "p", OF_A)?;
-    let second = read(alloc, Kind::ConfigMap, "a", WAITING)?;
-    let text = after(alloc, first, Some(second))?;
-    assert_eq!(rt;
-        text.as_str(),
-        "delete p uid u-p version 3 policy Some(Background)\n"
-    );
+    let text = after_owner(alloc, read(alloc, Kind::ConfigMap, "a", WAITING)?)?;
+    assert_eq!(rt; text.as_str(), DELETED);
     Ok(())
 }
+
+const DELETED: &str = "delete p uid u-p version 3 policy Some(Background)\n";
 
 #[test]
 fn dependents_are_orphaned(rt: HostRuntime) -> Result<(), Fail> {

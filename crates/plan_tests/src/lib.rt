@@ -1,8 +1,10 @@
-//! Tests of the plans of the collector and of ReplicaSets, of indexed copies.
+//! Tests of the plans of the collector, of ReplicaSets and of Deployments, of indexed copies.
 #![tactic(auto)]
 
 #[cfg(test)]
 mod collector_tests;
+#[cfg(test)]
+mod deployment_tests;
 #[cfg(test)]
 mod looks;
 #[cfg(test)]

@@ -18,18 +18,19 @@ pub fn look(alloc: Global, kind: Kind, texts: &[&str]) -> Result<Indexed, Fail> 
     Ok(seen)
 }
 
-/// Returns looks at ConfigMaps, Pods and ReplicaSets. No Deployments are there.
+/// Returns looks at ConfigMaps, Pods, ReplicaSets and Deployments.
 pub fn looks(
     alloc: Global,
     config_maps: &[&str],
     pods: &[&str],
     sets: &[&str],
+    deployments: &[&str],
 ) -> Result<Looks<Option<Indexed>>, Fail> {
     Ok(Looks {
         config_maps: Some(look(alloc, Kind::ConfigMap, config_maps)?),
         pods: Some(look(alloc, Kind::Pod, pods)?),
         replica_sets: Some(look(alloc, Kind::ReplicaSet, sets)?),
-        deployments: Some(look(alloc, Kind::Deployment, &[])?),
+        deployments: Some(look(alloc, Kind::Deployment, deployments)?),
     })
 }
 

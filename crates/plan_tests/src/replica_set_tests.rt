@@ -53,20 +53,24 @@ const DELETED: &str =
 fn turn(alloc: Global, set: &str, pods: &[&str]) -> Result<Hand<Indexed>, Fail> {
     Ok(Hand {
         key: key(alloc, Kind::ReplicaSet, "web")?,
-        looks: looks(alloc, &[], pods, &[set])?,
+        looks: looks(alloc, &[], pods, &[set], &[])?,
         is_satisfied: true,
         reads: Vec::new(alloc),
     })
 }
 
+/// What a turn still asks for, and its commands.
+fn answers(alloc: Global, turn: &Hand<Indexed>) -> Result<String, Fail> {
+    let mut text = keys_text(alloc, asks(alloc, turn)?.as_slice())?;
+    let plan = plan(alloc, turn)?;
+    text.push_str(commands_text(alloc, plan.commands.as_slice())?.as_str())?;
+    Ok(text)
+}
+
 /// The commands of the turn of a set with these pods, for which nothing is to be read live.
 fn planned(alloc: Global, set: &str, pods: &[&str]) -> Result<String, Fail> {
     let turn = turn(alloc, set, pods)?;
-    let asked = asks(alloc, &turn)?;
-    let plan = plan(alloc, &turn)?;
-    let mut text = keys_text(alloc, asked.as_slice())?;
-    text.push_str(commands_text(alloc, plan.commands.as_slice())?.as_str())?;
-    Ok(text)
+    answers(alloc, &turn)
 }
 
 #[test]
@@ -123,26 +127,30 @@ const REPORTED: &str =
     r#"status web {"apiVersion":"apps/v1","kind":"ReplicaSet","metadata":{"deletionTimestamp":"2026-01-01T00:00:00Z","finalizers":["foregroundDeletion"],"generation":2,"name":"web","namespace":"default","resourceVersion":"8","uid":"u-web"},"spec":{"replicas":3,"selector":{"matchLabels":{"app":"web"}},"template":{"metadata":{"labels":{"app":"web"}},"spec":{}}},"status":{"availableReplicas":1,"observedGeneration":2,"readyReplicas":1,"replicas":1}}
 "#;
 
-/// What is asked for before and after the set was read live, and the commands then.
-fn adopted(alloc: Global) -> Result<(String, String, String), Fail> {
+/// What is asked for of a set with an orphan.
+fn asked(alloc: Global) -> Result<String, Fail> {
+    let turn = turn(alloc, ONE_OF_TWO, &[ORPHAN])?;
+    keys_text(alloc, asks(alloc, &turn)?.as_slice())
+}
+
+#[test]
+fn an_orphan_waits_for_the_set_to_be_read(rt: HostRuntime) -> Result<(), Fail> {
+    let text = asked(rt.alloc())?;
+    assert_eq!(rt; text.as_str(), "ReplicaSet web\n");
+    Ok(())
+}
+
+/// What is commanded as the set was read live.
+fn adopted(alloc: Global) -> Result<String, Fail> {
+    let set = read(alloc, Kind::ReplicaSet, "web", ONE_OF_TWO)?;
     let mut turn = turn(alloc, ONE_OF_TWO, &[ORPHAN])?;
-    let before = keys_text(alloc, asks(alloc, &turn)?.as_slice())?;
-    turn.reads
-        .push(read(alloc, Kind::ReplicaSet, "web", ONE_OF_TWO)?)?;
-    let after = keys_text(alloc, asks(alloc, &turn)?.as_slice())?;
-    let plan = plan(alloc, &turn)?;
-    Ok((
-        before,
-        after,
-        commands_text(alloc, plan.commands.as_slice())?,
-    ))
+    turn.reads.push(set)?;
+    answers(alloc, &turn)
 }
 
 #[test]
 fn an_orphan_is_adopted(rt: HostRuntime) -> Result<(), Fail> {
-    let (before, after, commands) = adopted(rt.alloc())?;
-    assert_eq!(rt; before.as_str(), "ReplicaSet web\n");
-    assert_eq!(rt; after.as_str(), "");
+    let commands = adopted(rt.alloc())?;
     assert_eq!(rt; commands.as_str(), ADOPTED);
     Ok(())
 }

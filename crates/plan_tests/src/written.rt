@@ -1,5 +1,7 @@
 //! Keys and commands as texts, to be compared.
 use keys::Key;
+use meta::Object;
+use readings::in_spec;
 use std::alloc::Global;
 use std::test::Fail;
 use turns::{Command, Version};
@@ -74,6 +76,38 @@ pub fn commands_text(alloc: Global, commands: &[Command]) -> Result<String, Fail
     for command in commands {
         text.push_str(command_text(alloc, command)?.as_str())?;
         text.push('\n')?;
+    }
+    Ok(text)
+}
+
+/// Returns how many pods an object asks for; 0 where it does not say.
+fn replicas_of(object: &Object) -> u64 {
+    match in_spec(object, "replicas") {
+        Some(found) => found.as_u64().unwrap_or(0),
+        None => 0,
+    }
+}
+
+/// Returns what becomes of sets by a command; nothing where it updates a status.
+fn size_text(alloc: Global, command: &Command) -> Result<String, Fail> {
+    match command {
+        Command::Create { object, .. } => Ok(format!(in alloc;
+            "one is made with {}\n",
+            replicas_of(object)
+        )?),
+        Command::Update { key, object } => {
+            Ok(format!(in alloc; "{} to {}\n", key.name.as_str(), replicas_of(object))?)
+        }
+        Command::UpdateStatus { .. } => Ok(String::new(alloc)),
+        Command::Delete { key, .. } => Ok(format!(in alloc; "{} is deleted\n", key.name.as_str())?),
+    }
+}
+
+/// Returns what becomes of sets by commands, a line each: how many pods they are to have, and which are deleted.
+pub fn sizes_text(alloc: Global, commands: &[Command]) -> Result<String, Fail> {
+    let mut text = String::new(alloc);
+    for command in commands {
+        text.push_str(size_text(alloc, command)?.as_str())?;
     }
     Ok(text)
 }
