@@ -15,5 +15,5 @@ IsListBody k s (answered a) = list_of k (compact_text a.body) ≡ Some (listed_o
 IsListBody k s (refused f) = ⊥
 
 -- who asks for all objects of a kind is answered by the present list
-abbrev pub AnswersLists : Kind → Server → Type 0
-AnswersLists k s = IsListBody k s (list_served s (unfiltered k None) (record { at = Present; limit = 0; after = None }))
+pub record AnswersLists (k : Kind) (s : Server) : Type 0 where
+  pub lists : IsListBody k s (list_served s (unfiltered k None) (record { at = Present; limit = 0; after = None }))

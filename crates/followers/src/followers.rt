@@ -80,6 +80,13 @@ impl Follower {
         }
     }
 
+    /// Returns what is published: the objects, and the revision at which they are the server's; at first none, and 0.
+    pub fn published(&self) -> &Indexed
+        ensures { result.now ≡ self.now.informer.published }
+    {
+        &self.published
+    }
+
     /// Returns the view of all objects of the kind.
     fn view(&self, alloc: Global) -> View
         ensures { view_of result ≡ unfiltered self.now.reflector.kind None }

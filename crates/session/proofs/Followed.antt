@@ -25,7 +25,7 @@ use Rattle.session.specs.Laws.{Follows, SessionsFollow}
 -- ---- what is asked
 
 -- a request is answered the same
-same_outcome : (state : SessionState) (s : answers.Session) → Follows state s → (q : Request) → accepted state q ≡ accept q s.history s.moment
+pub same_outcome : (state : SessionState) (s : answers.Session) → Follows state s → (q : Request) → accepted state q ≡ accept q s.history s.moment
 same_outcome state s is q =
     ap (λ m. accept_at q state.server.snapshot.members state.server.snapshot.revision m) is.1 ∙ (accepted_holds s.window state.server s.history q s.moment is.0).0
 

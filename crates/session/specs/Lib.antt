@@ -1,3 +1,4 @@
 pub mod SessionStates
+pub mod Effects
 pub mod Laws
 pub mod Shown

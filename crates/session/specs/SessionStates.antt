@@ -1,15 +1,16 @@
 -- A session as it is stored, and how it goes on: a server stands in the place of all that has happened.
-use Rattle.std.specs.Prelude.{ℕ, List, [], ◌==◌, length, Result, Ok, Err, None, refl, if◌then◌else◌}
+use Rattle.std.specs.Prelude.{◌≡◌, ℕ, List, [], ◌==◌, length, false, Option, Some, None, Result, Ok, Err, refl, if◌then◌else◌}
 use Rattle.std.specs.Coded.{Coded, code_by, coded×}
 use Rattle.codes.specs.Codes.{coded_text}
 use Rattle.definitions.specs.declared.refusals.Part.TheVariants as part
+use Rattle.definitions.specs.History.{Write}
 use Rattle.line_protocol.specs.Lines.{Line, ask, at, compact, unreadable, line_of, line_text, reply_text}
 use Rattle.definitions.specs.Replies.{start, Reply, outcome, shown, compacted, watch_reply}
-use Rattle.server_state.specs.Servers.{list_served, Server, opened_server, after_writing, compact_by, watch_served}
+use Rattle.server_state.specs.Servers.{list_served, Server, opened_server, after_write, after_writing, compact_by, watch_served}
 use Rattle.definitions.specs.Refusals.{Refusal, bad_request, success_body}
 use Rattle.server_state.specs.Codes.{coded_server}
 use Rattle.definitions.specs.Targets.{Asked, request, list, watch, read_request}
-use Rattle.definitions.specs.Verbs.{Outcome, refused, write_of, accept_at}
+use Rattle.definitions.specs.Verbs.{Outcome, refused, write_of, accept_at, overflows}
 use Rattle.definitions.specs.ObjectRequests.{Request}
 
 -- a server, and the moment that it is
@@ -74,3 +75,48 @@ state_after s unreadable = s
 
 abbrev pub next_state : SessionState → List ℕ → SessionState
 next_state s t = if length t == 0 then s else state_after s (line_of t)
+
+-- ---- what changes, as one effect
+
+-- nothing; a write is made; it is another moment; or what happened up to a revision is compacted
+pub data Effect : Type 0 where
+  nothing : Effect
+  write : Write → Effect
+  moment : List ℕ → Effect
+  compaction : ℕ → Effect
+
+abbrev pub of_write : Option Write → Effect
+of_write None = nothing
+of_write (Some w) = write w
+
+-- what a reply writes: an outcome alone does
+abbrev pub written_by : Reply → Option Write
+written_by (outcome o) = write_of o
+written_by (shown k ls) = None
+written_by (compacted h) = None
+
+-- a compaction that is refused changes nothing
+abbrev pub of_compaction : ℕ → Result Server Refusal → Effect
+of_compaction r (Err f) = nothing
+of_compaction r (Ok s) = compaction r
+
+-- what a line changes
+abbrev pub effect_on : SessionState → Line → Effect
+effect_on s (ask method target body) = of_write (written_by (reply_for s (read_request method target body)))
+effect_on s (at t) = moment t
+effect_on s (compact r) = of_compaction r (compact_by s.server r)
+effect_on s unreadable = nothing
+
+-- the session once it has changed
+abbrev pub changed_by : SessionState → Effect → SessionState
+changed_by s nothing = s
+changed_by s (write w) = record s { server = after_write s.server w }
+changed_by s (moment t) = record s { moment = t }
+changed_by s (compaction r) = record s { server = server_or s.server (compact_by s.server r) }
+
+-- there is room for what is written
+abbrev pub HasRoom : SessionState → Effect → Type 0
+HasRoom s (write w) = overflows s.server.snapshot.members s.server.snapshot.revision w ≡ false
+HasRoom s nothing = Unit {0}
+HasRoom s (moment t) = Unit {0}
+HasRoom s (compaction r) = Unit {0}

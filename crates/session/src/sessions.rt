@@ -1,4 +1,5 @@
 //! Sessions.
+use crate::effects::{Effect, Prepared};
 use crate::lines::{change_lines, fault_line, initial_lines, line, refusal_line, success_line};
 use asked::{Asked, read_request};
 use definitions::methods::Method;
@@ -39,14 +40,14 @@ impl Model for Session {
 }
 
 impl Session {
-    ghost use Rattle.std.specs.Prelude.{◌≡◌, IfOk, OnOk, OnErr, IfSome, option_map, false};
+    ghost use Rattle.std.specs.Prelude.{◌≡◌, IfOk, OnOk, OnErr, false};
     ghost use Rattle.answers.specs.Serves as answers;
     ghost use Rattle.desk.specs.Replies.{Lists};
     ghost use Rattle.revisions.specs.Watches.{watched_of};
     ghost use Rattle.watch_cache.specs.Served.{Serves};
     ghost use Rattle.definitions.specs.Replies.{outcome, watch_reply};
     ghost use Rattle.line_protocol.specs.Lines.{reply_text};
-    ghost use Rattle.server_state.specs.Servers.{list_served, after_writing, compact_by, watch_by, watch_served};
+    ghost use Rattle.server_state.specs.Servers.{list_served, after_write, compact_by, watch_by, watch_served};
     ghost use Rattle.definitions.specs.Targets as targets;
     ghost use Rattle.definitions.specs.Verbs as outcomes;
     ghost use Rattle.definitions.specs.Verbs.{overflows};
@@ -54,7 +55,8 @@ impl Session {
     ghost use Rattle.requests.specs.Collected.{list_seen, watch_seen};
     ghost use Rattle.selector.specs.Views.{view_of};
     ghost use Rattle.line_protocol.specs.Lines.{line_of};
-    ghost use Rattle.session.specs.SessionStates.{begun, accepted, reply_for, reply_to, state_after, compact_text, server_from, server_or};
+    ghost use Rattle.session.specs.Effects.{effect_of};
+    ghost use Rattle.session.specs.SessionStates.{begun, accepted, reply_for, reply_to, state_after, compact_text, server_or, of_write, written_by, of_compaction, effect_on, changed_by, HasRoom};
     ghost use Rattle.requests.specs.Requests.{request_of};
 
     /// Returns a session over a server where nothing is there, at the start of 2026, that keeps the last `window` changes of
@@ -76,40 +78,18 @@ impl Session {
         self.server.answer(alloc, request, self.moment)
     }
 
-    /// Takes what a reply writes, for which there is room. An error, running out of memory, changes nothing.
-    fn take(&mut self, write: Option<Write>) -> Result<(), AllocError>
-        requires { IfSome (option_map write_of write) (λ w.
-            overflows self.old.server.snapshot.members self.old.server.snapshot.revision w ≡ false) }
-        ensures server { OnOk result (self.new.server ≡ after_writing self.old.server (option_map write_of write)) }
-        ensures moment { self.new.moment ≡ self.old.moment }
-        ensures err { OnErr result (self.new ≡ self.old) }
-    {
-        let Some(write) = write else {
-            return Ok(());
-        };
-        match self.server.take(write) {
-            Ok(()) => Ok(()),
-            Err(_) => Err(AllocError),
-        }
-    }
-
-    /// Returns the reply line to a request, after which what it writes is written. An error, running out of memory, changes
-    /// nothing.
-    fn accept(&mut self, alloc: Global, request: Request) -> Result<Vec<u8>, AllocError>
-        ensures text { IfOk result (λ l. l.items ≡ reply_text (outcome (accepted self.old (request_of request)))) }
-        ensures server { OnOk result (self.new.server
-            ≡ after_writing self.old.server (outcomes.write_of (accepted self.old (request_of request)))) }
-        ensures moment { self.new.moment ≡ self.old.moment }
-        ensures err { OnErr result (self.new ≡ self.old) }
+    /// Returns the reply line to a request, and what it writes. The error is running out of memory.
+    fn prepare_request(&self, alloc: Global, request: Request) -> Result<Prepared, AllocError>
+        ensures reply { IfOk result (λ p. p.reply.items ≡ reply_text (outcome (accepted self.now (request_of request)))) }
+        ensures effect { IfOk result (λ p. effect_of p.effect ≡ of_write (outcomes.write_of (accepted self.now (request_of request)))) }
     {
         match self.outcome(alloc, request) {
-            Ok((reply, write)) => {
-                let text = line(alloc, reply.code, reply.text.as_str())?;
-                self.take(write)?;
-                Ok(text)
-            }
+            Ok((reply, write)) => Ok(Prepared {
+                reply: line(alloc, reply.code, reply.text.as_str())?,
+                effect: Effect::of_write(write),
+            }),
             Err(Fault::NoMemory) => Err(AllocError),
-            Err(fault) => refusal_line(alloc, &fault),
+            Err(fault) => Ok(Prepared::unchanged(refusal_line(alloc, &fault)?)),
         }
     }
 
@@ -159,6 +139,110 @@ impl Session {
         }
     }
 
+    /// Returns the reply line to what is asked, and what it writes. The error is running out of memory.
+    fn prepare_asked(
+        &self,
+        alloc: Global,
+        method: Method,
+        target: &[u8],
+        body: &[u8],
+    ) -> Result<Prepared, AllocError>
+        ensures reply { IfOk result (λ p. p.reply.items
+            ≡ reply_text (reply_for self.now (targets.read_request method target.now body.now))) }
+        ensures effect { IfOk result (λ p. effect_of p.effect
+            ≡ of_write (written_by (reply_for self.now (targets.read_request method target.now body.now)))) }
+    {
+        match read_request(alloc, &self.routes, method, target, body) {
+            Ok(Asked::Request(request)) => self.prepare_request(alloc, request),
+            Ok(Asked::List { view, options }) => {
+                Ok(Prepared::unchanged(self.list(alloc, &view, &options)?))
+            }
+            Ok(Asked::Watch { view, options }) => {
+                Ok(Prepared::unchanged(self.show(alloc, &view, options)?))
+            }
+            Err(Fault::NoMemory) => Err(AllocError),
+            Err(fault) => Ok(Prepared::unchanged(refusal_line(alloc, &fault)?)),
+        }
+    }
+
+    /// Returns the reply line to a compaction, which is refused above the present revision. The error is running out of memory.
+    fn prepare_compaction(&self, alloc: Global, revision: u64) -> Result<Prepared, AllocError>
+        ensures reply { IfOk result (λ p. p.reply.items ≡ compact_text (compact_by self.now.server revision)) }
+        ensures effect { IfOk result (λ p. effect_of p.effect ≡ of_compaction revision (compact_by self.now.server revision)) }
+    {
+        let present = self.server.revision();
+        if present < revision {
+            let fault = Fault::TooNew {
+                asked: revision,
+                present,
+            };
+            return Ok(Prepared::unchanged(refusal_line(alloc, &fault)?));
+        }
+        Ok(Prepared {
+            reply: success_line(alloc)?,
+            effect: Effect::Compaction(revision),
+        })
+    }
+
+    /// Returns the reply to a line, which is not skipped where it is empty, and what changes by it. Nothing changes yet: whoever
+    /// has to make something of the effect first, commits it with `commit` then. The error is running out of memory.
+    pub fn prepare(&self, alloc: Global, text: &[u8]) -> Result<Prepared, AllocError>
+        ensures reply { IfOk result (λ p. p.reply.items ≡ reply_to self.now (line_of text.now)) }
+        ensures effect { IfOk result (λ p. effect_of p.effect ≡ effect_on self.now (line_of text.now)) }
+    {
+        match read_line(text) {
+            Line::Ask {
+                method,
+                target,
+                body,
+            } => self.prepare_asked(alloc, method, target, body),
+            Line::At(moment) => Ok(Prepared {
+                reply: Vec::new(alloc),
+                effect: Effect::Moment(moment),
+            }),
+            Line::Compact(revision) => self.prepare_compaction(alloc, revision),
+            Line::Unreadable => {
+                let reply = refusal_line(alloc, &Fault::BadRequest(Part::Head))?;
+                Ok(Prepared::unchanged(reply))
+            }
+        }
+    }
+
+    /// Makes a write for which there is room. An error, running out of memory, changes nothing.
+    fn write(&mut self, write: Write) -> Result<(), AllocError>
+        requires { overflows self.old.server.snapshot.members self.old.server.snapshot.revision (write_of write) ≡ false }
+        ensures server { OnOk result (self.new.server ≡ after_write self.old.server (write_of write)) }
+        ensures moment { self.new.moment ≡ self.old.moment }
+        ensures err { OnErr result (self.new ≡ self.old) }
+    {
+        match self.server.take(write) {
+            Ok(()) => Ok(()),
+            Err(_) => Err(AllocError),
+        }
+    }
+
+    /// Changes what a line changes, for which there is room, as there is for what `prepare` returns. An error, running out of
+    /// memory, changes nothing.
+    pub fn commit(&mut self, effect: Effect) -> Result<(), AllocError>
+        requires { HasRoom self.old (effect_of effect) }
+        ensures ok { OnOk result (self.new ≡ changed_by self.old (effect_of effect)) }
+        ensures err { OnErr result (self.new ≡ self.old) }
+    {
+        match effect {
+            Effect::Nothing => Ok(()),
+            Effect::Write(write) => self.write(write),
+            Effect::Moment(moment) => {
+                self.moment = moment;
+                Ok(())
+            }
+            Effect::Compaction(revision) => {
+                // One above the present revision is refused, and changes nothing.
+                drop(self.server.compact(revision));
+                Ok(())
+            }
+        }
+    }
+
     /// Returns the reply line to a compaction. An error, running out of memory, changes nothing.
     pub fn compact(&mut self, alloc: Global, revision: u64) -> Result<Vec<u8>, AllocError>
         ensures text { IfOk result (λ l. l.items ≡ compact_text (compact_by self.old.server revision)) }
@@ -166,36 +250,9 @@ impl Session {
         ensures moment { self.new.moment ≡ self.old.moment }
         ensures err { OnErr result (self.new ≡ self.old) }
     {
-        let text = success_line(alloc)?;
-        match self.server.compact(revision) {
-            Ok(()) => Ok(text),
-            Err(fault) => refusal_line(alloc, &fault),
-        }
-    }
-
-    /// Returns the reply lines to what is asked, after which what it writes is written. An error, running out of memory,
-    /// changes nothing.
-    fn answer(
-        &mut self,
-        alloc: Global,
-        method: Method,
-        target: &[u8],
-        body: &[u8],
-    ) -> Result<Vec<u8>, AllocError>
-        ensures text { IfOk result (λ l. l.items
-            ≡ reply_text (reply_for self.old (targets.read_request method target.now body.now))) }
-        ensures server { OnOk result (self.new.server
-            ≡ server_from self.old.server (reply_for self.old (targets.read_request method target.now body.now))) }
-        ensures moment { self.new.moment ≡ self.old.moment }
-        ensures err { OnErr result (self.new ≡ self.old) }
-    {
-        match read_request(alloc, &self.routes, method, target, body) {
-            Ok(Asked::Request(request)) => self.accept(alloc, request),
-            Ok(Asked::List { view, options }) => self.list(alloc, &view, &options),
-            Ok(Asked::Watch { view, options }) => self.show(alloc, &view, options),
-            Err(Fault::NoMemory) => Err(AllocError),
-            Err(fault) => refusal_line(alloc, &fault),
-        }
+        let Prepared { reply, effect } = self.prepare_compaction(alloc, revision)?;
+        self.commit(effect)?;
+        Ok(reply)
     }
 
     /// Returns the reply to a line, which is not skipped where it is empty, after which what it writes is written. An error,
@@ -205,19 +262,9 @@ impl Session {
         ensures state { OnOk result (self.new ≡ state_after self.old (line_of text.now)) }
         ensures err { OnErr result (self.new ≡ self.old) }
     {
-        match read_line(text) {
-            Line::Ask {
-                method,
-                target,
-                body,
-            } => self.answer(alloc, method, target, body),
-            Line::At(moment) => {
-                self.moment = moment;
-                Ok(Vec::new(alloc))
-            }
-            Line::Compact(revision) => self.compact(alloc, revision),
-            Line::Unreadable => refusal_line(alloc, &Fault::BadRequest(Part::Head)),
-        }
+        let Prepared { reply, effect } = self.prepare(alloc, text)?;
+        self.commit(effect)?;
+        Ok(reply)
     }
 
     /// Returns the server.

@@ -124,7 +124,7 @@ module _ (k : Kind) where
   rise_server : (c : Cluster) (s : Session) → at c ≤ at (record c { session = s })
   rise_server c s = with_session (λ k f. (follower k c).informer.published.revision ≤ f.informer.published.revision) c s (λ k. omega arith) k
 
-  rise_one : (c : Cluster) (s : ClusterStep) → NoRestart (s ∷ []) → IsFollowed c → at c ≤ at (step c s).cluster
+  pub rise_one : (c : Cluster) (s : ClusterStep) → NoRestart (s ∷ []) → IsFollowed c → at c ≤ at (step c s).cluster
   rise_one c (request t) none is = rise_server c (session_after c.session (line_of t))
   rise_one c (compact r) none is = rise_server c (session_after c.session (lines.compact r))
   rise_one c (moves j m) none is =

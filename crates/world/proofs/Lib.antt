@@ -1,0 +1,5 @@
+pub mod RecordedWrites
+pub mod Stood
+pub mod Headlines
+pub mod Answered
+pub mod Taking

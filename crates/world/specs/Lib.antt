@@ -1,0 +1,4 @@
+pub mod RecordedStates
+pub mod WorldStates
+pub mod Standing
+pub mod Headline

@@ -1,0 +1,14 @@
+//! A simulated cluster in code: a server, and what follows each kind of it, step by step.
+//!
+//! Each step is one atomic step of one actor, and its contract is the definition's: what is told, and the world after it. A step
+//! that runs out of memory changes nothing. Whatever steps are taken, each published map is the server's list at the revision that
+//! is published with it, that revision falls by a restart alone, and a write that names a version replaced just that version: each
+//! is said by the journal of all writes, which a world keeps beside its server.
+#![tactic(auto)]
+
+pub mod recorded;
+pub mod stopped;
+pub mod worlds;
+
+pub use stopped::Stopped;
+pub use worlds::World;
