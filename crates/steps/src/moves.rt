@@ -1,4 +1,7 @@
 //! What a follower does.
+ghost use Rattle.std.specs.Prelude.{◌≡◌, option_map};
+
+use crate::words::{is, number};
 
 /// What a follower and its link do in one step.
 #[derive(Debug, Clone, Copy, PartialEq, Eq)]
@@ -19,4 +22,61 @@ pub enum Move {
     Cut,
     /// What waits is published.
     Publish,
+}
+
+impl Move {
+    ghost use Rattle.simulation.specs.StepLines.{move_named, send_of, deliver_of, move_with};
+    ghost use Rattle.steps.specs.Steps.{move_of};
+
+    /// Returns the move that a verb alone asks for.
+    pub(crate) fn named(verb: &[u8]) -> Option<Move>
+        ensures { option_map move_of result ≡ move_named verb.now }
+    {
+        if is(verb, "list") {
+            Some(Move::List)
+        } else if is(verb, "watch") {
+            Some(Move::Watch)
+        } else if is(verb, "cut") {
+            Some(Move::Cut)
+        } else if is(verb, "publish") {
+            Some(Move::Publish)
+        } else {
+            None
+        }
+    }
+
+    /// Returns the move by which so many changes are written, or a bookmark.
+    fn send(amount: &[u8]) -> Option<Move>
+        ensures { option_map move_of result ≡ send_of amount.now }
+    {
+        if is(amount, "bookmark") {
+            return Some(Move::SendBookmark);
+        }
+        let count = number(amount)?;
+        Some(Move::Send(count))
+    }
+
+    /// Returns the move by which so many bytes are delivered, or all.
+    fn deliver(amount: &[u8]) -> Option<Move>
+        ensures { option_map move_of result ≡ deliver_of amount.now }
+    {
+        if is(amount, "all") {
+            return Some(Move::DeliverAll);
+        }
+        let count = number(amount)?;
+        Some(Move::Deliver(count))
+    }
+
+    /// Returns the move that a verb asks for with how much.
+    pub(crate) fn with(verb: &[u8], amount: &[u8]) -> Option<Move>
+        ensures { option_map move_of result ≡ move_with verb.now amount.now }
+    {
+        if is(verb, "send") {
+            Move::send(amount)
+        } else if is(verb, "deliver") {
+            Move::deliver(amount)
+        } else {
+            None
+        }
+    }
 }

@@ -1,0 +1,5 @@
+use Rattle.steps.proofs.Digits.{no_revision}
+use Rattle.steps.proofs.steps.revision.Goals as goal
+
+pub returns-in-Err : goal.returns-in-Err
+returns-in-Err c = no_revision c.args.text.now c.in-Err.ensures.cases.0

@@ -1,0 +1,11 @@
+use Rattle.std.proofs.Common.{rules, tests, ◌∙◌}
+use Rattle.std.proofs.lemmas.Iterator.{YieldsList-from_slice}
+use Rattle.std.proofs.lemmas.Iterator.Search.{find_from_yields_List}
+use Rattle.std.specs.Str.{bytes_eq}
+use Rattle.definitions.specs.Kinds.{kinds, plural}
+use Rattle.steps.proofs.words.kind.Goals as goal
+
+pub returns : goal.returns
+returns c =
+    c.copied.ensures
+    ∙ find_from_yields_List (λ k. bytes_eq c.args.word.now (plural k)) _ _ _ c.find.ensures.ran (YieldsList-from_slice kinds cc) (λ x b q k. search (rules, tests))
