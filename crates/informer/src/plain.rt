@@ -26,11 +26,12 @@ impl Model for PlainInformer {
 }
 
 impl PlainInformer {
-    ghost use Rattle.std.specs.Prelude.{◌≡◌, IfOk, IfErr, OnOk, OnErr, map};
+    ghost use Rattle.std.specs.Prelude.{◌≡◌, IfOk, IfErr, OnOk, OnErr, length, map};
     ghost use Rattle.controllers.specs.Informers.{begun, appended, after_publish};
     ghost use Rattle.controllers.specs.Shifts.{all_shifts};
-    ghost use Rattle.reflector.specs.Deltas.{delta_of};
+    ghost use Rattle.reflector.specs.Deltas.{delta_of, deltas_of};
     ghost use Rattle.indexer.specs.Shifted.{shift_of};
+    ghost use Rattle.informer.specs.Appended.{all_appended};
 
     /// Returns an informer that has published nothing yet: an empty map at revision 0.
     pub fn new(alloc: Global) -> PlainInformer
@@ -51,6 +52,22 @@ impl PlainInformer {
         ensures returned { IfErr result (λ e. e.value ≡ delta) }
     {
         self.waiting.push(delta)
+    }
+
+    /// Appends deltas, which wait for the next publish. The error is running out of memory, and changes nothing.
+    pub fn append_all(&mut self, deltas: Vec<Delta>) -> Result<(), AllocError>
+        ensures ok { OnOk result (self.new ≡ all_appended self.old (deltas_of deltas.items)) }
+        ensures err { OnErr result (self.new ≡ self.old) }
+    {
+        let mut more = deltas;
+        self.waiting.append(&mut more)
+    }
+
+    /// Returns how many deltas wait for the next publish. It takes no memory.
+    pub fn waiting(&self) -> usize
+        ensures { result ≡ length self.now.pending }
+    {
+        self.waiting.len()
     }
 
     /// Publishes the deltas that wait, all of them, and returns what they change, delta by delta. The error is running out of

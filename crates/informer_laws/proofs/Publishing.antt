@@ -80,7 +80,7 @@ pub applied_both : (m : Snapshot) (ds es : List Delta) → all_applied m (ds ++ 
 applied_both m [] es = refl
 applied_both m (d ∷ ds) es = applied_both (applied m d) ds es
 
-all_fed_names : (ps : List (List ℕ)) (s : Reflector) (m : Snapshot) → m.revision ≡ s.revision → (all_applied m (all_fed s ps).deltas).revision ≡ (all_fed s ps).after.revision
+pub all_fed_names : (ps : List (List ℕ)) (s : Reflector) (m : Snapshot) → m.revision ≡ s.revision → (all_applied m (all_fed s ps).deltas).revision ≡ (all_fed s ps).after.revision
 all_fed_names [] s m at = at
 all_fed_names (p ∷ ps) s m at =
     ap (λ (m : Snapshot). m.revision) (applied_both m (fed s p).deltas (all_fed (fed s p).after ps).deltas) ∙ all_fed_names ps (fed s p).after (all_applied m (fed s p).deltas) (fed_names s p m at)

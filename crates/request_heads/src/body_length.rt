@@ -1,5 +1,5 @@
 //! How long a body is, as its head says.
-ghost use Rattle.std.specs.Prelude.{◌≡◌, ◌≤◌, ◌<◌, IfSome, map, true, None, IsTrue, codes};
+ghost use Rattle.std.specs.Prelude.{◌≡◌, ◌≤◌, ◌<◌, ◌^◌, IfSome, map, true, None, IsTrue, codes};
 ghost use Rattle.std.specs.Str.Parse.{digits_value};
 ghost use Rattle.definitions.specs.Targets.{longest_body};
 ghost use Rattle.connections.specs.Heads.{values_of, is_number, one_number, length_in};
@@ -24,7 +24,7 @@ pub enum BodyLength {
 pub const LONGEST_BODY: usize = 1_048_576;
 
 /// Returns whether a text is one digit or more, and nothing else.
-fn is_number(text: &[u8]) -> bool
+pub fn is_number(text: &[u8]) -> bool
     ensures { result ≡ is_number text.now }
 {
     for byte in text {
@@ -35,22 +35,23 @@ fn is_number(text: &[u8]) -> bool
     !text.is_empty()
 }
 
-/// Returns the number that digits write, however many, if a body may be as long.
+/// Returns the number that digits write, however many, if it is not above a limit.
 #[tactic(auto, using(crate::proofs::Numbers::grows))]
-fn number_of(text: &[u8]) -> Option<usize>
-    requires { IsTrue (is_number text.now) }
+pub fn number_of(text: &[u8], limit: usize) -> Option<usize>
+    requires digits { IsTrue (is_number text.now) }
+    requires limit { limit ≤ 2 ^ 59 }
     ensures some { IfSome result (λ n. n ≡ digits_value 10 text.now) }
-    ensures limit { IfSome result (λ n. n ≤ longest_body) }
-    ensures none { result ≡ None → longest_body < digits_value 10 text.now }
+    ensures limit { IfSome result (λ n. n ≤ limit) }
+    ensures none { result ≡ None → limit < digits_value 10 text.now }
 {
     let mut number = 0;
     for byte in text {
-        if number > LONGEST_BODY {
+        if number > limit {
             return None;
         }
         number = number * 10 + usize::from(*byte - b'0');
     }
-    if number > LONGEST_BODY {
+    if number > limit {
         return None;
     }
     Some(number)
@@ -63,7 +64,7 @@ fn length_of(text: &[u8]) -> BodyLength
     if !is_number(text) {
         return BodyLength::Bad;
     }
-    match number_of(text) {
+    match number_of(text, LONGEST_BODY) {
         Some(n) => BodyLength::Stated(n),
         None => BodyLength::TooLong,
     }

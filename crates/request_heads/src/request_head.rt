@@ -21,7 +21,7 @@ pub struct RequestHead<'a> {
 }
 
 /// Returns the fields that spans cover.
-fn fields_of<'a>(
+pub fn fields_of<'a>(
     alloc: Global,
     bytes: &'a [u8],
     spans: &[HeaderSpan],

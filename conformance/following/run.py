@@ -1,0 +1,196 @@
+#!/usr/bin/env python3
+"""Has a follower keep a copy of the ConfigMaps of a `kcp serve` while clients write and a proxy between cuts its connections.
+
+The follower is the program `watch_example`. Meanwhile clients create, replace and delete ConfigMaps, each under names of its own, and
+the proxy relays in pieces of random sizes, cuts watches anywhere and a list, and at times takes no connections, until what the follower
+asks for is no longer known and it has to list again. Each write takes one revision, so that the last is known. At the end the follower's copy
+is compared with the server's list, and the changes that it told with both.
+Usage: run.py --program PATH [--follower PATH] [--writes N] [--cuts N] [--clients N] [--rate N] [--seed N] [--short]
+"""
+import argparse
+import http.client
+import json
+import pathlib
+import random
+import re
+import subprocess
+import sys
+import threading
+import time
+
+from proxy import Proxy
+
+ROOT = pathlib.Path(__file__).resolve().parent.parent.parent
+PATH = "/api/v1/namespaces/default/configmaps"
+NAMES = 12
+WINDOW = 128
+PATIENCE = 60
+# How long the proxy takes no connections, each time.
+DOWN_SECONDS = 0.3
+# Which part of the time in which clients write the cuts take.
+CUTTING = 0.6
+LIMIT_SECONDS = 600
+BUILD_SECONDS = 3600
+
+
+class Client:
+    """A client that writes under names of its own."""
+
+    def __init__(self, port, number, seed):
+        self.port, self.number, self.rolls, self.known, self.refused = port, number, random.Random(seed), {}, 0
+
+    def ask(self, method, path, body=None):
+        """Asks over a connection of its own, and returns the status and what was answered."""
+        connection = http.client.HTTPConnection("127.0.0.1", self.port, timeout=PATIENCE)
+        connection.request(method, path, None if body is None else json.dumps(body), {"Content-Type": "application/json"} if body else {})
+        reply = connection.getresponse()
+        value = json.loads(reply.read())
+        connection.close()
+        return reply.status, value
+
+    def write(self, count):
+        """Makes a write that has to be accepted."""
+        name = f"map-{self.number}-{self.rolls.randrange(NAMES)}"
+        if name not in self.known:
+            status, value = self.ask("POST", PATH, {"metadata": {"name": name}, "data": {"count": str(count)}})
+        elif self.rolls.random() < 0.7:
+            text = "\u00e9\n\"" * self.rolls.randrange(40)
+            status, value = self.ask("PUT", f"{PATH}/{name}", self.known[name] | {"data": {"count": str(count), "text": text}})
+        else:
+            status, value = self.ask("DELETE", f"{PATH}/{name}")
+            self.known.pop(name)
+            value = None
+        self.refused += status not in (200, 201)
+        if value is not None:
+            self.known[name] = value
+
+    def run(self, writes, rate):
+        """Makes so many writes, at most so many a second."""
+        began = time.monotonic()
+        for count in range(writes):
+            time.sleep(max(0.0, began + count / rate - time.monotonic()))
+            self.write(count)
+
+
+def built(path):
+    """Returns the follower, built with a first run, which asks nothing, where none is given."""
+    if path:
+        return path
+    crate = ROOT / "crates" / "watch_example"
+    subprocess.run(["rt", "run"], cwd=crate, stdin=subprocess.DEVNULL, stdout=sys.stderr, timeout=BUILD_SECONDS)
+    return str(crate / "out" / "watch_example")
+
+
+def serve(program):
+    """Starts a server, and returns it with its port."""
+    words = [program, "serve", "--port", "0", "--window", str(WINDOW), "--threads", "16"]
+    started = subprocess.Popen(words, stdout=subprocess.PIPE)
+    return started, int(re.fullmatch(rb"listening 127\.0\.0\.1:(\d+)\n", started.stdout.readline())[1])
+
+
+def trouble(proxy, seconds, cuts, downs, seed):
+    """Cuts so many watches within about so many seconds, and after some of the cuts takes no connections for a span."""
+    rolls, ended = random.Random(seed), time.monotonic() + LIMIT_SECONDS / 2
+    while proxy.cuts < cuts and time.monotonic() < ended:
+        time.sleep(rolls.uniform(0.5, 1.5) * seconds / cuts)
+        if proxy.cut() and proxy.cuts in downs:
+            proxy.go_down(DOWN_SECONDS)
+
+
+def replayed(lines):
+    """Returns the map that the told changes make, the last map that was printed, the published revisions, and what does not fit."""
+    made, printed, revisions, wrong = {}, {}, [], []
+    for line in lines:
+        words = line.split()
+        if words[0] in ("added", "modified", "deleted"):
+            if (words[0] == "added") == (words[1] in made):
+                wrong.append(line)
+            made[words[1]] = words[2]
+            if words[0] == "deleted":
+                made.pop(words[1])
+        elif words[0] == "published":
+            revisions.append(int(words[2]))
+            if len(made) != int(words[3]) or revisions[-1] < max(revisions):
+                wrong.append(line)
+        else:
+            printed[words[0]] = words[1]
+    return made, printed, revisions, wrong
+
+
+def listed(port):
+    """Returns the server's list as the follower prints it, and its revision."""
+    _, value = Client(port, 0, 0).ask("GET", PATH)
+    rows = {f"{it['metadata']['namespace']}/{it['metadata']['name']}": it["metadata"]["resourceVersion"] for it in value["items"]}
+    return rows, int(value["metadata"]["resourceVersion"])
+
+
+def follow(asked, port, follower):
+    """Has the follower follow while clients write, and returns its lines, its status, the clients and the proxy."""
+    proxy, until = Proxy(port, asked.seed, 0 if asked.short else 1), listed(port)[1] + asked.writes
+    words = [follower, "--server", f"127.0.0.1:{proxy.port}", "ConfigMap", "--until", str(until)]
+    started = subprocess.Popen(words, stdout=subprocess.PIPE, text=True, encoding="utf-8")
+    lines, each = [], asked.writes // asked.clients
+    reader = threading.Thread(target=lambda: lines.extend(line.rstrip("\n") for line in started.stdout), daemon=True)
+    clients = [Client(port, number, asked.seed + number) for number in range(asked.clients)]
+    shares = [each + (number < asked.writes % asked.clients) for number in range(asked.clients)]
+    threads = [threading.Thread(target=it.run, args=(share, asked.rate / asked.clients), daemon=True) for it, share in zip(clients, shares)]
+    downs = {asked.cuts} if asked.short else {asked.cuts // 2, asked.cuts}
+    cutting = (proxy, CUTTING * asked.writes / asked.rate, asked.cuts, downs, asked.seed)
+    threads.append(threading.Thread(target=trouble, args=cutting, daemon=True))
+    for thread in [reader, *threads]:
+        thread.start()
+    for thread in threads:
+        thread.join(LIMIT_SECONDS)
+    try:
+        status = started.wait(LIMIT_SECONDS)
+    except subprocess.TimeoutExpired:
+        started.kill()
+        status = None
+    reader.join(PATIENCE)
+    proxy.close()
+    return lines, status, clients, proxy
+
+
+def main():
+    parser = argparse.ArgumentParser(description=__doc__.splitlines()[0])
+    parser.add_argument("--program", required=True)
+    parser.add_argument("--follower")
+    parser.add_argument("--short", action="store_true", help="1,500 writes and 12 cuts, in about 6 seconds")
+    for name, default in (("writes", 10_000), ("cuts", 100), ("clients", 8), ("rate", 400), ("seed", 1)):
+        parser.add_argument(f"--{name}", type=int, default=default)
+    asked = parser.parse_args()
+    if asked.short:
+        asked.writes, asked.cuts = 1_500, 12
+    follower, began = built(asked.follower), time.monotonic()
+    server, port = serve(asked.program)
+    try:
+        lines, status, clients, proxy = follow(asked, port, follower)
+        rows, revision = listed(port)
+    finally:
+        server.terminate()
+        server.wait(PATIENCE)
+    made, printed, revisions, wrong = replayed(lines)
+    checks = {
+        "each write was accepted": sum(it.refused for it in clients) == 0,
+        "the follower ended by itself": status == 0,
+        "it published the last revision": revisions[-1:] == [revision],
+        "its copy is the server's list": printed == rows,
+        "the changes that it told make that list": made == rows,
+        "each change fits what was there, and no revision falls": not wrong,
+        "watches were cut": proxy.cuts >= asked.cuts,
+        "what it asked for was no longer known, and it listed again": proxy.expiries > 0 and proxy.lists > 1,
+    }
+    for what in (what for what, holds in checks.items() if not holds):
+        print(f"FAILED {what}")
+    for line in wrong[:10]:
+        print(f"  {line}")
+    print(
+        f"{asked.writes} writes, {proxy.cuts} cuts, {proxy.lists} lists, {proxy.watches} watches, {proxy.expiries} expiries, {len(revisions)} publishes,"
+        f" {len(rows)} objects, {time.monotonic() - began:.1f} s"
+    )
+    print(f"{sum(checks.values())} passed, {len(checks) - sum(checks.values())} failed")
+    return 0 if all(checks.values()) else 1
+
+
+if __name__ == "__main__":
+    sys.exit(main())

@@ -1,0 +1,5 @@
+pub mod Framings
+pub mod Heads
+pub mod Replies
+pub mod Watches
+pub mod WholeBodies

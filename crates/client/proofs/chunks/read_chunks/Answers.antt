@@ -1,0 +1,39 @@
+use Rattle.std.proofs.Common.{rules, ◌≡◌, [], false, sym, subst}
+use Rattle.chunked.specs.Reading.{Reaches, place_of, left_of}
+use Rattle.chunked.specs.declared.place.Place.{Place}
+use Rattle.chunked.specs.declared.place.Place.TheVariants as place
+use Rattle.chunked.proofs.Passing.{reaches_stay}
+use Rattle.client.proofs.WholeBodies.{reaches_more, stopped}
+use Rattle.client.proofs.chunks.read_chunks.Goals as goal
+
+pub loop-init : goal.loop-init
+loop-init g c =
+    let left = left_of g.R.Read.remaining c.args.chunks.now in
+    let here : Reaches place.Line left [] (place_of c.args.chunks.now) left = subst (λ p. Reaches place.Line left [] p left) (sym c.requires.start) (reaches_stay left place.Line) in
+    (subst (λ t. Reaches place.Line left t (place_of c.args.chunks.now) left) (sym c.new-body.ensures.items) here, c.requires.sound)
+
+pub returns-in-Ok-false-clause-read : goal.returns-in-Ok-false-clause-read
+returns-in-Ok-false-clause-read g c =
+    let first = left_of g.R.Read.remaining c.args.chunks.now in
+    let mid = left_of g.R.Read.remaining c.loop.chunks in
+    let last = left_of g.R.Read.remaining c.read_piece.new.chunks in
+    let more = c.in-Ok-false.ensures.read in
+    let none : c.in-Ok-false.field-0 ≡ false = search rules in
+    let ended : place_of c.read_piece.new.chunks ≡ place.Ended = c.in-Ok-false.ensures.end none in
+    subst (λ (p : Place). Reaches place.Line first c.read_piece.new.body.items p last) ended
+    (reaches_more first mid last place.Line (place_of c.loop.chunks) (place_of c.read_piece.new.chunks) c.loop.body.items more.0 c.read_piece.new.body.items c.loop.invariant.0 more.2 more.1)
+
+pub returns-in-Err-clause-none : goal.returns-in-Err-clause-none
+returns-in-Err-clause-none g c = λ is.
+    stopped (left_of g.R.Read.remaining c.args.chunks.now) (left_of g.R.Read.remaining c.loop.chunks) (left_of g.R.Read.remaining c.read_piece.new.chunks)
+    (place_of c.loop.chunks) c.loop.body.items c.loop.invariant.0 (c.in-Err.ensures.stops is)
+
+pub loop-preserved : goal.loop-preserved
+loop-preserved g c =
+    let first = left_of g.R.Read.remaining c.args.chunks.now in
+    let mid = left_of g.R.Read.remaining c.loop.chunks in
+    let last = left_of g.R.Read.remaining c.read_piece.new.chunks in
+    let more = c.in-Ok-true.ensures.read in (
+      reaches_more first mid last place.Line (place_of c.loop.chunks) (place_of c.read_piece.new.chunks) c.loop.body.items more.0 c.read_piece.new.body.items c.loop.invariant.0 more.2 more.1,
+      c.in-Ok-true.ensures.sound,
+    )

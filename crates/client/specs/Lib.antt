@@ -1,0 +1,7 @@
+-- The definitions, in reading order.
+pub mod Heads
+pub mod Reading
+pub mod Replies
+pub mod Bodies
+pub mod Calls
+pub mod Watches

@@ -1,0 +1,41 @@
+-- Watches that a client opens and reads.
+use Rattle.std.specs.Prelude.{◌≡◌, ◌<◌, ◌≤◌, ℕ, List, [], length, take, Option, Some, None, ⊤}
+use Rattle.exchanges.specs.Answers.{Says, OpensWatch}
+use Rattle.chunked.specs.Reading.{Reaches, Stops, place_of, answered_fault, left_of}
+use Rattle.chunked.specs.declared.fault.ChunkFault.{ChunkFault}
+use Rattle.chunked.specs.declared.place.Place.TheVariants as place
+use Rattle.chunked.specs.declared.reader.Reader.{Reader}
+use Rattle.client.specs.Heads.{SaysNothing}
+use Rattle.client.specs.Reading.{IfKnown}
+use Rattle.client.specs.declared.more.More.{More}
+use Rattle.client.specs.declared.more.More.TheVariants as more
+use Rattle.client.specs.declared.opening.Opening.{Opening}
+use Rattle.client.specs.declared.opening.Opening.TheVariants as opening
+
+-- the bytes say a reply of this code
+abbrev pub SaysCode : ℕ → List ℕ → Type 0
+SaysCode code bytes = (body : List ℕ) × Says bytes (record { code = code; body = body })
+
+-- the bytes say no reply, and open no watch
+abbrev pub OpensNothing : List ℕ → Type 0
+OpensNothing bytes = SaysNothing bytes × ((rest : List ℕ) → OpensWatch bytes rest → ⊥)
+
+-- what was read is the head of a watch, and what is left is what follows it
+abbrev pub IsOpen : Option (List ℕ) → Option (List ℕ) → Type 0
+IsOpen None after = ⊤
+IsOpen (Some bytes) None = ⊥
+IsOpen (Some bytes) (Some rest) = OpensWatch bytes rest
+
+abbrev pub IsOpening : Option (List ℕ) → Option (List ℕ) → Opening → Type 0
+IsOpening before after opening.Open = IsOpen before after
+IsOpening before after opening.Expired = IfKnown before (SaysCode 410)
+IsOpening before after (opening.Refused code) = ¬ (code ≡ 410) × IfKnown before (SaysCode code)
+
+-- the next bytes of a watch were read, and it has no fault; or it has ended; or it has a fault from now on, which says why no more can be read
+abbrev pub IsMore : {R : Type 0} → (R → Option (List ℕ)) → Reader R → Reader R → List ℕ → More → Type 0
+IsMore remaining old new buf (more.Bytes n) =
+    (0 < n) × (n ≤ length buf) × Reaches (place_of old) (left_of remaining old) (take n buf) (place_of new) (left_of remaining new) × (answered_fault new ≡ None)
+IsMore remaining old new buf more.End =
+    Reaches (place_of old) (left_of remaining old) [] place.Ended (left_of remaining new) × (place_of new ≡ place.Ended) × (answered_fault new ≡ None)
+IsMore remaining old new buf more.Cut =
+    (f : ChunkFault) × (answered_fault new ≡ Some f) × (answered_fault old ≡ None → Stops (place_of old) (left_of remaining old) (left_of remaining new) f)

@@ -1,0 +1,13 @@
+//! What becomes of a request.
+use crate::reply::Reply;
+
+/// What became of a request.
+#[derive(Drop)]
+pub enum Answer {
+    /// A server replied.
+    Replied(Reply),
+    /// Nothing was written of it.
+    NotSent,
+    /// It was written, whole or in part, and no whole reply has come: a server may have done it or not.
+    Lost,
+}

@@ -1,0 +1,64 @@
+//! How the end of a reply's body is known.
+ghost use Rattle.std.specs.Prelude.{map};
+ghost use Rattle.connections.specs.Heads.{one_number};
+ghost use Rattle.request_heads.specs.Fields.{field_seen};
+ghost use Rattle.client.specs.Heads.{IsFramed, IsFramedByLength};
+
+use request_heads::body_length::{is_number, number_of};
+use request_heads::field::{Field, count, first_value};
+
+/// The greatest length of a body that is read: more than memory has room for.
+const LONGEST_BODY: usize = 576_460_752_303_423_488;
+
+/// How the end of a reply's body is known (RFC 9112, Message Body Length).
+#[derive(Debug, Clone, Copy, PartialEq, Eq)]
+pub enum Framing {
+    /// By its length, in bytes.
+    Length(usize),
+    /// By its length, which is more than memory has room for.
+    TooLong,
+    /// By its last chunk.
+    Chunked,
+    /// In another way, or not at all.
+    Other,
+}
+
+/// Returns how the end of a body is known whose length is this text.
+fn framing_by_length(text: &[u8]) -> Framing
+    ensures { IsFramedByLength (one_number text.now) result }
+{
+    if !is_number(text) {
+        return Framing::Other;
+    }
+    match number_of(text, LONGEST_BODY) {
+        Some(length) => Framing::Length(length),
+        None => Framing::TooLong,
+    }
+}
+
+/// Returns how the end of a body is known by the fields of its head.
+pub fn framing_of(fields: &[Field<'_>]) -> Framing
+    ensures { IsFramed (map field_seen fields.now) result }
+{
+    match first_value(fields, b"transfer-encoding") {
+        Some(coding) => {
+            if count(fields, b"transfer-encoding") != 1 {
+                Framing::Other
+            } else if coding.eq_ignore_ascii_case(b"chunked") {
+                Framing::Chunked
+            } else {
+                Framing::Other
+            }
+        }
+        None => match first_value(fields, b"content-length") {
+            Some(text) => {
+                if count(fields, b"content-length") != 1 {
+                    Framing::Other
+                } else {
+                    framing_by_length(text)
+                }
+            }
+            None => Framing::Other,
+        },
+    }
+}

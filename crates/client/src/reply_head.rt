@@ -1,0 +1,66 @@
+//! Heads of replies.
+ghost use Rattle.std.specs.Prelude.{◌≡◌, IfOk, IfErr, false};
+ghost use Rattle.httparse.specs.Grammar.{ResponseHead};
+ghost use Rattle.httparse.specs.Spans.{IsResponseAt};
+ghost use Rattle.chunked.specs.Devices.{device_of, has_failed};
+ghost use Rattle.client.specs.Heads.{BeginsWithNoHead, IsHeadOf};
+ghost use Rattle.client.specs.Reading.{IsWatched, IsFound, IfKnown, ReadsHead};
+ghost use Rattle.client.specs.declared.fault.ReplyFault.TheVariants as fault;
+
+use crate::fault::ReplyFault;
+use crate::framing::{Framing, framing_of};
+use crate::reading::find_head;
+use chunked::Watched;
+use httparse::spans::{EMPTY_HEADER_SPAN, HeaderSpan, ResponseSpans};
+use request_heads::reading::MOST_FIELDS;
+use request_heads::request_head::fields_of;
+use std::alloc::{AllocError, Global};
+use std::io::Read;
+
+/// What counts of a reply's head (RFC 9112, Status Line).
+#[derive(Debug, Clone, Copy, PartialEq, Eq)]
+pub struct ReplyHead {
+    /// The status code.
+    pub code: u16,
+    /// How the end of the body is known.
+    pub framing: Framing,
+}
+
+/// Returns what counts of the head that was found at the front of these bytes.
+fn head_of(
+    alloc: Global,
+    bytes: &[u8],
+    found: ResponseSpans,
+    spans: &[HeaderSpan],
+) -> Result<ReplyHead, AllocError>
+    requires { IsFound bytes.now spans.now found }
+    ensures { IfOk result (λ r. (h : ResponseHead) → IsResponseAt bytes.now spans.now found h → IsHeadOf h r) }
+{
+    let fields = fields_of(alloc, bytes, &spans[..found.headers])?;
+    Ok(ReplyHead {
+        code: found.code,
+        framing: framing_of(&fields),
+    })
+}
+
+/// Reads the head of a reply, and nothing beyond it, within 16,384 bytes and 64 fields. The reader is read byte by byte: give one that is
+/// buffered.
+pub fn read_head<R: Read + Drop>(
+    alloc: Global,
+    reader: &mut Watched<R>,
+) -> Result<ReplyHead, ReplyFault>
+    requires { has_failed reader.old ≡ false }
+    ensures read { IfOk result (λ r. (h : ResponseHead) × ReadsHead (R.remaining (device_of reader.old)) (R.remaining (device_of reader.new)) h × IsHeadOf h r) }
+    ensures none { IfErr result (λ f. f ≡ fault.NotAReply → IfKnown (R.remaining (device_of reader.old)) BeginsWithNoHead) }
+    ensures watched { IsWatched (has_failed reader.new) result }
+{
+    let mut bytes = Vec::new(alloc);
+    let mut spans = [EMPTY_HEADER_SPAN; MOST_FIELDS];
+    match find_head(reader, &mut bytes, &mut spans) {
+        Ok(found) => {
+            let head = head_of(alloc, &bytes, found, &spans)?;
+            Ok(head)
+        }
+        Err(fault) => Err(fault),
+    }
+}

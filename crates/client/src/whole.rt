@@ -1,0 +1,93 @@
+//! Replies, read whole, however the end of their bodies is known.
+ghost use Rattle.std.specs.Prelude.{◌≡◌, IfOk, IfErr, true, false, Err};
+ghost use Rattle.chunked.specs.Devices.{device_of, has_failed};
+ghost use Rattle.client.specs.Bodies.{ReadsBody, HasNoBody};
+ghost use Rattle.client.specs.Replies.{replied, SaysWhole, SaysNoReply};
+ghost use Rattle.client.specs.Reading.{IfKnown};
+ghost use Rattle.client.specs.declared.fault.ReplyFault.TheVariants as fault;
+ghost use Rattle.client.specs.declared.framing.Framing.TheVariants as framing;
+
+use crate::body::read_body;
+use crate::chunks::read_chunks;
+use crate::fault::ReplyFault;
+use crate::framing::Framing;
+use crate::reply::Reply;
+use crate::reply_head::read_head;
+use chunked::{Reader, Watched};
+use std::alloc::Global;
+use std::io::Read;
+
+/// Reads a body of this length.
+fn body_of_length<R: Read + Drop>(
+    alloc: Global,
+    reader: Watched<R>,
+    size: usize,
+) -> Result<Vec<u8>, ReplyFault>
+    requires { has_failed reader ≡ false }
+    ensures read { IfOk result (λ body. ReadsBody (framing.Length size) (R.remaining (device_of reader)) body.items) }
+    ensures none { IfErr result (λ f. f ≡ fault.NotAReply → HasNoBody (framing.Length size) (R.remaining (device_of reader))) }
+{
+    let mut reader = reader;
+    match read_body(alloc, &mut reader, size) {
+        Ok(body) => Ok(body),
+        Err(fault) => Err(fault),
+    }
+}
+
+/// Reads a body in chunks.
+fn body_in_chunks<R: Read + Drop>(alloc: Global, reader: Watched<R>) -> Result<Vec<u8>, ReplyFault>
+    requires { has_failed reader ≡ false }
+    ensures read { IfOk result (λ body. ReadsBody framing.Chunked (R.remaining (device_of reader)) body.items) }
+    ensures none { IfErr result (λ f. f ≡ fault.NotAReply → HasNoBody framing.Chunked (R.remaining (device_of reader))) }
+{
+    let mut chunks = Reader::new(reader);
+    match read_chunks(alloc, &mut chunks) {
+        Ok(body) => Ok(body),
+        Err(fault) => Err(fault),
+    }
+}
+
+/// Reads a body whose end is known in this way.
+fn body_framed<R: Read + Drop>(
+    alloc: Global,
+    reader: Watched<R>,
+    framing: Framing,
+) -> Result<Vec<u8>, ReplyFault>
+    requires { has_failed reader ≡ false }
+    ensures read { IfOk result (λ body. ReadsBody framing (R.remaining (device_of reader)) body.items) }
+    ensures none { IfErr result (λ f. f ≡ fault.NotAReply → HasNoBody framing (R.remaining (device_of reader))) }
+{
+    match framing {
+        Framing::Length(size) => body_of_length(alloc, reader, size),
+        Framing::TooLong => Err(ReplyFault::OutOfMemory),
+        Framing::Chunked => body_in_chunks(alloc, reader),
+        Framing::Other => Err(ReplyFault::NotAReply),
+    }
+}
+
+/// Reads a reply: a head within 16,384 bytes and 64 fields, and a body of the length that it states, or in chunks. The reader is read
+/// byte by byte where the head and the lines of chunks are: give one that is buffered.
+///
+/// The error is the reader's, where a call of it fails, or had failed before; or that what the peer sent is no whole reply, as where it
+/// ends within the body; or out of memory.
+pub fn read_whole<R: Read + Drop>(alloc: Global, reader: Watched<R>) -> Result<Reply, ReplyFault>
+    ensures says { IfOk result (λ r. IfKnown (R.remaining (device_of reader)) (λ bytes. SaysWhole bytes (replied r))) }
+    ensures none { IfErr result (λ f. f ≡ fault.NotAReply → IfKnown (R.remaining (device_of reader)) SaysNoReply) }
+    ensures again { has_failed reader ≡ true → result ≡ Err fault.Device }
+{
+    let mut reader = reader;
+    if reader.has_failed() {
+        return Err(ReplyFault::Device);
+    }
+    let head = match read_head(alloc, &mut reader) {
+        Ok(head) => head,
+        Err(fault) => return Err(fault),
+    };
+    match body_framed(alloc, reader, head.framing) {
+        Ok(body) => Ok(Reply {
+            code: head.code,
+            body,
+        }),
+        Err(fault) => Err(fault),
+    }
+}

@@ -1,0 +1,51 @@
+-- Followers: what keeps a copy of a kind up to date with a server, from lists and from the bytes of watches (client-go, tools/cache, Reflector).
+use Rattle.std.specs.Prelude.{ℕ, List, [], ◌∷◌, Option, Some, None}
+use Rattle.definitions.specs.declared.kinds.Kind.{Kind}
+use Rattle.definitions.specs.History.{Entries}
+use Rattle.controllers.specs.Informers as informers
+use Rattle.controllers.specs.Informers.{Informer, appended, after_publish}
+use Rattle.controllers.specs.Reflectors as reflectors
+use Rattle.controllers.specs.Reflectors.{Reflector, Delta, Listed, Fed, with_list, list_delta, fed}
+use Rattle.controllers.specs.Shifts.{Shift, all_shifts}
+use Rattle.informer.specs.Appended.{all_appended}
+
+-- a reflector, and an informer of what it was given
+pub record Follower : Type 0 where
+  pub reflector : Reflector
+  pub informer : Informer
+
+-- nothing was taken in, and nothing is published
+abbrev pub begun : Kind → Follower
+begun k = record { reflector = reflectors.begun k; informer = informers.begun }
+
+-- a list that was read replaces the whole map at the next publish; another body changes nothing
+abbrev pub after_list : Option Listed → Follower → Follower
+after_list None f = f
+after_list (Some l) f = record { reflector = with_list (Some l) f.reflector; informer = appended f.informer (list_delta l) }
+
+-- what bytes gave waits for the next publish
+abbrev pub with_fed : Fed → Follower → Follower
+with_fed d f = record { reflector = d.after; informer = all_appended f.informer d.deltas }
+
+abbrev pub after_bytes : List ℕ → Follower → Follower
+after_bytes bytes f = with_fed (fed f.reflector bytes) f
+
+-- a cut drops the frame that is not whole, and nothing else
+abbrev pub after_cut : Follower → Follower
+after_cut f = record { reflector = reflectors.cut f.reflector; informer = f.informer }
+
+-- after an expiry a list is asked for
+abbrev pub after_expiry : Follower → Follower
+after_expiry f = record { reflector = reflectors.expired f.reflector; informer = f.informer }
+
+-- all that waits is published at once
+abbrev pub published : Follower → Follower
+published f = record { reflector = f.reflector; informer = after_publish f.informer }
+
+-- what the deltas that wait change, delta by delta; none where none waits, as before the first list
+abbrev pub changes_in : Entries → List Delta → Option (List Shift)
+changes_in ms [] = None
+changes_in ms (d ∷ ds) = Some (all_shifts ms (d ∷ ds))
+
+abbrev pub changes_of : Informer → Option (List Shift)
+changes_of i = changes_in i.published.members i.pending

@@ -1,0 +1,4 @@
+-- The definitions, in reading order.
+pub mod Followers
+pub mod Pauses
+pub mod Codes

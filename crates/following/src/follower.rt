@@ -1,0 +1,122 @@
+//! A follower.
+use controllers::reflectors::{Ask, End};
+use definitions::kinds::Kind;
+use framing::Want;
+use indexer::{Indexed, Shift};
+use informer::PlainInformer;
+use reflector::{Fed, ListFault, Reflector};
+use std::alloc::{AllocError, Global};
+use std::marker::Model;
+
+/// A copy of the objects of one kind, in all namespaces, with what is to be asked of a server to keep it up to date.
+#[derive(Drop)]
+pub struct Follower {
+    reflector: Reflector,
+    informer: PlainInformer,
+}
+
+impl Model for Follower {
+    ghost use Rattle.following.specs.Followers as followers;
+    ghost use Rattle.following.specs.Codes.{coded_follower};
+
+    ghost Value = { followers.Follower };
+
+    ghost coded = { coded_follower };
+
+    ghost view = { λ f. record { reflector = f.reflector; informer = f.informer } };
+}
+
+impl Follower {
+    ghost use Rattle.std.specs.Prelude.{◌≡◌, IfOk, IfErr, OnOk, OnErr, map, option_map};
+    ghost use Rattle.controllers.specs.Reflectors.{asks, fed, list_of};
+    ghost use Rattle.indexer.specs.Shifted.{shift_of};
+    ghost use Rattle.reflector.specs.Deltas.{RefusesList};
+    ghost use Rattle.following.specs.Followers.{begun, after_list, after_bytes, after_cut, after_expiry, published, changes_of};
+
+    /// Returns a follower of a kind that took nothing in yet: it asks for a list, and what it has published is empty, at revision 0.
+    pub fn new(alloc: Global, kind: Kind) -> Follower
+        ensures { result ≡ begun kind }
+    {
+        Follower {
+            reflector: Reflector::new(alloc, kind),
+            informer: PlainInformer::new(alloc),
+        }
+    }
+
+    /// Returns what is to be asked of the server next. It takes no memory.
+    pub fn next(&self) -> Ask
+        ensures { result ≡ asks self.now.reflector }
+    {
+        self.reflector.next()
+    }
+
+    /// Takes in the body of a list, which waits to be published. The error is that the body is no list of the kind, or running out of
+    /// memory; it changes nothing.
+    pub fn on_listed(&mut self, alloc: Global, body: &[u8]) -> Result<(), ListFault>
+        ensures ok { OnOk result (self.new ≡ after_list (list_of self.old.reflector.kind body.now) self.old) }
+        ensures refused { IfErr result (RefusesList self.old.reflector.kind body.now) }
+        ensures err { OnErr result (self.new ≡ self.old) }
+    {
+        let Ok(mut reflector) = self.reflector.try_copy() else {
+            return Err(ListFault::Want);
+        };
+        let delta = reflector.on_list(alloc, body)?;
+        match self.informer.append(delta) {
+            Ok(()) => {
+                self.reflector = reflector;
+                Ok(())
+            }
+            Err(_) => Err(ListFault::Want),
+        }
+    }
+
+    /// Takes in the next bytes of a watch, in any pieces, and returns why the watch is over, if it is. What they say waits to be
+    /// published. The error is running out of memory, and changes nothing: the same bytes can be taken in again.
+    pub fn on_bytes(&mut self, alloc: Global, bytes: &[u8]) -> Result<Option<End>, Want>
+        ensures ok { OnOk result (self.new ≡ after_bytes bytes.now self.old) }
+        ensures end { IfOk result (λ end. end ≡ (fed self.old.reflector bytes.now).ended) }
+        ensures err { OnErr result (self.new ≡ self.old) }
+    {
+        let mut reflector = self.reflector.try_copy()?;
+        let Fed { deltas, end } = reflector.feed(alloc, bytes)?;
+        self.informer.append_all(deltas)?;
+        self.reflector = reflector;
+        Ok(end)
+    }
+
+    /// Takes in that a watch is cut, or has ended: the next watch begins where this one stopped. It takes no memory.
+    pub fn on_cut(&mut self)
+        ensures { self.new ≡ after_cut self.old }
+    {
+        self.reflector.on_cut();
+    }
+
+    /// Takes in that the server no longer has the events that were asked for: a list is asked for. It takes no memory.
+    pub fn on_expired(&mut self)
+        ensures { self.new ≡ after_expiry self.old }
+    {
+        self.reflector.on_expired();
+    }
+
+    /// Publishes all that waits, and returns what that changes, in order; none where nothing waits, as before the first list. The error
+    /// is running out of memory, and changes nothing.
+    #[tactic(auto, using(crate::proofs::Steps::none_changes, crate::proofs::Steps::some_change))]
+    pub fn publish(&mut self) -> Result<Option<Vec<Shift>>, AllocError>
+        ensures ok { OnOk result (self.new ≡ published self.old) }
+        ensures changes { IfOk result (λ found. option_map (λ v. map shift_of v.items) found ≡ changes_of self.old.informer) }
+        ensures err { OnErr result (self.new ≡ self.old) }
+    {
+        if self.informer.waiting() == 0 {
+            return Ok(None);
+        }
+        let shifts = self.informer.publish()?;
+        Ok(Some(shifts))
+    }
+
+    /// Returns a reference to what is published. It takes no memory.
+    pub fn look(&self) -> &Indexed
+        ensures { result.now ≡ self.now.informer.published }
+    {
+        self.informer.look()
+    }
+}

@@ -1,0 +1,134 @@
+//! A server over a table of streams, of whose bytes no contract speaks.
+use client::{Answer, More, Outgoing};
+use definitions::kinds::Kind;
+use remote::{Api, Connect, Opened, Remote};
+use std::alloc::Global;
+use std::io;
+use std::io::ErrorKind;
+use std::test::Fail;
+use test_devices::{Sink, Source};
+
+const LIST: &[u8] = b"HTTP/1.1 200 OK\r\nContent-Length: 2\r\n\r\n{}";
+
+const WATCH: &[u8] =
+    b"HTTP/1.1 200 OK\r\nTransfer-Encoding: chunked\r\n\r\n8\r\n{\"a\":1}\n\r\n0\r\n\r\n";
+
+const GONE: &[u8] = b"HTTP/1.1 410 Gone\r\nContent-Length: 2\r\n\r\n{}";
+
+const TOO_NEW: &[u8] = b"HTTP/1.1 504 Gateway Timeout\r\nContent-Length: 2\r\n\r\n{}";
+
+/// Gives these streams, one after another, and then no more.
+#[derive(Drop)]
+struct Table<'a> {
+    alloc: Global,
+    streams: &'a [&'a [u8]],
+    next: usize,
+}
+
+impl<'a> Connect for Table<'a> {
+    type Reader = Source<'a>;
+
+    type Writer = Sink;
+
+    fn connect(&mut self) -> io::Result<(Source<'a>, Sink)> {
+        let next = self.next;
+        self.next = next.saturating_add(1);
+        match self.streams.get(next) {
+            Some(&stream) => {
+                let sink = Sink {
+                    written: Vec::new(self.alloc),
+                    bad: u64::MAX,
+                    kind: ErrorKind::BrokenPipe,
+                    calls: 0,
+                };
+                Ok((Source::new(stream, 3), sink))
+            }
+            None => Err(io::Error::from(ErrorKind::ConnectionRefused)),
+        }
+    }
+}
+
+/// Returns a server over these streams.
+fn remote<'a>(alloc: Global, streams: &'a [&'a [u8]]) -> Remote<Table<'a>> {
+    Remote::new(Table {
+        alloc,
+        streams,
+        next: 0,
+    })
+}
+
+/// Returns what became of a request, in a word.
+fn word(answer: &Answer) -> &'static str {
+    match answer {
+        Answer::Replied(reply) if reply.code == 200 && reply.body.as_slice() == b"{}".as_slice() =>
+            "replied",
+        Answer::Replied(_) => "another reply",
+        Answer::NotSent => "not sent",
+        Answer::Lost => "lost",
+    }
+}
+
+#[test]
+fn each_request_has_a_connection_of_its_own(rt: HostRuntime) -> Result<(), Fail> {
+    let streams: [&[u8]; 4] = [LIST, &LIST[..LIST.len() - 1], GONE, LIST];
+    let mut server = remote(rt.alloc(), &streams);
+    for expected in ["replied", "lost", "another reply"] {
+        let answer = server.list(rt.alloc(), Kind::Deployment);
+        assert_eq!(rt; word(&answer), expected);
+    }
+    let request = Outgoing {
+        method: "DELETE",
+        target: "/api/v1/namespaces/a/pods/b",
+        host: "localhost",
+        media_type: "application/json",
+        body: b"",
+    };
+    assert_eq!(rt; word(&server.call(rt.alloc(), request)), "replied");
+    assert_eq!(rt; word(&server.list(rt.alloc(), Kind::Pod)), "not sent");
+    Ok(())
+}
+
+#[test]
+fn a_watch_is_opened_or_refused(rt: HostRuntime) -> Result<(), Fail> {
+    let streams: [&[u8]; 4] = [GONE, TOO_NEW, &WATCH[..20], WATCH];
+    let mut server = remote(rt.alloc(), &streams);
+    for expected in [
+        Opened::Expired,
+        Opened::Refused(504),
+        Opened::Lost,
+        Opened::Open,
+        Opened::Lost,
+    ] {
+        assert_eq!(rt; server.open_watch(rt.alloc(), Kind::Pod, 7), expected);
+    }
+    Ok(())
+}
+
+/// Reads the watch that is open, and returns how it ended and how many bytes it gave.
+fn read<A: Api>(server: &mut A) -> (More, usize) {
+    let mut buf = [0u8; 5];
+    let mut count = 0usize;
+    for _ in 0..100 {
+        match server.more(&mut buf) {
+            More::Bytes(n) => count = count.saturating_add(n),
+            last => return (last, count),
+        }
+    }
+    (More::Bytes(0), count)
+}
+
+#[test]
+fn a_watch_is_read_until_it_ends_or_is_cut(rt: HostRuntime) -> Result<(), Fail> {
+    let streams: [&[u8]; 3] = [WATCH, &WATCH[..WATCH.len() - 9], WATCH];
+    let mut server = remote(rt.alloc(), &streams);
+    assert_eq!(rt; read(&mut server), (More::Cut, 0));
+    for (last, count) in [(More::End, 8), (More::Cut, 6), (More::End, 8)] {
+        assert_eq!(rt; server.open_watch(rt.alloc(), Kind::Pod, 7), Opened::Open);
+        assert_eq!(rt; server.more(&mut []), More::Cut);
+        assert_eq!(rt; read(&mut server), (last, count));
+        assert_eq!(rt; read(&mut server), (last, 0));
+    }
+    assert_eq!(rt; server.open_watch(rt.alloc(), Kind::Pod, 7), Opened::Lost);
+    assert_eq!(rt; read(&mut server), (More::Cut, 0));
+    Ok(())
+}

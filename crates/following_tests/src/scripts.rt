@@ -1,0 +1,122 @@
+//! A server, a clock and a sink that play a script.
+use client::{Answer, More, Outgoing, Reply};
+use definitions::kinds::Kind;
+use following::{Indexed, Onward, Shift, Sink, Timer};
+use remote::{Api, Opened};
+use std::alloc::Global;
+
+/// What is answered to who asks for a watch: what becomes of it, and the pieces that it gives before it is cut.
+#[derive(Clone, Copy)]
+pub struct Watch<'a> {
+    pub opened: Opened,
+    pub pieces: &'a [&'a str],
+}
+
+/// Answers lists and watches in their order, and then no more. An empty list is lost.
+#[derive(Drop)]
+pub struct Script<'a> {
+    pub lists: &'a [&'a str],
+    pub watches: &'a [Watch<'a>],
+    /// How many lists and watches were answered, and how many pieces the last watch gave.
+    pub listed: usize,
+    pub opened: usize,
+    pub given: usize,
+    /// What was asked: 0 for a list, and the revision for a watch.
+    pub asked: Vec<u64>,
+}
+
+impl<'a> Script<'a> {
+    /// Records what is asked.
+    fn record(&mut self, asked: u64) {
+        let _ = self.asked.push(asked);
+    }
+}
+
+impl<'a> Api for Script<'a> {
+    fn call(&mut self, _alloc: Global, _request: Outgoing<'_>) -> Answer {
+        Answer::NotSent
+    }
+
+    fn list(&mut self, alloc: Global, _kind: Kind) -> Answer {
+        self.record(0);
+        let Some(&body) = self.lists.get(self.listed) else {
+            return Answer::NotSent;
+        };
+        self.listed = self.listed.saturating_add(1);
+        let mut bytes = Vec::new(alloc);
+        if body.is_empty() || bytes.extend_from_slice(body.as_bytes()).is_err() {
+            return Answer::Lost;
+        }
+        Answer::Replied(Reply {
+            code: 200,
+            body: bytes,
+        })
+    }
+
+    fn open_watch(&mut self, _alloc: Global, _kind: Kind, revision: u64) -> Opened {
+        self.record(revision);
+        let Some(watch) = self.watches.get(self.opened) else {
+            return Opened::Lost;
+        };
+        let opened = watch.opened;
+        self.opened = self.opened.saturating_add(1);
+        self.given = 0;
+        opened
+    }
+
+    fn more(&mut self, buf: &mut [u8]) -> More {
+        let Some(watch) = self.watches.get(self.opened.saturating_sub(1)) else {
+            return More::Cut;
+        };
+        let Some(&piece) = watch.pieces.get(self.given) else {
+            return More::Cut;
+        };
+        self.given = self.given.saturating_add(1);
+        let len = piece.len().min(buf.len());
+        buf[..len].copy_from_slice(&piece.as_bytes()[..len]);
+        More::Bytes(len)
+    }
+}
+
+/// A clock that goes on by the pauses alone, which it records.
+#[derive(Drop)]
+pub struct Waits {
+    pub now: u64,
+    pub pauses: Vec<u64>,
+}
+
+impl Timer for Waits {
+    fn now(&mut self) -> u64 {
+        self.now
+    }
+
+    fn pause(&mut self, milliseconds: u64) {
+        let _ = self.pauses.push(milliseconds);
+        self.now = self.now.saturating_add(milliseconds);
+    }
+}
+
+/// Records the revisions that are published and counts the changes, and stops at a revision.
+#[derive(Drop)]
+pub struct Seen {
+    pub until: u64,
+    pub changes: u64,
+    pub revisions: Vec<u64>,
+    pub objects: usize,
+}
+
+impl Sink for Seen {
+    fn shift(&mut self, _shift: &Shift) {
+        self.changes = self.changes.saturating_add(1);
+    }
+
+    fn published(&mut self, objects: &Indexed) -> Onward {
+        let _ = self.revisions.push(objects.revision());
+        self.objects = objects.len();
+        if objects.revision() < self.until {
+            Onward::GoOn
+        } else {
+            Onward::Stop
+        }
+    }
+}

@@ -1,0 +1,11 @@
+-- The targets of lists and watches of all namespaces (Kubernetes API Concepts, Resource URIs).
+use Rattle.std.specs.Prelude.{ℕ, List, ◌++◌, codes, decimal, None}
+use Rattle.definitions.specs.declared.kinds.Kind.{Kind}
+use Rattle.definitions.specs.Targets.{collection, path_text}
+
+abbrev pub list_target : Kind → List ℕ
+list_target k = path_text (collection k None)
+
+-- after a revision, with bookmarks
+abbrev pub watch_target : Kind → ℕ → List ℕ
+watch_target k r = list_target k ++ (codes "?watch=true&allowWatchBookmarks=true&resourceVersion=" ++ decimal r)

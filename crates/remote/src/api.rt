@@ -1,0 +1,32 @@
+//! A server, as who asks it sees it.
+use client::{Answer, More, Outgoing};
+use definitions::kinds::Kind;
+use std::alloc::Global;
+
+/// What became of the request for a watch.
+#[derive(Debug, Clone, Copy, PartialEq, Eq)]
+pub enum Opened {
+    /// The watch is open.
+    Open,
+    /// What it was to begin after is no longer known.
+    Expired,
+    /// It is refused with this status code.
+    Refused(u16),
+    /// Nothing that can be understood was answered, or nothing was asked.
+    Lost,
+}
+
+/// A server that is asked.
+pub trait Api {
+    /// Asks a request, and returns what became of it.
+    fn call(&mut self, alloc: Global, request: Outgoing<'_>) -> Answer;
+
+    /// Asks for a list of a kind, of all namespaces, and returns what became of it.
+    fn list(&mut self, alloc: Global, kind: Kind) -> Answer;
+
+    /// Asks for a watch of a kind, of all namespaces, after a revision. A watch that was open is left.
+    fn open_watch(&mut self, alloc: Global, kind: Kind, revision: u64) -> Opened;
+
+    /// Reads on in the watch that is open; it is cut where none is, or where the buffer has no room.
+    fn more(&mut self, buf: &mut [u8]) -> More;
+}

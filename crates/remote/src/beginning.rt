@@ -1,0 +1,33 @@
+//! The request for a watch, written, and what comes back.
+ghost use Rattle.std.specs.Prelude.{◌≡◌, false};
+ghost use Rattle.chunked.specs.Devices.{device_of, has_failed};
+ghost use Rattle.remote.specs.Begun.{IsBegun};
+
+use crate::api::Opened;
+use chunked::Watched;
+use client::{Opening, open_watch};
+use std::alloc::Global;
+use std::io::{Read, Write};
+
+/// Writes the text of a request for a watch, and reads up to where the watch begins, or the reply that refuses it.
+pub fn begin_watch<R: Read + Drop, W: Write + Drop>(
+    alloc: Global,
+    text: &[u8],
+    reader: &mut Watched<R>,
+    writer: &mut Watched<W>,
+) -> Opened
+    requires { has_failed writer.old ≡ false }
+    ensures { IsBegun text.now (R.remaining (device_of reader.old)) (R.remaining (device_of reader.new))
+        (W.contents (device_of writer.old)) (W.contents (device_of writer.new)) result }
+{
+    match writer.send(text) {
+        Ok(()) => {}
+        Err(_) => return Opened::Lost,
+    }
+    match open_watch(alloc, reader) {
+        Ok(Opening::Open) => Opened::Open,
+        Ok(Opening::Expired) => Opened::Expired,
+        Ok(Opening::Refused(code)) => Opened::Refused(code),
+        Err(_) => Opened::Lost,
+    }
+}

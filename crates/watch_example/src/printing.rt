@@ -1,0 +1,115 @@
+//! What is written of what is published.
+use definitions::kinds::Kind;
+use following::{Indexed, Onward, Shift, Sink};
+use keys::Key;
+use meta::Object;
+use std::alloc::Global;
+use std::io;
+use std::io::Write;
+
+/// Writes a line for each change and each publish, and at a revision all that is there.
+#[derive(Drop)]
+pub struct Printer<W> {
+    alloc: Global,
+    writer: W,
+    kind: Kind,
+    until: Option<u64>,
+    /// Whether a line could not be written.
+    has_failed: bool,
+}
+
+/// Returns what became of an object.
+fn word(shift: &Shift) -> &'static str {
+    match (&shift.old, &shift.new) {
+        (None, _) => "added",
+        (Some(_), Some(_)) => "modified",
+        (Some(_), None) => "deleted",
+    }
+}
+
+/// Returns the revision of an object's last write, as the object says it.
+fn version(object: &Object) -> &str {
+    object.resource_version().unwrap_or("")
+}
+
+/// Writes `WORD NAMESPACE/NAME REVISION`; of an object that is deleted it is the last revision that was seen.
+fn write_shift<W: Write>(writer: &mut W, shift: &Shift) -> io::Result<()> {
+    let Key {
+        namespace,
+        name,
+        ..
+    } = &shift.key;
+    let revision = match (&shift.new, &shift.old) {
+        (Some(object), _) | (None, Some(object)) => version(object.object()),
+        (None, None) => "",
+    };
+    writeln!(writer, "{} {namespace}/{name} {revision}", word(shift))
+}
+
+impl<W: Write> Printer<W> {
+    /// Returns what writes the changes of a kind, until a revision, if one is given.
+    pub fn new(alloc: Global, writer: W, kind: Kind, until: Option<u64>) -> Printer<W> {
+        Printer {
+            alloc,
+            writer,
+            kind,
+            until,
+            has_failed: false,
+        }
+    }
+
+    /// Returns whether all lines were written.
+    pub fn is_whole(&self) -> bool {
+        !self.has_failed
+    }
+
+    /// Writes `published KIND REVISION OBJECTS`, and where it is the last publish all that is there, as `NAMESPACE/NAME REVISION`.
+    fn write_published(&mut self, objects: &Indexed, is_last: bool) -> io::Result<()> {
+        let revision = objects.revision();
+        writeln!(
+            self.writer,
+            "published {} {revision} {}",
+            self.kind.name(),
+            objects.len()
+        )?;
+        if is_last {
+            for entry in objects.list(self.alloc)? {
+                let Key {
+                    namespace,
+                    name,
+                    ..
+                } = entry.key;
+                writeln!(self.writer, "{namespace}/{name} {}", version(entry.object))?;
+            }
+        }
+        self.writer.flush()
+    }
+
+    /// Returns whether the program ends at a revision.
+    fn ends_at(&self, revision: u64) -> bool {
+        match self.until {
+            Some(until) => until <= revision,
+            None => false,
+        }
+    }
+}
+
+impl<W: Write> Sink for Printer<W> {
+    fn shift(&mut self, shift: &Shift) {
+        if write_shift(&mut self.writer, shift).is_err() {
+            self.has_failed = true;
+        }
+    }
+
+    fn published(&mut self, objects: &Indexed) -> Onward {
+        let is_last = self.ends_at(objects.revision());
+        if self.write_published(objects, is_last).is_err() {
+            self.has_failed = true;
+        }
+        if is_last || self.has_failed {
+            Onward::Stop
+        } else {
+            Onward::GoOn
+        }
+    }
+}
