@@ -1,0 +1,161 @@
+//! A map in key order.
+use crate::chunks::{chunk_of, put_chunk};
+use crate::entries::{place_in, with_entry, without_entry};
+use crate::ranges::{append_chunks, append_chunks_between};
+use std::alloc::{AllocError, Global};
+use std::marker::Model;
+use std::sync::Arc;
+
+/// Values under keys, in the order of the keys. A copy shares the entries with what it was copied from. It is seen as its
+/// entries.
+#[derive(Drop)]
+pub struct SharedMap<K: Ord, V> {
+    chunks: Vec<Arc<Vec<Arc<(K, V), Global>>, Global>>,
+    len: usize,
+    alloc: Global,
+}
+
+impl<K: Ord, V> Model for SharedMap<K, V> {
+    ghost use Rattle.std.specs.Prelude.{List};
+    ghost use Rattle.std.specs.Coded.{coded_list, coded×};
+    ghost use Rattle.shared_map.specs.Parts.{parts, joined, IsSound};
+
+    ghost Value = { List (K × V) };
+
+    ghost coded = { coded_list (coded× K.code V.code) };
+
+    ghost view = { λ m. joined (parts m.chunks.items) };
+
+    ghost invariant = { λ m. IsSound K.cmp (parts m.chunks.items) m.len };
+}
+
+impl<K: Ord + Drop, V: Drop> SharedMap<K, V> {
+    ghost use Rattle.std.specs.Prelude.{◌≡◌, [], IfOk, OnOk, OnErr, length, map};
+    ghost use Rattle.std.specs.declared.ops.Bound.TheVariants.{Included, Excluded};
+    ghost use Rattle.std.specs.BTreeMap.Range.{entries_between};
+    ghost use Rattle.std.specs.Option.{option_copied};
+    ghost use Rattle.std.specs.List.Sorted.{IsStrictlySortedBy};
+    ghost use Rattle.std.specs.Map.{keys_of, lookup, remove_entry};
+    ghost use Rattle.std.specs.BTreeMap.{is_at};
+    ghost use Rattle.shared_map.specs.Entries.{put_entry};
+
+    /// Returns a map without entries.
+    pub fn new(alloc: Global) -> SharedMap<K, V>
+        ensures { result ≡ [] }
+    {
+        SharedMap {
+            chunks: Vec::new(alloc),
+            len: 0,
+            alloc,
+        }
+    }
+
+    /// Returns how many entries there are.
+    pub fn len(&self) -> usize
+        ensures len { result ≡ length self.now }
+        ensures ordered { IsStrictlySortedBy K.cmp (keys_of self.now) }
+    {
+        self.len
+    }
+
+    /// Returns a copy, which shares the entries. It costs a count for each chunk of entries. The error is running out of memory.
+    pub fn try_copy(&self) -> Result<SharedMap<K, V>, AllocError>
+        ensures { IfOk result (λ m. m ≡ self.now) }
+    {
+        let mut chunks = Vec::with_capacity(self.alloc, self.chunks.len())?;
+        for chunk in &self.chunks {
+            chunks.push(Arc::try_clone(chunk)?)?;
+        }
+        Ok(SharedMap {
+            chunks,
+            len: self.len,
+            alloc: self.alloc,
+        })
+    }
+
+    /// Puts a value under a key, in the place of what is there. The error is running out of memory, and changes nothing.
+    pub fn insert(&mut self, key: K, value: V) -> Result<(), AllocError>
+        ensures ok { OnOk result (self.new ≡ put_entry K.cmp self.old (key, value)) }
+        ensures err { OnErr result (self.new ≡ self.old) }
+    {
+        let entry = Arc::new(self.alloc, (key, value))?;
+        if self.chunks.is_empty() {
+            let mut made = Vec::new(self.alloc);
+            made.push(entry)?;
+            self.chunks.push(Arc::new(self.alloc, made)?)?;
+            self.len = 1;
+            return Ok(());
+        }
+        let at = chunk_of(self.chunks.as_slice(), &entry.0);
+        let chunk = self.chunks[at].as_slice();
+        let others = self.len - chunk.len();
+        let made = with_entry(self.alloc, chunk, entry)?;
+        let Some(len) = others.checked_add(made.len()) else {
+            return Err(AllocError);
+        };
+        put_chunk(self.alloc, &mut self.chunks, at, made)?;
+        self.len = len;
+        Ok(())
+    }
+
+    /// Removes what is under a key, if there is anything. The error is running out of memory, and changes nothing.
+    pub fn remove(&mut self, key: &K) -> Result<(), AllocError>
+        ensures ok { OnOk result (self.new ≡ remove_entry (is_at (K.cmp key.now)) self.old) }
+        ensures err { OnErr result (self.new ≡ self.old) }
+        ensures ordered { IsStrictlySortedBy K.cmp (keys_of self.old) }
+    {
+        if self.chunks.is_empty() {
+            return Ok(());
+        }
+        let at = chunk_of(self.chunks.as_slice(), key);
+        let chunk = self.chunks[at].as_slice();
+        let place = place_in(chunk, key);
+        if !place.found {
+            return Ok(());
+        }
+        let made = without_entry(self.alloc, chunk, place.at)?;
+        put_chunk(self.alloc, &mut self.chunks, at, made)?;
+        self.len -= 1;
+        Ok(())
+    }
+
+    /// Returns the value under a key. It takes no memory.
+    pub fn get(&self, key: &K) -> Option<&V>
+        ensures { option_copied result ≡ lookup (is_at (K.cmp key.now)) self.now }
+    {
+        if self.chunks.is_empty() {
+            return None;
+        }
+        let chunk = self.chunks[chunk_of(self.chunks.as_slice(), key)].as_slice();
+        let place = place_in(chunk, key);
+        if place.found {
+            Some(&chunk[place.at].1)
+        } else {
+            None
+        }
+    }
+
+    /// Returns the entries, in the order of keys. The error is running out of memory.
+    pub fn all(&self, alloc: Global) -> Result<Vec<&(K, V)>, AllocError>
+        ensures { IfOk result (λ v. map (λ e. e.now) v.items ≡ self.now) }
+    {
+        let mut found = Vec::with_capacity(alloc, self.len)?;
+        append_chunks(&mut found, self.chunks.as_slice())?;
+        Ok(found)
+    }
+
+    /// Returns the entries from a key to before another, in the order of keys. It costs what it returns, and the way to the first.
+    /// The error is running out of memory.
+    pub fn between(&self, alloc: Global, first: &K, past: &K) -> Result<Vec<&(K, V)>, AllocError>
+        ensures { IfOk result (λ v. map (λ e. e.now) v.items ≡ entries_between K.cmp (Included first.now) (Excluded past.now) self.now) }
+    {
+        let mut found = Vec::new(alloc);
+        if self.chunks.is_empty() {
+            return Ok(found);
+        }
+        let start = chunk_of(self.chunks.as_slice(), first);
+        let rest = self.chunks.as_slice().split_at(start).1;
+        append_chunks_between(&mut found, rest, first, past)?;
+        Ok(found)
+    }
+}
