@@ -58,6 +58,13 @@ impl Board {
         }
     }
 
+    /// Returns the key that waits longest, if one waits. It takes no memory.
+    pub fn first(&self) -> Option<&WorkKey>
+        ensures { option_map (λ k. work_key_of k.now) result ≡ handed self.now.work }
+    {
+        self.queue.first()
+    }
+
     /// Hands the key that waits longest to a worker, if one waits. The error is running out of memory, and then nothing has
     /// changed.
     pub fn take_key(&mut self) -> Result<Option<WorkKey>, AllocError>

@@ -1,6 +1,7 @@
 //! A server.
 use definitions::kinds::Kind;
-use meta::Member;
+use keys::Key;
+use meta::{Member, StoredObject};
 use selector::View;
 use std::alloc::{AllocError, Global};
 use std::marker::Model;
@@ -30,11 +31,12 @@ impl Model for Server {
 }
 
 impl Server {
-    ghost use Rattle.std.specs.Prelude.{◌≡◌, ◌≤◌, ◌<◌, IfOk, map};
+    ghost use Rattle.std.specs.Prelude.{◌≡◌, ◌≤◌, ◌<◌, IfOk, map, option_map};
     ghost use Rattle.std.specs.List.Sorted.{IsStrictlySortedBy};
     ghost use Rattle.std.specs.Map.{keys_of};
-    ghost use Rattle.definitions.specs.History.{viewed};
+    ghost use Rattle.definitions.specs.History.{found, viewed};
     ghost use Rattle.definitions.specs.Keys.{key_cmp};
+    ghost use Rattle.keys.specs.Keys.{key_of};
     ghost use Rattle.definitions.specs.Revisions.{greatest_revision};
     ghost use Rattle.server_state.specs.Servers.{opened_server, window_of, with_window};
     ghost use Rattle.definitions.specs.Windows.{last_revision};
@@ -60,6 +62,13 @@ impl Server {
         ensures bound { result ≤ greatest_revision }
     {
         self.store.revision()
+    }
+
+    /// Returns the object under a key, if there is one. It takes no memory.
+    pub fn get(&self, key: &Key) -> Option<&StoredObject>
+        ensures { option_map (λ o. o.now.value) result ≡ found (key_of key.now) self.now.snapshot.members }
+    {
+        self.store.get(key)
     }
 
     /// Returns what is there of a view, in the order of keys: what a watch begins with that has seen nothing yet. The error is

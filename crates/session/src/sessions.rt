@@ -71,8 +71,8 @@ impl Session {
         })
     }
 
-    /// Returns the reply to a request with what it writes, or why it is refused.
-    fn outcome(&self, alloc: Global, request: Request) -> Result<(Reply, Option<Write>), Fault>
+    /// Returns the reply to a request at the session's moment with what it writes, or why it is refused. Nothing is written yet.
+    pub fn answer(&self, alloc: Global, request: Request) -> Result<(Reply, Option<Write>), Fault>
         ensures { answers.Serves (accepted self.now (request_of request)) result }
     {
         self.server.answer(alloc, request, self.moment)
@@ -83,7 +83,7 @@ impl Session {
         ensures reply { IfOk result (λ p. p.reply.items ≡ reply_text (outcome (accepted self.now (request_of request)))) }
         ensures effect { IfOk result (λ p. effect_of p.effect ≡ of_write (outcomes.write_of (accepted self.now (request_of request)))) }
     {
-        match self.outcome(alloc, request) {
+        match self.answer(alloc, request) {
             Ok((reply, write)) => Ok(Prepared {
                 reply: line(alloc, reply.code, reply.text.as_str())?,
                 effect: Effect::of_write(write),

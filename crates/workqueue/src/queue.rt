@@ -127,6 +127,13 @@ impl Queue {
         }
     }
 
+    /// Returns the key that waits longest, if one waits. It takes no memory.
+    pub fn first(&self) -> Option<&WorkKey>
+        ensures { option_map (λ k. work_key_of k.now) result ≡ handed self.now }
+    {
+        self.ready.front()
+    }
+
     /// Removes the key that waits longest, if one waits, and hands it to a worker.
     pub fn get(&mut self) -> Result<Option<WorkKey>, AllocError>
         ensures ok { OnOk result (self.new ≡ got self.old) }

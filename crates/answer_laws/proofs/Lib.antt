@@ -1,0 +1,2 @@
+mod Removals
+pub mod ReadBacks
