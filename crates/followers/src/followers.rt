@@ -16,6 +16,7 @@ use reflector::{Delta, Fed, Reflector};
 use revisions::Watched;
 use selector::View;
 use std::alloc::{AllocError, Global};
+use std::collections::VecDeque;
 use std::marker::Model;
 use steps::Move;
 
@@ -28,7 +29,7 @@ pub struct Follower {
     reflector: Reflector,
     published: Indexed,
     pending: Vec<Delta>,
-    unhandled: Vec<Notification>,
+    unhandled: VecDeque<Notification>,
     has_listed: bool,
 }
 
@@ -55,13 +56,14 @@ impl Model for Follower {
 }
 
 impl Follower {
-    ghost use Rattle.std.specs.Prelude.{◌≡◌, OnOk, OnErr, IfOk, Ok, Some, None, length};
+    ghost use Rattle.std.specs.Prelude.{◌≡◌, OnOk, OnErr, IfOk, Ok, Some, None, drop, length, option_map, slice_get};
     ghost use Rattle.controllers.specs.Reflectors.{list_of};
     ghost use Rattle.simulation.specs.Followers.{begun};
     ghost use Rattle.simulation.specs.Moves.{Answers, answers_by, listed_of, list_in, watch_in, send_on, bookmark_on, deliver_on, deliver_all_on, cut_on, publish_by, move_by};
     ghost use Rattle.definitions.specs.History.{unfiltered};
     ghost use Rattle.selector.specs.Views.{view_of};
     ghost use Rattle.followers.specs.Answered.{AnswersLists};
+    ghost use Rattle.followers.specs.Notified.{notification_of};
     ghost use Rattle.followers.specs.Outcomes.{outcome_of};
     ghost use Rattle.steps.specs.Steps.{move_of};
 
@@ -75,7 +77,7 @@ impl Follower {
             reflector: Reflector::new(alloc, kind),
             published: Indexed::new(alloc),
             pending: Vec::new(alloc),
-            unhandled: Vec::new(alloc),
+            unhandled: VecDeque::new(alloc),
             has_listed: false,
         }
     }
@@ -85,6 +87,27 @@ impl Follower {
         ensures { result.now ≡ self.now.informer.published }
     {
         &self.published
+    }
+
+    /// Returns whether the first list was published.
+    pub fn has_listed(&self) -> bool
+        ensures { result ≡ self.now.has_listed }
+    {
+        self.has_listed
+    }
+
+    /// Returns the oldest of the published changes that are still to be handled, if one is. It takes no memory.
+    pub fn oldest(&self) -> Option<&Notification>
+        ensures { option_map (λ n. notification_of n.now) result ≡ slice_get self.now.unhandled 0 }
+    {
+        self.unhandled.front()
+    }
+
+    /// Removes the oldest of the published changes that are still to be handled, since it was handled. It takes no memory.
+    pub fn remove_oldest(&mut self)
+        ensures { self.new ≡ record self.old { unhandled = drop 1 self.old.unhandled } }
+    {
+        let _handled = self.unhandled.pop_front();
     }
 
     /// Returns the view of all objects of the kind.
@@ -306,13 +329,14 @@ impl Follower {
         if self.reflector.revision() == 0 {
             return Ok(Outcome::NoStep);
         }
-        let mut applied = apply_all(
+        let applied = apply_all(
             alloc,
             &self.published,
             self.pending.as_slice(),
             self.has_listed,
         )?;
-        self.unhandled.append(&mut applied.notifications)?;
+        let mut notified = VecDeque::from_vec(applied.notifications);
+        self.unhandled.append(&mut notified)?;
         self.published = applied.objects;
         self.pending.clear();
         self.has_listed = true;

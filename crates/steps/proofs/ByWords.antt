@@ -2,8 +2,10 @@
 use Rattle.std.proofs.Common.{◌≡◌, ◌==◌, ℕ, List, [], ◌∷◌, Bool, true, false, Option, Some, None, option_map, option_and_then, cond, if◌then◌else◌, refl, sym, ap, ◌∙◌}
 use Rattle.std.specs.List.{onto_first}
 use Rattle.line_protocol.specs.Lines.{cut}
+use Rattle.reconciling.specs.StepLines.{step_in_words}
 use Rattle.simulation.specs.StepLines.{words, move_of, config_in}
 use Rattle.steps.specs.Words.{with_first, few_words, step_by_words, config_by}
+use Rattle.steps.specs.PlaneSteps.{plane_step_by_words}
 
 -- ---- words, by where the text is cut
 
@@ -50,7 +52,7 @@ first t a r e = sym (ap few_words (cut-words t (Some (a, r)) e))
 pub alone : (t : List ℕ) → None ≡ cut t → None ≡ few_words (words t)
 alone t e = sym (ap few_words (cut-words t None e))
 
--- ---- moves and configurations, by two words or three
+-- ---- moves, configurations and workers' steps, by two words or three
 
 pub move_by_words : (ws : List (List ℕ)) → option_and_then step_by_words (few_words ws) ≡ move_of ws
 move_by_words [] = refl
@@ -65,3 +67,10 @@ config_by_words (a ∷ []) = refl
 config_by_words (a ∷ b ∷ []) = refl
 config_by_words (a ∷ b ∷ c ∷ []) = refl
 config_by_words (a ∷ b ∷ c ∷ d ∷ ws) = refl
+
+pub plane_step_in_words : (ws : List (List ℕ)) → option_and_then plane_step_by_words (few_words ws) ≡ step_in_words ws
+plane_step_in_words [] = refl
+plane_step_in_words (a ∷ []) = refl
+plane_step_in_words (a ∷ b ∷ []) = refl
+plane_step_in_words (a ∷ b ∷ c ∷ []) = refl
+plane_step_in_words (a ∷ b ∷ c ∷ d ∷ ws) = refl

@@ -1,0 +1,41 @@
+-- What is handled makes no difference to what a cluster stands for.
+use Rattle.std.proofs.Common.{◌≡◌, ℕ, List, drop, refl, sym, ap, subst, ◌∙◌}
+use Rattle.definitions.specs.declared.kinds.Kind.{Kind}
+use Rattle.definitions.specs.declared.kinds.Kind.TheVariants.{ConfigMap, Pod, ReplicaSet, Deployment}
+use Rattle.definitions.specs.History.{History}
+use Rattle.definitions.specs.Reached.{IsReached, IsTimestamp}
+use Rattle.simulation.specs.Clusters as clusters
+use Rattle.simulation.specs.Clusters.{Cluster, history}
+use Rattle.simulation.specs.Followers.{Follower, Notification}
+use Rattle.simulation_laws.specs.ClusterLaws.{IsFollowed}
+use Rattle.simulation_laws.specs.FollowerLaws.{IsFollowing}
+use Rattle.simulation_laws.proofs.Runs.{with_moved, same_session}
+use Rattle.cluster.specs.Changes.{without_oldest}
+use Rattle.cluster.specs.ClusterStates.{ClusterState, follower, with_follower}
+use Rattle.cluster.specs.Standing.{StandsFor, Stands}
+use Rattle.cluster.proofs.Stood.{same_follower, with_same}
+
+abbrev with_unhandled : List Notification → Follower → Follower
+with_unhandled ns f = record f { unhandled = ns }
+
+same_follows : (h : History) (k : Kind) (f : Follower) (ns : List Notification) → IsFollowing h k f → IsFollowing h k (with_unhandled ns f)
+same_follows h k f ns is = record { kind = is.kind; reached = is.reached; published = is.published; passed = is.passed; pending = is.pending; linked = is.linked }
+
+followed : (c : Cluster) (k : Kind) (ns : List Notification) → IsFollowed c → IsFollowed (clusters.with_follower k (with_unhandled ns (clusters.follower k c)) c)
+followed c k ns is =
+    let f = with_unhandled ns (clusters.follower k c) in
+    subst (λ s. IsReached s.history × IsTimestamp s.moment × ((j : Kind) → IsFollowing s.history j (clusters.follower j (clusters.with_follower k f c)))) (sym (same_session c k f))
+    (is.0, is.1, with_moved (IsFollowing (history c)) c k f (same_follows (history c) k (clusters.follower k c) ns (is.2 k)) is.2)
+
+pub handled_stands : (w : ClusterState) (k : Kind) → Stands w → Stands (without_oldest k w)
+unfolding Stands
+handled_stands w k (c, is, follows) =
+    let ns = drop 1 (follower k w).unhandled in (
+      clusters.with_follower k (with_unhandled ns (clusters.follower k c)) c,
+      with_same w c k (with_unhandled ns (follower k w)) (with_unhandled ns (clusters.follower k c)) is (ap (with_unhandled ns) (same_follower w c is k)),
+      followed c k ns follows,
+    )
+
+-- the follower of each kind, with what is left
+pub standing_handled : (w : ClusterState) (k : Kind) (f : Follower) → f ≡ with_unhandled (drop 1 (follower k w).unhandled) (follower k w) → Stands w → Stands (with_follower k f w)
+standing_handled w k f same is = subst (λ g. Stands (with_follower k g w)) (sym same) (handled_stands w k is)

@@ -1,0 +1,7 @@
+pub mod RecordedWrites
+pub mod Stood
+pub mod Headlines
+pub mod Answered
+pub mod Taking
+pub mod Requests
+pub mod Handling

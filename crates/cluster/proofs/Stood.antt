@@ -1,0 +1,93 @@
+-- A stored cluster stands for a cluster, step after step.
+use Rattle.std.proofs.Common.{◌≡◌, refl, sym, ap, subst, ◌∙◌, ℕ, List, [], ◌∷◌, Result, Ok, Err, OnOk, OnErr}
+use Rattle.definitions.specs.declared.kinds.Kind.{Kind}
+use Rattle.definitions.specs.declared.kinds.Kind.TheVariants.{ConfigMap, Pod, ReplicaSet, Deployment}
+use Rattle.line_protocol.specs.Lines as lines
+use Rattle.line_protocol.specs.Lines.{Line, line_of}
+use Rattle.session.proofs.Followed.{follows_line, sessions_follow}
+use Rattle.simulation.specs.Clusters as clusters
+use Rattle.simulation.specs.Clusters.{Cluster, ClusterStep, request, compact, moves, restart}
+use Rattle.simulation.specs.Followers.{Follower}
+use Rattle.simulation.specs.Moves as moving
+use Rattle.simulation.specs.Moves.{Move, answers_by, move_by}
+use Rattle.simulation_laws.proofs.Runs.{keeps, runs_followed}
+use Rattle.simulation_laws.proofs.Serving.{servers_serve}
+use Rattle.cluster.specs.Standing.{StandsFor, Stands}
+use Rattle.cluster.specs.ClusterStates.{ClusterState, opened, answered_line, follower, with_follower, step, run}
+use Rattle.cluster.proofs.RecordedWrites.{line_recorded, compacted}
+
+-- ---- one step
+
+pub same_follower : (w : ClusterState) (c : Cluster) → StandsFor w c → (k : Kind) → follower k w ≡ clusters.follower k c
+same_follower w c is ConfigMap = is.config_maps
+same_follower w c is Pod = is.pods
+same_follower w c is ReplicaSet = is.replica_sets
+same_follower w c is Deployment = is.deployments
+
+pub with_same : (w : ClusterState) (c : Cluster) (k : Kind) (f g : Follower) → StandsFor w c → f ≡ g → StandsFor (with_follower k f w) (clusters.with_follower k g c)
+with_same w c ConfigMap f g is e =
+    record { session = is.session; journal = is.journal; config_maps = e; pods = is.pods; replica_sets = is.replica_sets; deployments = is.deployments }
+with_same w c Pod f g is e =
+    record { session = is.session; journal = is.journal; config_maps = is.config_maps; pods = e; replica_sets = is.replica_sets; deployments = is.deployments }
+with_same w c ReplicaSet f g is e =
+    record { session = is.session; journal = is.journal; config_maps = is.config_maps; pods = is.pods; replica_sets = e; deployments = is.deployments }
+with_same w c Deployment f g is e =
+    record { session = is.session; journal = is.journal; config_maps = is.config_maps; pods = is.pods; replica_sets = is.replica_sets; deployments = e }
+
+same_move : (w : ClusterState) (c : Cluster) (k : Kind) (m : Move) → StandsFor w c
+    → move_by k (answers_by k w.session.server) (follower k w) m ≡ moving.move k c.session.window c.session.history (clusters.follower k c) m
+same_move w c k m is =
+    servers_serve c.session.window w.session.server c.session.history k (follower k w) m is.session.0
+    ∙ ap (λ f. moving.move k c.session.window c.session.history f m) (same_follower w c is k)
+
+after_line : (w : ClusterState) (c : Cluster) (l : Line) → StandsFor w c → StandsFor (answered_line w l).cluster (clusters.asked_of c l).cluster
+after_line w c l is =
+    record {
+      session = follows_line w.session c.session is.session l;
+      journal = line_recorded w.journal w.session c.session l is.session is.journal;
+      config_maps = is.config_maps;
+      pods = is.pods;
+      replica_sets = is.replica_sets;
+      deployments = is.deployments;
+    }
+
+after_compaction : (w : ClusterState) (c : Cluster) (r : ℕ) → StandsFor w c → StandsFor (step w (compact r)).cluster (clusters.step c (compact r)).cluster
+after_compaction w c r is =
+    record {
+      session = follows_line w.session c.session is.session (lines.compact r);
+      journal = compacted w.journal c.session r is.journal;
+      config_maps = is.config_maps;
+      pods = is.pods;
+      replica_sets = is.replica_sets;
+      deployments = is.deployments;
+    }
+
+pub steps_follow : (w : ClusterState) (c : Cluster) (s : ClusterStep) → StandsFor w c → StandsFor (step w s).cluster (clusters.step c s).cluster
+steps_follow w c (request t) is = after_line w c (line_of t) is
+steps_follow w c (compact r) is = after_compaction w c r is
+steps_follow w c (moves k m) is = with_same w c k _ _ is (ap (λ (m : moving.Moved). m.follower) (same_move w c k m is))
+steps_follow w c restart is =
+    record { session = is.session; journal = is.journal; config_maps = refl; pods = refl; replica_sets = refl; deployments = refl }
+
+-- ---- what it stands for stays so
+
+pub stood : (w : ClusterState) (s : ClusterStep) → Stands w → Stands (step w s).cluster
+unfolding Stands
+stood w s (c, is, followed) = ((clusters.step c s).cluster, steps_follow w c s is, keeps c s followed)
+
+pub run_stood : (w : ClusterState) (ss : List ClusterStep) → Stands w → Stands (run w ss)
+run_stood w [] is = is
+run_stood w (s ∷ ss) is = run_stood (step w s).cluster ss (stood w s is)
+
+pub stands_opened : (size : ℕ) → Stands (opened size)
+unfolding Stands
+stands_opened size = (
+  clusters.opened size,
+  record { session = sessions_follow.0 size; journal = refl; config_maps = refl; pods = refl; replica_sets = refl; deployments = refl },
+  runs_followed size [],
+)
+
+-- a step that was taken, or changed nothing
+pub stood_after : {X E : Type 0} (w v : ClusterState) (s : ClusterStep) (r : Result X E) → Stands w → OnOk r (v ≡ (step w s).cluster) → OnErr r (v ≡ w) → Stands v
+stood_after w v s (Ok x) is moved stays = subst Stands (sym moved) (stood w s is)
+stood_after w v s (Err e) is moved stays = subst Stands (sym stays) is

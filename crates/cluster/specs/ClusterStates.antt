@@ -1,0 +1,97 @@
+-- A cluster as it is stored, and how it goes on: a server stands in the place of all that has happened.
+use Rattle.std.specs.Prelude.{ℕ, List, [], ◌∷◌, refl}
+use Rattle.std.specs.Coded.{Coded, code_by, coded×}
+use Rattle.codes.specs.HistoryCodes.{coded_history}
+use Rattle.definitions.specs.declared.kinds.Kind.{Kind}
+use Rattle.definitions.specs.declared.kinds.Kind.TheVariants.{ConfigMap, Pod, ReplicaSet, Deployment}
+use Rattle.definitions.specs.History.{History}
+use Rattle.line_protocol.specs.Lines as lines
+use Rattle.line_protocol.specs.Lines.{line_of}
+use Rattle.server_state.specs.Snapshots.{Snapshot}
+use Rattle.session.specs.SessionStates as sessions
+use Rattle.session.specs.SessionStates.{SessionState, coded_state, state_after, reply_to}
+use Rattle.simulation.specs.Clusters.{ClusterStep, request, compact, moves, restart}
+use Rattle.simulation.specs.Codes.{coded_follower}
+use Rattle.simulation.specs.Followers as followers
+use Rattle.simulation.specs.Followers.{Follower}
+use Rattle.simulation.specs.Moves.{Moved, Outcome, replied, restarted, answers_by, move_by}
+use Rattle.cluster.specs.RecordedStates.{journal_after}
+
+-- a session, all that it wrote, the oldest first, and what follows each kind
+pub record ClusterState : Type 0 where
+  pub session : SessionState
+  pub journal : History
+  pub config_maps : Follower
+  pub pods : Follower
+  pub replica_sets : Follower
+  pub deployments : Follower
+
+-- a code by which a model may store it
+abbrev pub coded_cluster : Coded ClusterState
+coded_cluster =
+    code_by ((SessionState × History) × ((Follower × Follower) × (Follower × Follower)))
+    (coded× (coded× coded_state coded_history) (coded× (coded× coded_follower coded_follower) (coded× coded_follower coded_follower)))
+    (λ w. ((w.session, w.journal), ((w.config_maps, w.pods), (w.replica_sets, w.deployments))))
+    (λ p. record { session = p.0.0; journal = p.0.1; config_maps = p.1.0.0; pods = p.1.0.1; replica_sets = p.1.1.0; deployments = p.1.1.1 }) (λ _. refl)
+
+-- what follows nothing yet
+abbrev pub with_new_followers : SessionState → History → ClusterState
+with_new_followers s j =
+    record {
+      session = s;
+      journal = j;
+      config_maps = followers.begun ConfigMap;
+      pods = followers.begun Pod;
+      replica_sets = followers.begun ReplicaSet;
+      deployments = followers.begun Deployment;
+    }
+
+-- nothing has happened yet, and windows have this size
+abbrev pub opened : ℕ → ClusterState
+opened window = with_new_followers (sessions.begun window) []
+
+abbrev pub follower : Kind → ClusterState → Follower
+follower ConfigMap w = w.config_maps
+follower Pod w = w.pods
+follower ReplicaSet w = w.replica_sets
+follower Deployment w = w.deployments
+
+abbrev pub with_follower : Kind → Follower → ClusterState → ClusterState
+with_follower ConfigMap f w = record w { config_maps = f }
+with_follower Pod f w = record w { pods = f }
+with_follower ReplicaSet f w = record w { replica_sets = f }
+with_follower Deployment f w = record w { deployments = f }
+
+-- what is published of a kind, and at which revision
+abbrev pub published : Kind → ClusterState → Snapshot
+published k w = (follower k w).informer.published
+
+-- ---- steps
+
+-- a cluster after a step, and what is told of it
+pub record Stepped : Type 0 where
+  pub cluster : ClusterState
+  pub outcome : Outcome
+
+abbrev pub moved_in : Kind → ClusterState → Moved → Stepped
+moved_in k w m = record { cluster = with_follower k m.follower w; outcome = m.outcome }
+
+-- a line is answered, and what it writes is written
+abbrev pub answered_line : ClusterState → lines.Line → Stepped
+answered_line w l =
+    record { cluster = record w { session = state_after w.session l; journal = journal_after w.session w.journal l }; outcome = replied (reply_to w.session l) }
+
+-- what happened up to a revision is compacted, which writes nothing
+abbrev pub compacted_to : ClusterState → ℕ → Stepped
+compacted_to w r = record { cluster = record w { session = state_after w.session (lines.compact r) }; outcome = replied (reply_to w.session (lines.compact r)) }
+
+abbrev pub step : ClusterState → ClusterStep → Stepped
+step w (request t) = answered_line w (line_of t)
+step w (compact r) = compacted_to w r
+step w (moves k m) = moved_in k w (move_by k (answers_by k w.session.server) (follower k w) m)
+step w restart = record { cluster = with_new_followers w.session w.journal; outcome = restarted }
+
+-- one step after another
+abbrev pub run : ClusterState → List ClusterStep → ClusterState
+run w [] = w
+run w (s ∷ ss) = run (step w s).cluster ss

@@ -1,0 +1,6 @@
+pub mod RecordedStates
+pub mod ClusterStates
+pub mod Standing
+pub mod Requested
+pub mod Changes
+pub mod Headline

@@ -1,0 +1,25 @@
+-- What workers reach of a cluster: what is there, and what a request of theirs is answered and writes.
+use Rattle.std.specs.Prelude.{◌≡◌, ◌&&◌, Bool, Option}
+use Rattle.definitions.specs.History.{Write}
+use Rattle.definitions.specs.ObjectRequests.{Request}
+use Rattle.definitions.specs.Reached.{CanBeRead}
+use Rattle.definitions.specs.Verbs.{Answer, Outcome, answered, with_write, write_of}
+use Rattle.answer_laws.specs.AnswerLaws.{IsReadBack}
+use Rattle.session.specs.SessionStates.{SessionState, accepted, changed_by, of_write}
+use Rattle.cluster.specs.ClusterStates.{ClusterState}
+
+-- the first list of each kind was published (client-go, HasSynced)
+abbrev pub have_all_listed : ClusterState → Bool
+have_all_listed w = w.config_maps.has_listed && w.pods.has_listed && w.replica_sets.has_listed && w.deployments.has_listed
+
+-- this is what the answer to some request writes, whose body can be read of bytes
+abbrev pub IsWriteOf : SessionState → Option Write → Type 0
+IsWriteOf s o = (q : Request) × CanBeRead q × (write_of (accepted s q) ≡ o)
+
+-- where a request is answered, the text of the answer is read as the answer
+abbrev pub IsRead : Outcome → Type 0
+IsRead o = (a : Answer) → o ≡ answered a → IsReadBack a.body
+
+-- the cluster once this was written, if anything was
+abbrev pub written : Option Write → ClusterState → ClusterState
+written o w = record w { session = changed_by w.session (of_write o); journal = with_write w.journal o }

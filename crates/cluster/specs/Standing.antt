@@ -1,0 +1,21 @@
+-- What a stored cluster stands for.
+use Rattle.std.specs.Prelude.{◌≡◌}
+use Rattle.definitions.specs.History.{writes}
+use Rattle.session.specs.Laws as sessions
+use Rattle.simulation.specs.Clusters.{Cluster, history}
+use Rattle.simulation_laws.specs.ClusterLaws.{IsFollowed}
+use Rattle.cluster.specs.ClusterStates.{ClusterState}
+
+-- its server stands for all that has happened in the cluster, of which its journal has the writes, and what follows each kind is the
+-- same
+pub record StandsFor (w : ClusterState) (c : Cluster) : Type 0 where
+  pub session : sessions.Follows w.session c.session
+  pub journal : writes w.journal ≡ writes (history c)
+  pub config_maps : w.config_maps ≡ c.config_maps
+  pub pods : w.pods ≡ c.pods
+  pub replica_sets : w.replica_sets ≡ c.replica_sets
+  pub deployments : w.deployments ≡ c.deployments
+
+-- it stands for some cluster where what has happened can happen, and whose followers follow it
+unfoldable pub Stands : ClusterState → Type 0
+Stands w = (c : Cluster) × StandsFor w c × IsFollowed c

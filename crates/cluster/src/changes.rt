@@ -1,0 +1,47 @@
+//! Published changes of a cluster that are still to be handled, and what is published while they are.
+use crate::clusters::Cluster;
+use definitions::kinds::Kind;
+use followers::Notification;
+use indexer::Indexed;
+use std::alloc::AllocError;
+use turns::Looks;
+
+impl Cluster {
+    ghost use Rattle.std.specs.Prelude.{◌≡◌, IfOk, drop, option_map, slice_get};
+    ghost use Rattle.followers.specs.Notified.{notification_of};
+    ghost use Rattle.turns.specs.Hands.{looks_by};
+    ghost use Rattle.server_state.specs.Snapshots.{Snapshot};
+    ghost use Rattle.cluster.specs.Changes.{looks, without_oldest};
+    ghost use Rattle.cluster.specs.ClusterStates.{follower};
+
+    /// Returns the oldest of the published changes of a kind that are still to be handled, if one is. It takes no memory.
+    pub fn oldest(&self, kind: Kind) -> Option<&Notification>
+        ensures { option_map (λ n. notification_of n.now) result ≡ slice_get (follower kind self.now).unhandled 0 }
+    {
+        self.follower(kind).oldest()
+    }
+
+    /// Removes the oldest of the published changes of a kind that are still to be handled, since it was handled. It takes no memory.
+    pub fn remove_oldest(&mut self, kind: Kind)
+        ensures { self.new ≡ without_oldest kind self.old }
+    {
+        match kind {
+            Kind::ConfigMap => self.config_maps.remove_oldest(),
+            Kind::Pod => self.pods.remove_oldest(),
+            Kind::ReplicaSet => self.replica_sets.remove_oldest(),
+            Kind::Deployment => self.deployments.remove_oldest(),
+        }
+    }
+
+    /// Returns copies of what is published of each kind, which share the objects. The error is running out of memory.
+    pub fn looks(&self) -> Result<Looks<Indexed>, AllocError>
+        ensures { IfOk result (λ l. looks_by (λ (s : Snapshot). s.members) l ≡ looks self.now) }
+    {
+        Ok(Looks {
+            config_maps: self.config_maps.published().try_copy()?,
+            pods: self.pods.published().try_copy()?,
+            replica_sets: self.replica_sets.published().try_copy()?,
+            deployments: self.deployments.published().try_copy()?,
+        })
+    }
+}

@@ -1,0 +1,207 @@
+//! Clusters.
+use crate::recorded::RecordedSession;
+use crate::stopped::Stopped;
+use definitions::kinds::Kind;
+use followers::{Follower, Outcome};
+use indexer::Indexed;
+use revisions::Journal;
+use std::alloc::{AllocError, Global};
+use std::marker::Model;
+use steps::{Move, Step};
+
+/// A server with the journal of all writes, and what follows each kind of it.
+#[derive(Drop)]
+pub struct Cluster {
+    pub(crate) recorded: RecordedSession,
+    pub(crate) config_maps: Follower,
+    pub(crate) pods: Follower,
+    pub(crate) replica_sets: Follower,
+    pub(crate) deployments: Follower,
+}
+
+impl Model for Cluster {
+    ghost use Rattle.cluster.specs.ClusterStates.{ClusterState, coded_cluster};
+    ghost use Rattle.cluster.specs.Standing.{Stands};
+
+    ghost Value = { ClusterState };
+
+    ghost coded = { coded_cluster };
+
+    ghost view = { λ w. record {
+      session = w.recorded.session;
+      journal = w.recorded.journal;
+      config_maps = w.config_maps;
+      pods = w.pods;
+      replica_sets = w.replica_sets;
+      deployments = w.deployments;
+    } };
+
+    ghost invariant = { λ w. Stands (record {
+      session = w.recorded.session;
+      journal = w.recorded.journal;
+      config_maps = w.config_maps;
+      pods = w.pods;
+      replica_sets = w.replica_sets;
+      deployments = w.deployments;
+    }) };
+}
+
+impl Cluster {
+    ghost use Rattle.std.specs.Prelude.{◌≡◌, ◌<◌, IfOk, IfErr, OnOk, OnErr, [], ◌∷◌, length, map, take};
+    ghost use Rattle.line_protocol.specs.Lines.{line_of};
+    ghost use Rattle.simulation.specs.Moves.{answers_by, move_by};
+    ghost use Rattle.followers.specs.Outcomes.{outcome_of};
+    ghost use Rattle.steps.specs.Steps.{move_of, step_of};
+    ghost use Rattle.cluster.specs.Headline.{ShowsLists, RevisionsRise, ReplacesNamedVersion, ReplacesNamedVersions};
+    ghost use Rattle.cluster.specs.ClusterStates.{opened, published, moved_in, answered_line, compacted_to, with_new_followers, follower, step, run};
+
+    /// Returns the opening cluster: nothing is there, and the server's windows have this size. The error is running out of memory.
+    pub fn open(alloc: Global, window: usize) -> Result<Cluster, AllocError>
+        ensures { IfOk result (λ w. w ≡ opened window) }
+    {
+        Ok(Cluster {
+            recorded: RecordedSession::new(alloc, window)?,
+            config_maps: Follower::new(alloc, Kind::ConfigMap),
+            pods: Follower::new(alloc, Kind::Pod),
+            replica_sets: Follower::new(alloc, Kind::ReplicaSet),
+            deployments: Follower::new(alloc, Kind::Deployment),
+        })
+    }
+
+    /// Returns the journal of all writes, which the server itself does not keep.
+    pub fn journal(&self) -> &Journal
+        ensures { result.now ≡ self.now.journal }
+    {
+        self.recorded.journal()
+    }
+
+    /// Returns what follows a kind.
+    pub(crate) fn follower(&self, kind: Kind) -> &Follower
+        ensures { result.now ≡ follower kind self.now }
+    {
+        match kind {
+            Kind::ConfigMap => &self.config_maps,
+            Kind::Pod => &self.pods,
+            Kind::ReplicaSet => &self.replica_sets,
+            Kind::Deployment => &self.deployments,
+        }
+    }
+
+    /// Returns what is published of a kind: the objects, and the revision at which they are the server's; at first none, and 0.
+    pub fn published(&self, kind: Kind) -> &Indexed
+        ensures { result.now ≡ published kind self.now }
+    {
+        self.follower(kind).published()
+    }
+
+    /// Answers a line. The error is running out of memory, and changes nothing.
+    fn answer(&mut self, alloc: Global, text: &[u8]) -> Result<Outcome, AllocError>
+        ensures after { OnOk result (self.new ≡ (answered_line self.old (line_of text.now)).cluster) }
+        ensures outcome { IfOk result (λ o. outcome_of o ≡ (answered_line self.old (line_of text.now)).outcome) }
+        ensures err { OnErr result (self.new ≡ self.old) }
+    {
+        let reply = self.recorded.serve_text(alloc, text)?;
+        Ok(Outcome::Replied(reply))
+    }
+
+    /// Compacts up to a revision. The error is running out of memory, and changes nothing.
+    fn compact(&mut self, alloc: Global, revision: u64) -> Result<Outcome, AllocError>
+        ensures after { OnOk result (self.new ≡ (compacted_to self.old revision).cluster) }
+        ensures outcome { IfOk result (λ o. outcome_of o ≡ (compacted_to self.old revision).outcome) }
+        ensures err { OnErr result (self.new ≡ self.old) }
+    {
+        let reply = self.recorded.compact(alloc, revision)?;
+        Ok(Outcome::Replied(reply))
+    }
+
+    /// Moves the follower of a kind. The error is running out of memory, and changes nothing.
+    fn moves(&mut self, alloc: Global, kind: Kind, movement: Move) -> Result<Outcome, AllocError>
+        ensures after { OnOk result (self.new ≡ (moved_in kind self.old
+            (move_by kind (answers_by kind self.old.session.server) (follower kind self.old) (move_of movement))).cluster) }
+        ensures outcome { IfOk result (λ o. outcome_of o
+            ≡ (move_by kind (answers_by kind self.old.session.server) (follower kind self.old) (move_of movement)).outcome) }
+        ensures err { OnErr result (self.new ≡ self.old) }
+    {
+        let server = self.recorded.server();
+        match kind {
+            Kind::ConfigMap => self.config_maps.make(alloc, server, movement),
+            Kind::Pod => self.pods.make(alloc, server, movement),
+            Kind::ReplicaSet => self.replica_sets.make(alloc, server, movement),
+            Kind::Deployment => self.deployments.make(alloc, server, movement),
+        }
+    }
+
+    /// Has all followers begin anew.
+    fn restart(&mut self, alloc: Global)
+        ensures { self.new ≡ with_new_followers self.old.session self.old.journal }
+    {
+        self.config_maps = Follower::new(alloc, Kind::ConfigMap);
+        self.pods = Follower::new(alloc, Kind::Pod);
+        self.replica_sets = Follower::new(alloc, Kind::ReplicaSet);
+        self.deployments = Follower::new(alloc, Kind::Deployment);
+    }
+
+    /// Takes a step, and returns what is told of it. The error is running out of memory, and changes nothing.
+    fn take(&mut self, alloc: Global, wanted: Step<'_>) -> Result<Outcome, AllocError>
+        ensures after { OnOk result (self.new ≡ (step self.old (step_of wanted.entry)).cluster) }
+        ensures outcome { IfOk result (λ o. outcome_of o ≡ (step self.old (step_of wanted.entry)).outcome) }
+        ensures err { OnErr result (self.new ≡ self.old) }
+    {
+        match wanted {
+            Step::Request(text) => self.answer(alloc, text),
+            Step::Compact(revision) => self.compact(alloc, revision),
+            Step::Moves(kind, movement) => self.moves(alloc, kind, movement),
+            Step::Restart => {
+                self.restart(alloc);
+                Ok(Outcome::Restarted)
+            }
+        }
+    }
+
+    /// Takes a step, and returns what is told of it. The error is running out of memory, and changes nothing.
+    ///
+    /// Whatever was asked, then each published map is the server's list at the revision published with it; that revision fell by a
+    /// restart alone; and a write that names a version replaced just that version (Kubernetes API Conventions, Concurrency Control
+    /// and Consistency).
+    pub fn step(&mut self, alloc: Global, wanted: Step<'_>) -> Result<Outcome, AllocError>
+        ensures after { OnOk result (self.new ≡ (step self.old (step_of wanted.entry)).cluster) }
+        ensures outcome { IfOk result (λ o. outcome_of o ≡ (step self.old (step_of wanted.entry)).outcome) }
+        ensures lists { ShowsLists self.new }
+        ensures rise { RevisionsRise (step_of wanted.entry ∷ []) self.old self.new }
+        ensures replaces { ReplacesNamedVersion (step_of wanted.entry) self.old.journal self.new.journal }
+        ensures err { OnErr result (self.new ≡ self.old) }
+    {
+        // What holds of every cluster is known from here on.
+        let _cluster = &self.recorded;
+        self.take(alloc, wanted)
+    }
+
+    /// Takes one step after another.
+    fn take_all(&mut self, alloc: Global, steps: &[Step<'_>]) -> Result<(), Stopped>
+        ensures ok { OnOk result (self.new ≡ run self.old (map step_of steps.now)) }
+        ensures stopped { IfErr result (λ s. (s.taken < length steps.now) × (self.new ≡ run self.old (map step_of (take s.taken steps.now)))) }
+    {
+        for (taken, wanted) in steps.iter().enumerate() {
+            let Ok(_) = self.take(alloc, *wanted) else {
+                return Err(Stopped { taken });
+            };
+        }
+        Ok(())
+    }
+
+    /// Takes one step after another. The error says how many were taken before one ran out of memory.
+    ///
+    /// Whatever was asked, and also where it stopped, then each published map is the server's list at the revision published with it,
+    /// that revision fell by a restart alone, and each write that names a version replaced just that version.
+    pub fn run(&mut self, alloc: Global, steps: &[Step<'_>]) -> Result<(), Stopped>
+        ensures ok { OnOk result (self.new ≡ run self.old (map step_of steps.now)) }
+        ensures stopped { IfErr result (λ s. (s.taken < length steps.now) × (self.new ≡ run self.old (map step_of (take s.taken steps.now)))) }
+        ensures lists { ShowsLists self.new }
+        ensures rise { RevisionsRise (map step_of steps.now) self.old self.new }
+        ensures replaces { ReplacesNamedVersions (map step_of steps.now) self.old }
+    {
+        // What holds of every cluster is known from here on.
+        let _cluster = &self.recorded;
+        self.take_all(alloc, steps)
+    }
+}

@@ -1,5 +1,0 @@
-pub mod RecordedWrites
-pub mod Stood
-pub mod Headlines
-pub mod Answered
-pub mod Taking

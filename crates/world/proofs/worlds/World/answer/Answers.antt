@@ -1,7 +1,0 @@
-use Rattle.world.proofs.Answered.{world_of, standing_answered}
-use Rattle.world.proofs.worlds.World.answer.Goals as goal
-
-pub invariant_of-self-2 : goal.invariant_of-self-2
-invariant_of-self-2 c =
-    let w = world_of c.self.inside.recorded c.self.inside.config_maps c.self.inside.pods c.self.inside.replica_sets c.self.inside.deployments in
-    standing_answered w c.args.text.now c.serve_text.new.self.session c.serve_text.new.self.journal c.in_ok-reply.ensures.session c.in_ok-reply.ensures.journal c.self.invariant

@@ -1,8 +1,0 @@
-use Rattle.std.proofs.Common.{◌≡◌, map, take}
-use Rattle.steps.specs.Steps.{step_of}
-use Rattle.world.specs.WorldStates.{run}
-use Rattle.world.proofs.worlds.World.take_all.Given as goal
-
--- the steps so far were taken
-abbrev pub invariant-loop-taken : goal.invariant-loop-taken
-invariant-loop-taken l = l.self ≡ run l.fn.self (map step_of (take l.taken l.steps))

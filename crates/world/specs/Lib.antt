@@ -1,4 +1,0 @@
-pub mod RecordedStates
-pub mod WorldStates
-pub mod Standing
-pub mod Headline
