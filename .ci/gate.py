@@ -1,5 +1,5 @@
 """Runs the gate: whether the negative tests still apply and the made documents are the present ones, `rt ci`, the conformance cases, and
-the cases over HTTP with the program that `rt ci` built, one after another, whatever the others say.
+schedules and the cases over HTTP with the program that `rt ci` built, one after another, whatever the others say.
 
 It shows what they print, and ends with tables of what took how long, what the first of them named, what `rt ci` found wrong, and a line
 'N passed, M failed'.
@@ -19,7 +19,9 @@ import time
 sys.dont_write_bytecode = True
 ROOT = pathlib.Path(__file__).resolve().parent.parent
 PROGRAM = "crates/kcp/out/kcp"
+FOLLOWER = "crates/watch_example/out/watch_example"
 RANDOM_HEADS = 5000
+RANDOM_SCHEDULES = 200
 # What `rt ci` says of a proof, a negative test, a test or a program that is not as it has to be.
 WRONG = re.compile("NOT PROVED|NOT REFUSED|NOT TRIED|BAD EDIT|FAILED|not what|ended with status")
 sys.path[:0] = [str(ROOT / ".ci"), str(ROOT / "conformance")]
@@ -112,16 +114,20 @@ def asked_first(log):
     return {name: Run([sys.executable, "-B", script, "--check"], log) for name, script in scripts.items()}
 
 
-def asked_over_http(log):
-    """Runs what asks the program that `rt ci` built over sockets: cases, random heads, many clients at once, and real clients where they
-    are installed."""
+def asked_of_program(log):
+    """Runs what asks the program that `rt ci` built: schedules of a simulated cluster, and over sockets cases, random heads, many clients at
+    once, real clients where they are installed, and a follower through a proxy and over recorded bytes."""
     words = {
+        "schedules": ["simulate/run.py", "--random", str(RANDOM_SCHEDULES)],
         "cases over HTTP": ["http/run.py"],
         "random heads": ["http/heads.py", "--count", str(RANDOM_HEADS)],
         "histories": ["histories/run.py"],
         "clients": ["clients/run.py"],
+        "following": ["following/run.py", "--follower", FOLLOWER, "--short"],
     }
-    return {name: Run([sys.executable, "-B", f"conformance/{script}", "--program", PROGRAM, *rest], log) for name, (script, *rest) in words.items()}
+    ran = {name: Run([sys.executable, "-B", f"conformance/{script}", "--program", PROGRAM, *rest], log) for name, (script, *rest) in words.items()}
+    ran["recorded bytes"] = Run([sys.executable, "-B", "conformance/recorded/run.py", "--follower", FOLLOWER], log)
+    return ran
 
 
 def show(room, *what):
@@ -145,11 +151,11 @@ def main():
         looking.is_ended.set()
         used = used_by_children() - before
         conforms = Run([sys.executable, "-B", "conformance/run.py"], log)
-        served = asked_over_http(log)
+        asked = asked_of_program(log)
     show(room, proved, conforms, looking, used)
     print(f"kept: {room}/output.txt, {room}/figures.json\n")
     print("\n".join([*(line for _, line in first["negative tests apply"].lines), *proved.wrong()]))
-    runs = {**first, "rt ci": proved, "conformance": conforms, **served}
+    runs = {**first, "rt ci": proved, "conformance": conforms, **asked}
     for name, run in runs.items():
         print(f"{name}: {'ok' if not run.counts()[1] else 'FAILED'}")
     counts = [run.counts() for run in runs.values()]

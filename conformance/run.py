@@ -2,8 +2,9 @@
 """Runs the program on each case and compares what it writes.
 
 A case is a pair of files in cases/: NAME.replay has the bytes of standard input of `kcp replay`, NAME.expect those of its
-standard output. The program is built from the sources by `rt try`, which takes seconds, proves nothing, and lets a program write
-a mebibyte at most: cases that write more are left out, and named. `--program PATH` runs all on one that is built already.
+standard output (simulate/run.py runs cases of `kcp simulate` likewise). The program is built from the sources by `rt try`,
+which takes seconds, proves nothing, and lets a program write a mebibyte at most: cases that write more are left out, and
+named. `--program PATH` runs all on one that is built already.
 
 A case of many or of long lines is written in short: NAME.replay.short and NAME.expect.short. Each of their lines is a number, a
 space, and a line that is meant so many times, for which Python's `%` fills in `number`, from 1 on over the whole file, `revision`,
@@ -11,22 +12,16 @@ one more than that, and `blank`, which is empty: `%(blank)1000s` is a thousand b
 Usage: run.py [--program PATH] [WORD]      WORD: only cases whose name has it
 """
 import argparse
+import dataclasses
 import pathlib
 import subprocess
 import sys
 import tempfile
 
 HERE = pathlib.Path(__file__).resolve().parent
-CASES = HERE / "cases"
 PROGRAM = HERE.parent / "crates" / "kcp"
 SECONDS = 60
 LONGEST_TRIED = 1_048_576
-
-
-def cases(word):
-    """Returns the names of the cases, in order."""
-    names = {path.name.split(".")[0] for path in CASES.iterdir()}
-    return sorted(name for name in names if word in name)
 
 
 def whole(short):
@@ -39,21 +34,35 @@ def whole(short):
     return "".join(lines).encode()
 
 
-def read(name, end):
+@dataclasses.dataclass
+class Case:
+    """What is read, and what is to be written."""
+
+    name: str
+    given: bytes
+    wanted: bytes
+
+
+def cases(folder, command, word):
+    """Returns the cases of a command in a folder whose names have a word, in order."""
+    names = sorted({path.name.split(".")[0] for path in folder.iterdir()})
+    return [Case(name, read(folder, name, command), read(folder, name, "expect")) for name in names if word in name]
+
+
+def read(folder, name, end):
     """Returns the bytes of a file of a case."""
-    path = CASES / f"{name}.{end}"
-    return path.read_bytes() if path.exists() else whole((CASES / f"{name}.{end}.short").read_bytes())
+    path = folder / f"{name}.{end}"
+    return path.read_bytes() if path.exists() else whole((folder / f"{name}.{end}.short").read_bytes())
 
 
-def by_program(program, names):
+def by_program(program, command, asked):
     """Returns the names of the cases that a built program fails."""
     failed = []
-    for name in names:
-        given, wanted = read(name, "replay"), read(name, "expect")
-        run = subprocess.run([program, "replay"], input=given, capture_output=True, timeout=SECONDS)
-        if run.stdout != wanted or run.returncode != 0:
-            failed.append(name)
-            show(name, wanted, run.stdout, run.returncode)
+    for case in asked:
+        run = subprocess.run([program, command], input=case.given, capture_output=True, timeout=SECONDS)
+        if run.stdout != case.wanted or run.returncode != 0:
+            failed.append(case.name)
+            show(case.name, case.wanted, run.stdout, run.returncode)
     return failed
 
 
@@ -67,20 +76,20 @@ def show(name, wanted, written, code):
     print(f"  wanted {len(wanted)} bytes, written {len(written)}")
 
 
-def by_try(names):
+def by_try(command, asked):
     """Returns the names of the cases that the program fails as `rt try` builds it."""
     with tempfile.TemporaryDirectory() as folder:
-        for name in names:
-            (pathlib.Path(folder) / name).write_bytes(read(name, "replay"))
-            (pathlib.Path(folder) / f"{name}.stdout").write_bytes(read(name, "expect"))
-        command = ["rt", "try", "--seconds", str(SECONDS), "--cases", folder, "--", "replay"]
-        run = subprocess.run(command, cwd=PROGRAM, capture_output=True, text=True, errors="replace")
+        for case in asked:
+            (pathlib.Path(folder) / case.name).write_bytes(case.given)
+            (pathlib.Path(folder) / f"{case.name}.stdout").write_bytes(case.wanted)
+        words = ["rt", "try", "--seconds", str(SECONDS), "--cases", folder, "--", command]
+        run = subprocess.run(words, cwd=PROGRAM, capture_output=True, text=True, errors="replace")
         said = run.stdout + run.stderr
         passed = {line.split()[0][len("case="):] for line in said.splitlines() if has_passed(line.split())}
-        failed = [name for name in names if name not in passed]
+        failed = [case.name for case in asked if case.name not in passed]
         if failed or run.returncode != 0:
             print(said[-20000:])
-        return failed if failed or run.returncode == 0 else names
+        return failed if failed or run.returncode == 0 else [case.name for case in asked]
 
 
 def has_passed(words):
@@ -88,19 +97,24 @@ def has_passed(words):
     return words[:1] != [] and words[0].startswith("case=") and {"run=ended", "status=0", "output=expected"} <= set(words)
 
 
+def judge(program, command, asked):
+    """Runs the program on these cases, says how many passed, and ends with a status that says whether all did. Without a program that is
+    built, the cases that write more than `rt try` lets them are left out."""
+    if not program:
+        long = [case.name for case in asked if len(case.wanted) > LONGEST_TRIED]
+        asked = [case for case in asked if case.name not in long]
+        print("".join(f"left out, for --program: {name}\n" for name in long), end="")
+    failed = by_program(program, command, asked) if program else by_try(command, asked)
+    print(f"{len(asked) - len(failed)} passed, {len(failed)} failed")
+    sys.exit(1 if failed or not asked else 0)
+
+
 def main():
     parser = argparse.ArgumentParser(description=__doc__.splitlines()[0])
     parser.add_argument("--program")
     parser.add_argument("word", nargs="?", default="")
     asked = parser.parse_args()
-    names = cases(asked.word)
-    if not asked.program:
-        long = [name for name in names if len(read(name, "expect")) > LONGEST_TRIED]
-        names = [name for name in names if name not in long]
-        print("".join(f"left out, for --program: {name}\n" for name in long), end="")
-    failed = by_program(asked.program, names) if asked.program else by_try(names)
-    print(f"{len(names) - len(failed)} passed, {len(failed)} failed")
-    sys.exit(1 if failed or not names else 0)
+    judge(asked.program, "replay", cases(HERE / "cases", "replay", asked.word))
 
 
 if __name__ == "__main__":

@@ -16,7 +16,7 @@ PAGE = ROOT / "docs/ARCHITECTURE.md"
 BEGIN, END = "<!-- made by docs/layers.py -->\n", "<!-- end -->\n"
 
 # Layers that no other stands on are left out of the picture.
-ASIDE = ("Tests", "Benchmarks")
+ASIDE = ("Examples", "Tests", "Benchmarks")
 
 
 def layers():

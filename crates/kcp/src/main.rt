@@ -1,5 +1,5 @@
-//! The control plane's program: `kcp replay` answers the request lines of its standard input, and `kcp serve` the requests that come
-//! over HTTP/1.1.
+//! The control plane's program: `kcp replay` answers the request lines of its standard input, `kcp simulate` takes the steps of a
+//! simulated cluster that lines ask for, and `kcp serve` answers the requests that come over HTTP/1.1.
 #![tactic(auto)]
 
 ghost use Rattle.std.specs.Prelude.{◌≡◌, OnOk, OnErr, IfErr, IfSome};
@@ -8,6 +8,8 @@ ghost use Rattle.definitions.specs.Replies.{default_window};
 ghost use Rattle.line_protocol.specs.Lines as lines;
 ghost use Rattle.line_service.specs.Replies.{AppendsBeginning};
 ghost use Rattle.kcp.specs.Replays.{fault_text, serve_fault_text, AnswersSome};
+ghost use Rattle.simulation.specs.StepLines.{simulate};
+ghost use Rattle.simulations.specs.Laws as simulated;
 
 mod handling;
 mod serving_threads;
@@ -63,6 +65,25 @@ pub fn replay<R: BufRead, W: Write>(
     replay_with(alloc, DEFAULT_WINDOW, reader, writer)
 }
 
+/// Takes the steps of a simulated cluster that the lines ask for, one after another, and writes what is told of each and nothing
+/// else. Each outcome is flushed before the next line is waited for.
+///
+/// At an error a beginning of all outcomes was written: no step after the one at which the error came is taken. The
+/// outcomes of those before it were written whole.
+pub fn simulate<R: BufRead, W: Write>(
+    alloc: Global,
+    reader: &mut R,
+    writer: &mut W,
+) -> Result<(), RunFault>
+    ensures ok { OnOk result (IfSome (R.remaining reader.old) (λ input.
+        Appends (W.contents writer.old) (W.contents writer.new) (simulate input))) }
+    ensures err { OnErr result (IfSome (R.remaining reader.old) (λ input.
+        AppendsBeginning (W.contents writer.old) (W.contents writer.new) (simulate input))) }
+    ensures ended { IfErr result (λ fault. IfSome (R.remaining reader.old) (simulated.AnswersSome fault (W.contents writer.old) (W.contents writer.new))) }
+{
+    simulations::simulate(alloc, reader, writer)
+}
+
 /// Returns what the words after the program's name ask, if they ask something.
 fn command(rt: &HostRuntime) -> io::Result<Option<Command>> {
     let mut words = Vec::new(rt.alloc());
@@ -81,6 +102,17 @@ fn replay_standard_input(rt: &HostRuntime) -> Result<(), RunFault> {
         return Err(RunFault::Want);
     };
     replay(rt.alloc(), &mut reader, &mut writer)
+}
+
+/// Takes the steps that the lines of standard input ask for, and tells them on standard output.
+fn simulate_standard_input(rt: &HostRuntime) -> Result<(), RunFault> {
+    let (Ok(mut reader), Ok(mut writer)) = (
+        BufReader::new(rt.alloc(), rt.reader()),
+        BufWriter::new(rt.alloc(), io::writer(rt)),
+    ) else {
+        return Err(RunFault::Want);
+    };
+    simulate(rt.alloc(), &mut reader, &mut writer)
 }
 
 /// Returns what a fault is called on standard error.
@@ -105,8 +137,8 @@ fn serve_fault_name(fault: ServeFault) -> &'static str
     }
 }
 
-/// Returns what an outcome of replaying is called where it is a fault.
-fn replayed(outcome: Result<(), RunFault>) -> Result<(), &'static str> {
+/// Returns what an outcome of a run over lines is called where it is a fault.
+fn ran(outcome: Result<(), RunFault>) -> Result<(), &'static str> {
     match outcome {
         Ok(()) => Ok(()),
         Err(fault) => Err(fault_name(fault)),
@@ -123,7 +155,8 @@ fn served(outcome: Result<(), ServeFault>) -> Result<(), &'static str> {
 
 fn main(rt: HostRuntime) -> io::Result<ExitCode> {
     let outcome = match command(&rt) {
-        Ok(Some(Command::Replay)) => replayed(replay_standard_input(&rt)),
+        Ok(Some(Command::Replay)) => ran(replay_standard_input(&rt)),
+        Ok(Some(Command::Simulate)) => ran(simulate_standard_input(&rt)),
         Ok(Some(Command::Serve(options))) => {
             let mut writer = io::writer(&rt);
             served(serving_threads::serve(&rt, rt.alloc(), options, &mut writer))

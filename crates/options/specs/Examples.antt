@@ -1,20 +1,22 @@
 -- Words, and the commands that they ask, computed from the definitions.
 use Rattle.std.specs.Prelude.{◌≡◌, ℕ, List, [], ◌∷◌, codes, Option, Some, None}
 use Rattle.options.specs.declared.command.Command.{Command}
-use Rattle.options.specs.declared.command.Command.TheVariants.{Replay, Serve}
+use Rattle.options.specs.declared.command.Command.TheVariants.{Replay, Simulate, Serve}
 use Rattle.options.specs.Options.{command}
 
 -- what `serve` is asked by an option and its value
 abbrev pub with_one : List ℕ → List ℕ → Option Command
 with_one name value = command (codes "serve" ∷ name ∷ value ∷ [])
 
--- no word, another word, and a word after `replay` ask nothing; `replay` alone asks a replay
+-- no word, another word, and a word after `replay` or `simulate` ask nothing; alone each asks a command
 abbrev pub CommandsAreNamed : Type 0
 CommandsAreNamed =
     (command [] ≡ None)
     × (command (codes "Replay" ∷ []) ≡ None)
     × (command (codes "replay" ∷ codes "serve" ∷ []) ≡ None)
     × (command (codes "replay" ∷ []) ≡ Some Replay)
+    × (command (codes "simulate" ∷ codes "--window" ∷ codes "4" ∷ []) ≡ None)
+    × (command (codes "simulate" ∷ []) ≡ Some Simulate)
 
 -- `serve` alone has the defaults; options stand in any order
 abbrev pub OptionsAreSaid : Type 0

@@ -9,7 +9,7 @@ use Rattle.options.specs.declared.setting.Setting.{Setting}
 use Rattle.options.specs.declared.setting.Setting.TheVariants.{Port, Window, Threads, Requests}
 use Rattle.options.specs.declared.command.ServeOptions.{ServeOptions}
 use Rattle.options.specs.declared.command.Command.{Command}
-use Rattle.options.specs.declared.command.Command.TheVariants.{Replay, Serve}
+use Rattle.options.specs.declared.command.Command.TheVariants.{Replay, Simulate, Serve}
 
 -- what an option is called, and the least and the greatest number that it takes
 pub record Row : Type 0 where
@@ -76,10 +76,11 @@ serve_options words = record {
   requests = said Requests words;
 }
 
--- the command that words ask: `replay` alone, or `serve` with its options; anything else is bad arguments
+-- the command that words ask: `replay` or `simulate` alone, or `serve` with its options; anything else is bad arguments
 abbrev pub command : List (List ℕ) → Option Command
 command [] = None
 command (word ∷ rest) =
     if bytes_eq word (codes "replay") && (length rest == 0) then Some Replay
+    else if bytes_eq word (codes "simulate") && (length rest == 0) then Some Simulate
     else if bytes_eq word (codes "serve") && are_options serve_settings rest then Some (Serve (serve_options rest))
     else None

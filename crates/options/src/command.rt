@@ -22,6 +22,8 @@ pub struct ServeOptions {
 pub enum Command {
     /// Request lines are answered.
     Replay,
+    /// The steps of a simulated cluster are taken.
+    Simulate,
     /// Connections are served.
     Serve(ServeOptions),
 }
@@ -85,6 +87,9 @@ impl Command {
         let (word, rest) = words.split_first()?;
         if word.as_str() == "replay" && rest.is_empty() {
             return Some(Command::Replay);
+        }
+        if word.as_str() == "simulate" && rest.is_empty() {
+            return Some(Command::Simulate);
         }
         if word.as_str() == "serve" && are_options(&SERVE_SETTINGS, rest) {
             return Some(Command::Serve(ServeOptions::of_words(rest)));

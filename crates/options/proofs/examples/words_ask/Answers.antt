@@ -3,7 +3,7 @@ use Rattle.options.proofs.examples.words_ask.Goals as goal
 
 pub returns : goal.returns
 returns c = record {
-  commands_are_named = (refl, refl, refl, refl);
+  commands_are_named = (refl, refl, refl, refl, refl, refl);
   options_are_said = (refl, refl, refl);
   options_stand_once = (refl, refl, refl, refl, refl, refl);
   numbers_have_bounds = (refl, refl, refl, refl, refl, refl, refl, refl, refl);

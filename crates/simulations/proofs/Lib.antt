@@ -1,0 +1,4 @@
+pub mod Alongside
+pub mod Taken
+pub mod Simulated
+pub mod Stands

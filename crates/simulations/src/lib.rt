@@ -1,0 +1,10 @@
+//! A simulated cluster as a service of lines: each line that is read is a step, and what comes of it is told.
+#![tactic(auto)]
+
+pub mod runs;
+pub mod service_laws;
+pub mod simulations;
+mod telling;
+
+pub use runs::simulate;
+pub use simulations::Simulation;
