@@ -1,0 +1,6 @@
+pub mod Firsts
+pub mod Issues
+pub mod Steps
+pub mod PodCounts
+pub mod Phases
+pub mod Turning

@@ -1,0 +1,15 @@
+use Rattle.std.proofs.Common.{rules}
+use Rattle.reconciling.specs.Turns.{asks_by}
+use Rattle.workers.proofs.planning.asks.Goals as goal
+
+pub returns-in-ReplicaSet : goal.returns-in-ReplicaSet
+unfolding asks_by
+returns-in-ReplicaSet c = search rules
+
+pub returns-in-Deployment : goal.returns-in-Deployment
+unfolding asks_by
+returns-in-Deployment c = search rules
+
+pub returns-in-Collector : goal.returns-in-Collector
+unfolding asks_by
+returns-in-Collector c = search rules
