@@ -1,0 +1,4 @@
+pub mod Hands
+pub mod Standing
+pub mod Same
+pub mod Turns

@@ -1,0 +1,170 @@
+-- A board that is what a history gives, and a step of a pass that is added to the history.
+use Rattle.std.proofs.Common.{◌≡◌, ◌≢◌, ⊎_elim, ℕ, ◌+◌, List, [], ◌∷◌, ◌++◌, length, refl, sym, ap, ◌∙◌, subst, append-nil, true, false, true≢false, Bool, not, ◌&&◌, if◌then◌else◌, arith}
+use Rattle.std.specs.Prelude.{Option, Some, None, IfSome, unwrap_or}
+use Rattle.std.specs.FinSet as set
+use Rattle.std.specs.FinSet.{contains-remove}
+use Rattle.baton.specs.Marks.{StartsWith, entries, made_by, marked, CanHappen}
+use Rattle.baton.specs.Passes.{Met, Longer, Taken}
+use Rattle.baton.specs.declared.views.Known.{Known}
+use Rattle.baton.specs.declared.views.View as views
+use Rattle.control.specs.Boards.{Board, Observation, begun, taken}
+use Rattle.controllers.specs.WorkQueues as queues
+use Rattle.controllers.specs.WorkQueues.{WorkKey, WorkQueue, got, got_from, handed, front}
+use Rattle.controllers.proofs.WorkKeyOrder.{work_key_total}
+use Rattle.shared_board.specs.Calls.{IsCall, HasTaken, after_give}
+use Rattle.shared_board.specs.Hands.{board, IsBegun, MayFollow}
+use Rattle.shared_board.specs.Steps.{Step, take, finish, requeue, after, after_steps, is_same, changing, taking, taking_of, in_hand, in_hand_after, IsAllowed}
+use Rattle.shared_board.proofs.Hands.{same_itself}
+use Rattle.shared_board.proofs.Same.{same_is, differs, apart}
+use Rattle.shared_board.proofs.Standing.{hands_apart, done_holds, in_hand_snoc}
+
+-- ---- one step more
+
+changed : (b : Board) (e : Step) (name : ℕ) → after_steps b (entries (marked name (changing e b))) ≡ after b e
+changed b e name = by (is_same (after b e) b) refl
+  where
+    by : (r : Bool) → is_same (after b e) b ≡ r → after_steps b (entries (marked name (if r then None else Some e))) ≡ after b e
+    by true same = sym (same_is (after b e) b same)
+    by false same = refl
+
+entries-append : (g h : List (ℕ × Step)) → entries (g ++ h) ≡ entries g ++ entries h
+entries-append [] h = refl
+entries-append (x ∷ g) h = ap (λ l. x.1 ∷ l) (entries-append g h)
+
+after_more : (b : Board) (es fs : List Step) → after_steps b (es ++ fs) ≡ after_steps (after_steps b es) fs
+after_more b [] fs = refl
+after_more b (x ∷ es) fs = after_more (after b x) es fs
+
+some_same : {X : Type 0} (x y : X) (p : Option X) → p ≡ Some x → p ≡ Some y → x ≡ y
+some_same x y p a b = ap (λ q. unwrap_or q y) (sym a ∙ b)
+
+-- the board that a pass gives back is the one that its history with the step gives
+gives : (h : List (ℕ × Step)) (name : ℕ) (change : Option Step) (t opening : Board) (p : Option Board) → p ≡ Some begun → t ≡ after_steps (board h) (entries (marked name change)) → p ≡ Some opening
+    → t ≡ after_steps opening (entries (h ++ marked name change))
+gives h name change t opening p named is so =
+    is ∙ sym (ap (after_steps begun) (entries-append h (marked name change)) ∙ after_more begun (entries h) (entries (marked name change)))
+    ∙ ap (λ o. after_steps o (entries (h ++ marked name change))) (some_same begun opening p named so)
+
+pub gives_step : (h : List (ℕ × Step)) (name : ℕ) (change : Option Step) (e : Step) (s t opening : Board) (p : Option Board) → p ≡ Some begun → s ≡ board h → t ≡ after s e → change ≡ changing e (board h) → p ≡ Some opening
+    → t ≡ after_steps opening (entries (h ++ marked name change))
+gives_step h name change e s t opening p named is done entry so =
+    gives h name change t opening p named (done ∙ ap (λ b. after b e) is ∙ sym (changed (board h) e name) ∙ ap (λ c. after_steps (board h) (entries (marked name c))) (sym entry)) so
+
+-- a step that is allowed may follow, where it changes the board
+pub follows_step : (h : List (ℕ × Step)) (name : ℕ) (change : Option Step) (e : Step) → IsAllowed (in_hand (made_by name h)) (board h) e → change ≡ changing e (board h) → IfSome change (λ d. MayFollow h name d)
+follows_step h name change e allowed entry = subst (λ (c : Option Step). IfSome c (λ d. MayFollow h name d)) (sym entry) (by (is_same (after (board h) e) (board h)) refl)
+  where
+    by : (r : Bool) → is_same (after (board h) e) (board h) ≡ r → IfSome (if r then None else Some e) (λ d. MayFollow h name d)
+    by true same = tt
+    by false same = (apart (after (board h) e) (board h) same, allowed)
+
+-- ---- takes
+
+taken_none : (b : Board) → handed b.work ≡ None → taken b ≡ b
+taken_none b e = by b.work.queue e
+  where
+    by : (ks : List WorkKey) → front ks ≡ None → record b { work = got_from ks b.work } ≡ b
+    by [] e = refl
+    by (k ∷ ks) e = let e' : Some k ≡ None = e in absurd (cc)
+
+shorter : (ks : List WorkKey) (w : WorkQueue) (k : WorkKey) → front ks ≡ Some k → length (got_from ks w).queue + 1 ≡ length ks
+shorter [] w k e = let e' : None ≡ Some k = e in absurd (cc)
+shorter (j ∷ ks) w k e = omega arith
+
+take_changes : (b : Board) (k : WorkKey) → handed b.work ≡ Some k → is_same (taken b) b ≡ false
+take_changes b k e = differs (taken b) b (λ is. let n : length (got b.work).queue ≡ length b.work.queue = ap (λ z. length z.work.queue) is in let m = shorter b.work.queue b.work k e in omega (arith, n, m))
+
+took : (b : Board) (name : ℕ) → after_steps b (entries (marked name (taking b))) ≡ taken b
+took b name = by (handed b.work) refl
+  where
+    by : (o : Option WorkKey) → handed b.work ≡ o → after_steps b (entries (marked name (taking_of o b))) ≡ taken b
+    by None e = sym (taken_none b e)
+    by (Some k) e = changed b (take k) name
+
+pub gives_take : (h : List (ℕ × Step)) (name : ℕ) (change : Option Step) (s t opening : Board) (p : Option Board) → p ≡ Some begun → s ≡ board h → t ≡ taken s → change ≡ taking (board h) → p ≡ Some opening
+    → t ≡ after_steps opening (entries (h ++ marked name change))
+gives_take h name change s t opening p named is done entry so =
+    gives h name change t opening p named (done ∙ ap taken is ∙ sym (took (board h) name) ∙ ap (λ c. after_steps (board h) (entries (marked name c))) (sym entry)) so
+
+-- ---- the key in hand
+
+in_hand_marked : (made : List Step) (name : ℕ) (e : Step) → in_hand (made ++ entries (marked name (Some e))) ≡ in_hand_after (in_hand made) e
+in_hand_marked made name e = in_hand_snoc made e
+
+-- a take leaves in hand the key that was next
+pub key_taken : (b : Board) (made : List Step) (name : ℕ) (change : Option Step) (o : Option WorkKey) → in_hand made ≡ None → o ≡ handed b.work → change ≡ taking b → in_hand (made ++ entries (marked name change)) ≡ o
+key_taken b made name change o free next entry = ap (λ c. in_hand (made ++ entries (marked name c))) entry ∙ by (handed b.work) refl ∙ sym next
+  where
+    by : (p : Option WorkKey) → handed b.work ≡ p → in_hand (made ++ entries (marked name (taking_of p b))) ≡ p
+    by None e = ap in_hand (append-nil made) ∙ free
+    by (Some k) e = ap (λ r. in_hand (made ++ entries (marked name (if r then None else Some (take k))))) (take_changes b k e) ∙ in_hand_marked made name (take k)
+
+-- what keeps the hand keeps it whether or not it changes the board
+pub key_stays : (b : Board) (made : List Step) (name : ℕ) (change : Option Step) (e : Step) → ((mine : Option WorkKey) → in_hand_after mine e ≡ mine) → change ≡ changing e b → in_hand (made ++ entries (marked name change)) ≡ in_hand made
+key_stays b made name change e keeps entry = ap (λ c. in_hand (made ++ entries (marked name c))) entry ∙ by (is_same (after b e) b)
+  where
+    by : (r : Bool) → in_hand (made ++ entries (marked name (if r then None else Some e))) ≡ in_hand made
+    by true = ap in_hand (append-nil made)
+    by false = in_hand_marked made name e ∙ keeps (in_hand made)
+
+-- what a pass holds is in process
+in_process : (h : List (ℕ × Step)) (name : ℕ) (made : List Step) (k : WorkKey) → CanHappen MayFollow h → made_by name h ≡ made → in_hand made ≡ Some k → set.contains (board h).work.processing k ≡ true
+in_process h name made k can is mine = (hands_apart h can).processed name k (ap in_hand is ∙ mine)
+
+removed : (k : WorkKey) (w : WorkQueue) → set.contains w.processing k ≡ true → set.contains (queues.done k w).processing k ≡ false
+removed k w e = ap (λ s. set.contains s k) (done_holds k w e) ∙ contains-remove work_key_total w.processing k k ∙ ap (λ b. not b && set.contains w.processing k) (same_itself k)
+
+emptied : (b : Board) (made : List Step) (name : ℕ) (change : Option Step) (e : Step) (k : WorkKey) → (after b e).work ≡ queues.done k b.work → ((mine : Option WorkKey) → in_hand_after mine e ≡ None) → set.contains b.work.processing k ≡ true → change ≡ changing e b
+    → in_hand (made ++ entries (marked name change)) ≡ None
+emptied b made name change e k is drops there entry =
+    let apart : is_same (after b e) b ≡ false = differs (after b e) b (λ same. true≢false (sym there ∙ ap (λ z. set.contains z.work.processing k) (sym same) ∙ ap (λ w. set.contains w.processing k) is ∙ removed k b.work there)) in
+    ap (λ c. in_hand (made ++ entries (marked name c))) entry ∙ ap (λ r. in_hand (made ++ entries (marked name (if r then None else Some e)))) apart ∙ in_hand_marked made name e ∙ drops (in_hand made)
+
+-- who gives its key back holds none
+pub key_finished : (h : List (ℕ × Step)) (made : List Step) (name : ℕ) (change : Option Step) (k : WorkKey) → CanHappen MayFollow h → made_by name h ≡ made → in_hand made ≡ Some k → change ≡ changing (finish k) (board h)
+    → in_hand (made ++ entries (marked name change)) ≡ None
+key_finished h made name change k can is mine entry = emptied (board h) made name change (finish k) k refl (λ m. refl) (in_process h name made k can is mine) entry
+
+pub key_requeued : (h : List (ℕ × Step)) (made : List Step) (name : ℕ) (change : Option Step) (k : WorkKey) (ss : List Observation) → CanHappen MayFollow h → made_by name h ≡ made → in_hand made ≡ Some k → change ≡ changing (requeue k ss) (board h)
+    → in_hand (made ++ entries (marked name change)) ≡ None
+key_requeued h made name change k ss can is mine entry = emptied (board h) made name change (requeue k ss) k refl (λ m. refl) (in_process h name made k can is mine) entry
+
+-- ---- a whole call
+
+pub calls : (v w x : Known Board Step) (change : Board → Option Step) (Says : Board → Type 0) → HasTaken v w → Says (board w.seen) → x ≡ after_give w (change (board w.seen)) → IsCall v change Says x
+calls v w x change Says t says is = record {
+  history = w.seen;
+  later = t.later;
+  made = t.made;
+  happened = t.happened;
+  says = says;
+  knows = is ∙ (λ i. after_give (t.same i) (change (board w.seen)))
+      ∙ (λ i. record v { seen = w.seen ++ marked v.name (change (board w.seen)); made = v.made ++ entries (marked v.name (change (board w.seen))); holds = sym t.free i });
+}
+
+-- two passes that met hold no key both
+pub meet_apart : (v w : Known Board Step) → Met IsBegun after_steps MayFollow v w → (k : WorkKey) → in_hand v.made ≡ Some k → in_hand w.made ≢ Some k
+meet_apart v w met k a b =
+    ⊎_elim (λ (x : Longer IsBegun after_steps MayFollow v w). met.0 ((hands_apart v.seen x.3).apart v.name w.name k (ap in_hand x.1 ∙ a) (ap in_hand x.2 ∙ b)))
+    (λ (x : Longer IsBegun after_steps MayFollow w v). met.0 ((hands_apart w.seen x.3).apart v.name w.name k (ap in_hand x.2 ∙ a) (ap in_hand x.1 ∙ b))) met.1
+
+-- ---- a take
+
+seen_then : (v w : views.View Board Step) (x : Board) (t : Taken IsBegun after_steps MayFollow v x w) → w.own.seen ≡ t.history
+seen_then v w x t = ap (λ z. z.own.seen) t.knows
+
+-- what a take tells of the pass
+pub taken_by : (v w : views.View Board Step) (x : Board) → Taken IsBegun after_steps MayFollow v x w → v.own.holds ≡ false → HasTaken v.own w.own
+taken_by v w x t free =
+    let seen : w.own.seen ≡ t.history = seen_then v w x t in
+    record {
+      later = subst (λ (h : List (ℕ × Step)). StartsWith h v.own.seen) (sym seen) t.later;
+      made = subst (λ (h : List (ℕ × Step)). made_by v.own.name h ≡ v.own.made) (sym seen) t.made;
+      happened = subst (λ (h : List (ℕ × Step)). CanHappen MayFollow h) (sym seen) t.happened;
+      same = ap (λ z. z.own) t.knows ∙ (λ i. record v.own { seen = sym seen i; holds = true });
+      free = free;
+    }
+
+-- and of the board
+pub board_of : (v w : views.View Board Step) (x : Board) (t : Taken IsBegun after_steps MayFollow v x w) → v.own.opening ≡ Some begun → x ≡ board w.own.seen
+board_of v w x t opened = (t.state begun opened).1 ∙ ap board (sym (seen_then v w x t))

@@ -1,0 +1,23 @@
+use Rattle.std.proofs.Common.{◌∙◌, ap, refl}
+use Rattle.std.specs.Prelude.{map, string_bytes}
+use Rattle.control_desk.specs.Seen.{owner_of}
+use Rattle.shared_board.specs.Desks.{known}
+use Rattle.shared_board.specs.Hands.{board}
+use Rattle.shared_board.specs.Steps.{in_hand, expect_deletions}
+use Rattle.shared_board.proofs.Turns.{follows_step, gives_step, key_stays}
+use Rattle.shared_board.proofs.desks.ControlDesk.expect_deletions_held.Goals as goal
+
+pub give-requires-clause-follows : goal.give-requires-clause-follows
+give-requires-clause-follows g c =
+    let v = known c.args.pass.now in
+    follows_step v.seen v.name g.M.Change.entry (expect_deletions (owner_of c.args.owner.now) (map string_bytes c.args.pods.items)) tt c.requires.entry
+
+pub give-requires-clause-state : goal.give-requires-clause-state
+give-requires-clause-state g c opening so =
+    let v = known c.args.pass.now in
+    gives_step v.seen v.name g.M.Change.entry (expect_deletions (owner_of c.args.owner.now) (map string_bytes c.args.pods.items)) c.args.held c.expect_deletions.new.held opening v.opening c.requires.pass.opening c.requires.pass.board c.in-Ok.ensures.ok c.requires.entry so
+
+pub returns-in-Ok-clause-key : goal.returns-in-Ok-clause-key
+returns-in-Ok-clause-key g c =
+    let v = known c.args.pass.now in
+    ap (λ w. in_hand w.own.made) c.give.ensures.given ∙ key_stays (board v.seen) v.made v.name g.M.Change.entry (expect_deletions (owner_of c.args.owner.now) (map string_bytes c.args.pods.items)) (λ m. refl) c.requires.entry

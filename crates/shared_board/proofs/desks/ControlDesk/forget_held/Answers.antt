@@ -1,0 +1,22 @@
+use Rattle.std.proofs.Common.{◌∙◌, ap, refl}
+use Rattle.keys.specs.Keys.{key_of}
+use Rattle.shared_board.specs.Desks.{known}
+use Rattle.shared_board.specs.Hands.{board}
+use Rattle.shared_board.specs.Steps.{in_hand, forget}
+use Rattle.shared_board.proofs.Turns.{follows_step, gives_step, key_stays}
+use Rattle.shared_board.proofs.desks.ControlDesk.forget_held.Goals as goal
+
+pub give-requires-clause-follows : goal.give-requires-clause-follows
+give-requires-clause-follows g c =
+    let v = known c.args.pass.now in
+    follows_step v.seen v.name g.M.Change.entry (forget (key_of c.args.key.now)) tt c.requires.entry
+
+pub give-requires-clause-state : goal.give-requires-clause-state
+give-requires-clause-state g c opening so =
+    let v = known c.args.pass.now in
+    gives_step v.seen v.name g.M.Change.entry (forget (key_of c.args.key.now)) c.args.held c.forget.new.held opening v.opening c.requires.pass.opening c.requires.pass.board c.forget.ensures c.requires.entry so
+
+pub returns-clause-key : goal.returns-clause-key
+returns-clause-key g c =
+    let v = known c.args.pass.now in
+    ap (λ w. in_hand w.own.made) c.give.ensures.given ∙ key_stays (board v.seen) v.made v.name g.M.Change.entry (forget (key_of c.args.key.now)) (λ m. refl) c.requires.entry

@@ -1,0 +1,24 @@
+use Rattle.std.proofs.Common.{◌∙◌, ap, refl}
+use Rattle.std.specs.Prelude.{map}
+use Rattle.control_desk.specs.Seen.{observation_of}
+use Rattle.work_keys.specs.WorkKeys.{work_key_of}
+use Rattle.shared_board.specs.Desks.{known}
+use Rattle.shared_board.specs.Hands.{board}
+use Rattle.shared_board.specs.Steps.{in_hand, observe}
+use Rattle.shared_board.proofs.Turns.{follows_step, gives_step, key_stays}
+use Rattle.shared_board.proofs.desks.ControlDesk.observe_held.Goals as goal
+
+pub give-requires-clause-follows : goal.give-requires-clause-follows
+give-requires-clause-follows g c =
+    let v = known c.args.pass.now in
+    follows_step v.seen v.name g.M.Change.entry (observe (map observation_of c.args.observations.now) (map work_key_of c.args.keys.now)) tt c.requires.entry
+
+pub give-requires-clause-state : goal.give-requires-clause-state
+give-requires-clause-state g c opening so =
+    let v = known c.args.pass.now in
+    gives_step v.seen v.name g.M.Change.entry (observe (map observation_of c.args.observations.now) (map work_key_of c.args.keys.now)) c.args.held c.observe.new.held opening v.opening c.requires.pass.opening c.requires.pass.board c.in-Ok.ensures.ok c.requires.entry so
+
+pub returns-in-Ok-clause-key : goal.returns-in-Ok-clause-key
+returns-in-Ok-clause-key g c =
+    let v = known c.args.pass.now in
+    ap (λ w. in_hand w.own.made) c.give.ensures.given ∙ key_stays (board v.seen) v.made v.name g.M.Change.entry (observe (map observation_of c.args.observations.now) (map work_key_of c.args.keys.now)) (λ m. refl) c.requires.entry

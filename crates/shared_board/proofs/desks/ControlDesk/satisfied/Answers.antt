@@ -1,0 +1,10 @@
+use Rattle.std.proofs.Common.{◌∙◌, ap, sym}
+use Rattle.control.specs.Boards.{is_satisfied}
+use Rattle.control_desk.specs.Seen.{owner_of}
+use Rattle.shared_board.proofs.Turns.{calls}
+use Rattle.shared_board.proofs.desks.ControlDesk.satisfied.Goals as goal
+
+pub returns-clause-step : goal.returns-clause-step
+returns-clause-step g c =
+    calls _ _ _ _ _ c.take-held.ensures.taken ((rw (sym c.get.ensures) c.satisfied-answer.ensures) ∙ ap (λ b. is_satisfied (owner_of c.args.owner.now) b) c.take-held.ensures.holding.board)
+    c.give_back.ensures.known

@@ -1,0 +1,19 @@
+use Rattle.std.proofs.Common.{option_map, ◌∙◌, ap}
+use Rattle.controllers.specs.WorkQueues.{handed}
+use Rattle.work_keys.specs.WorkKeys.{work_key_of}
+use Rattle.shared_board.specs.Desks.{known}
+use Rattle.shared_board.specs.Hands.{board}
+use Rattle.shared_board.specs.Steps.{in_hand}
+use Rattle.shared_board.proofs.Turns.{gives_take, key_taken}
+use Rattle.shared_board.proofs.desks.ControlDesk.take_key_held.Goals as goal
+
+pub give-requires-clause-state : goal.give-requires-clause-state
+give-requires-clause-state g c opening so =
+    let v = known c.args.pass.now in
+    gives_take v.seen v.name g.M.Change.entry c.args.held c.take_key.new.held opening v.opening c.requires.pass.opening c.requires.pass.board c.in-Ok.ensures.ok c.requires.entry so
+
+pub returns-in-Ok-clause-key : goal.returns-in-Ok-clause-key
+returns-in-Ok-clause-key g c =
+    let v = known c.args.pass.now in
+    ap (λ w. in_hand w.own.made) c.give.ensures.given
+    ∙ key_taken (board v.seen) v.made v.name g.M.Change.entry (option_map work_key_of c.in-Ok.key) c.requires.free (c.in-Ok.ensures.key ∙ ap (λ b. handed b.work) c.requires.pass.board) c.requires.entry

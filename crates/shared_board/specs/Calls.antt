@@ -1,0 +1,43 @@
+-- What a call of a desk of work means to the pass that makes it.
+use Rattle.std.specs.Prelude.{◌≡◌, ℕ, List, ◌++◌, Option, None, true, false, Result, Ok, Err}
+use Rattle.baton.specs.Marks.{StartsWith, entries, made_by, marked, CanHappen}
+use Rattle.baton.specs.declared.views.Known.{Known}
+use Rattle.control.specs.Boards.{Board}
+use Rattle.shared_board.specs.Steps.{Step}
+use Rattle.shared_board.specs.Hands.{board, MayFollow}
+
+-- what a pass knows once it has seen a history, and added this step to it
+abbrev pub having_seen : Known Board Step → List (ℕ × Step) → Option Step → Known Board Step
+having_seen v h change = record v { seen = h ++ marked v.name change; made = v.made ++ entries (marked v.name change) }
+
+-- There is a history of what may happen, which begins with all that the pass had seen and has of the pass's steps just what it
+-- made. What is said of the call is so at the board after this history, and afterwards the pass has seen it, and then the step
+-- that it adds.
+pub record IsCall (v : Known Board Step) (change : Board → Option Step) (Says : Board → Type 0) (w : Known Board Step) : Type 0 where
+  pub history : List (ℕ × Step)
+  pub later : StartsWith history v.seen
+  pub made : made_by v.name history ≡ v.made
+  pub happened : CanHappen MayFollow history
+  pub says : Says (board history)
+  pub knows : w ≡ having_seen v history (change (board history))
+
+-- nothing more is said
+abbrev pub Nothing : Board → Type 0
+Nothing b = Unit {0}
+
+-- what a result changes: an error nothing
+abbrev pub once_ok : {X Y : Type 0} → Result X Y → Option Step → Option Step
+once_ok (Ok x) change = change
+once_ok (Err e) change = None
+
+-- what a pass knows once it has given the board back, with this step
+abbrev pub after_give : Known Board Step → Option Step → Known Board Step
+after_give v change = record v { seen = v.seen ++ marked v.name change; made = v.made ++ entries (marked v.name change); holds = false }
+
+-- a pass that did not hold the board has learned all that happened, and holds it
+pub record HasTaken (v w : Known Board Step) : Type 0 where
+  pub later : StartsWith w.seen v.seen
+  pub made : made_by v.name w.seen ≡ v.made
+  pub happened : CanHappen MayFollow w.seen
+  pub same : w ≡ record v { seen = w.seen; holds = true }
+  pub free : v.holds ≡ false

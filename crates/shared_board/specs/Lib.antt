@@ -1,0 +1,5 @@
+pub mod Steps
+pub mod StepCodes
+pub mod Hands
+pub mod Calls
+pub mod Desks

@@ -1,0 +1,93 @@
+-- The steps of a board, what each makes of it, and which key a worker's own steps leave in its hands.
+use Rattle.std.specs.Prelude.{◌≡◌, ◌==◌, ◌&&◌, ℕ, List, [], ◌∷◌, Bool, true, false, Option, Some, None, if◌then◌else◌}
+use base.Stored.{Gv, gnil, gnum, gcons}
+use Rattle.control.specs.Boards.{Board, Observation, taken, finished, requeued, observed, expecting_creations, expecting_deletions, forgotten, ticked}
+use Rattle.control_desk.specs.Seen.{board_code}
+use Rattle.controllers.specs.Expectations.{Owner}
+use Rattle.controllers.specs.WorkQueues.{WorkKey, handed}
+use Rattle.definitions.specs.Keys.{Key}
+
+-- a key is taken, is done, or failed and is to be tried again; a change is handled; pods are expected, or nothing any more; time passes
+pub data Step : Type 0 where
+  take : WorkKey → Step
+  finish : WorkKey → Step
+  requeue : WorkKey → List Observation → Step
+  observe : List Observation → List WorkKey → Step
+  expect_creations : Owner → ℕ → Step
+  expect_deletions : Owner → List (List ℕ) → Step
+  forget : Key → Step
+  tick : ℕ → Step
+
+abbrev pub after : Board → Step → Board
+after b (take k) = taken b
+after b (finish k) = finished k b
+after b (requeue k ss) = requeued k ss b
+after b (observe ss ks) = observed ss ks b
+after b (expect_creations o n) = expecting_creations o n b
+after b (expect_deletions o pods) = expecting_deletions o pods b
+after b (forget k) = forgotten k b
+after b (tick n) = ticked n b
+
+abbrev pub after_steps : Board → List Step → Board
+after_steps b [] = b
+after_steps b (e ∷ es) = after_steps (after b e) es
+
+-- ---- steps that change the board
+
+unfoldable pub same_code : Gv → Gv → Bool
+same_code gnil gnil = true
+same_code gnil (gnum n) = false
+same_code gnil (gcons a b) = false
+same_code (gnum m) gnil = false
+same_code (gnum m) (gnum n) = m == n
+same_code (gnum m) (gcons a b) = false
+same_code (gcons a b) gnil = false
+same_code (gcons a b) (gnum n) = false
+same_code (gcons a b) (gcons c d) = same_code a c && same_code b d
+
+-- whether two boards are the same, by their codes
+unfoldable pub is_same : Board → Board → Bool
+is_same a b = same_code (board_code.code a) (board_code.code b)
+
+-- the step, where it changes the board
+abbrev pub changing : Step → Board → Option Step
+changing e b = if is_same (after b e) b then None else Some e
+
+-- a take of the next key, where one waits
+abbrev pub taking_of : Option WorkKey → Board → Option Step
+taking_of None b = None
+taking_of (Some k) b = changing (take k) b
+
+abbrev pub taking : Board → Option Step
+taking b = taking_of (handed b.work) b
+
+-- ---- hands
+
+abbrev pub in_hand_after : Option WorkKey → Step → Option WorkKey
+in_hand_after mine (take k) = Some k
+in_hand_after mine (finish k) = None
+in_hand_after mine (requeue k ss) = None
+in_hand_after mine (observe ss ks) = mine
+in_hand_after mine (expect_creations o n) = mine
+in_hand_after mine (expect_deletions o pods) = mine
+in_hand_after mine (forget k) = mine
+in_hand_after mine (tick n) = mine
+
+abbrev pub in_hand_from : Option WorkKey → List Step → Option WorkKey
+in_hand_from mine [] = mine
+in_hand_from mine (e ∷ es) = in_hand_from (in_hand_after mine e) es
+
+-- the key that these steps of a worker leave in its hands: that of the last take, if no finish or requeue follows it
+abbrev pub in_hand : List Step → Option WorkKey
+in_hand es = in_hand_from None es
+
+-- a key is taken by who has none, and it is the next; it is finished or tried again by who has it
+abbrev pub IsAllowed : Option WorkKey → Board → Step → Type 0
+IsAllowed mine b (take k) = (mine ≡ None) × (handed b.work ≡ Some k)
+IsAllowed mine b (finish k) = mine ≡ Some k
+IsAllowed mine b (requeue k ss) = mine ≡ Some k
+IsAllowed mine b (observe ss ks) = Unit {0}
+IsAllowed mine b (expect_creations o n) = Unit {0}
+IsAllowed mine b (expect_deletions o pods) = Unit {0}
+IsAllowed mine b (forget k) = Unit {0}
+IsAllowed mine b (tick n) = Unit {0}

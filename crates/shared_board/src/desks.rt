@@ -1,0 +1,15 @@
+//! A desk of work.
+use crate::entries::Entry;
+use crate::work_law::WorkLaw;
+use baton::Baton;
+use baton::views::View;
+use control_desk::Board;
+
+/// The right to work at a desk. What it has seen of the desk's history, and what it made of it, its calls say.
+pub type WorkPass = crossbeam_queue::Pass<Board, View<Board, Entry>>;
+
+/// A board that threads share: one call at a time has it.
+#[derive(Drop)]
+pub struct ControlDesk {
+    pub(crate) baton: Baton<Board, WorkLaw>,
+}

@@ -1,0 +1,160 @@
+//! What is expected at a desk.
+ghost use Rattle.std.specs.Prelude.{◌≡◌, None, map, string_bytes};
+ghost use Rattle.control.specs.Boards.{is_satisfied};
+ghost use Rattle.control_desk.specs.Seen.{owner_of};
+ghost use Rattle.keys.specs.Keys.{key_of};
+ghost use Rattle.shared_board.specs.Calls.{IsCall, Nothing, after_give, once_ok};
+ghost use Rattle.shared_board.specs.Desks.{known, key_in_hand, IsPassAt, IsHolding};
+ghost use Rattle.shared_board.specs.Hands.{board};
+ghost use Rattle.shared_board.specs.Steps.{changing, expect_creations, expect_deletions, forget};
+
+use crate::desks::{ControlDesk, WorkPass};
+use crate::entries::Entry;
+use crate::steps;
+use baton::{Change, Held};
+use control_desk::{Board, Owner};
+use keys::Key;
+use std::alloc::AllocError;
+use std::marker::Brand;
+use std::sync::Wait;
+
+impl ControlDesk {
+    /// Sets that a ReplicaSet expects so many pods to be created, from now on, and nothing else. The error is out of memory, and
+    /// changes nothing.
+    pub fn expect_creations<R: Wait>(
+        &self,
+        rt: &R,
+        pass: &mut WorkPass,
+        owner: &Owner,
+        creations: u32,
+    ) -> Result<(), AllocError>
+        requires { IsPassAt self.now pass.old }
+        ensures pass { IsPassAt self.now pass.new }
+        ensures step { IsCall (known pass.old) (λ b. once_ok result (changing (expect_creations (owner_of owner.now) creations) b))
+            Nothing (known pass.new) }
+        ensures key { key_in_hand pass.new ≡ key_in_hand pass.old }
+    {
+        let held = self.take(rt, pass);
+        self.expect_creations_held::<Brand, R>(rt, pass, held, owner, creations)
+    }
+
+    /// Sets that a ReplicaSet expects the pods of these uids to be deleted, from now on, and nothing else. The error is out of memory,
+    /// and changes nothing.
+    pub fn expect_deletions<R: Wait>(
+        &self,
+        rt: &R,
+        pass: &mut WorkPass,
+        owner: &Owner,
+        pods: Vec<String>,
+    ) -> Result<(), AllocError>
+        requires { IsPassAt self.now pass.old }
+        ensures pass { IsPassAt self.now pass.new }
+        ensures step { IsCall (known pass.old) (λ b. once_ok result (changing (expect_deletions (owner_of owner.now) (map string_bytes pods.items)) b))
+            Nothing (known pass.new) }
+        ensures key { key_in_hand pass.new ≡ key_in_hand pass.old }
+    {
+        let held = self.take(rt, pass);
+        self.expect_deletions_held::<Brand, R>(rt, pass, held, owner, pods)
+    }
+
+    /// Returns whether a ReplicaSet expects nothing: nothing was set, nothing is left, or more than five minutes have passed. The
+    /// pass has then seen all that had happened.
+    pub fn satisfied<R: Wait>(&self, rt: &R, pass: &mut WorkPass, owner: &Owner) -> bool
+        requires { IsPassAt self.now pass.old }
+        ensures pass { IsPassAt self.now pass.new }
+        ensures step { IsCall (known pass.old) (λ b. None) (λ b. result ≡ is_satisfied (owner_of owner.now) b) (known pass.new) }
+        ensures key { key_in_hand pass.new ≡ key_in_hand pass.old }
+    {
+        let held = self.take(rt, pass);
+        let answer = held.get().satisfied(owner);
+        self.give_back(rt, pass, held);
+        answer
+    }
+
+    /// Removes what every ReplicaSet of this key expects, whatever its uid.
+    pub fn forget<R: Wait>(&self, rt: &R, pass: &mut WorkPass, key: &Key)
+        requires { IsPassAt self.now pass.old }
+        ensures pass { IsPassAt self.now pass.new }
+        ensures step { IsCall (known pass.old) (changing (forget (key_of key.now)))
+            Nothing (known pass.new) }
+        ensures key { key_in_hand pass.new ≡ key_in_hand pass.old }
+    {
+        let held = self.take(rt, pass);
+        self.forget_held::<Brand, R>(rt, pass, held, key);
+    }
+
+    /// Sets creations on the board that the pass holds, and gives the board back.
+    fn expect_creations_held<M: Change<Entry>, R: Wait>(
+        &self,
+        rt: &R,
+        pass: &mut WorkPass,
+        held: Held<Board>,
+        owner: &Owner,
+        creations: u32,
+    ) -> Result<(), AllocError>
+        requires pass { IsHolding self.now pass.old held }
+        requires entry { M.entry ≡ changing (expect_creations (owner_of owner.now) creations) (board (known pass.old).seen) }
+        ensures pass { IsPassAt self.now pass.new }
+        ensures key { key_in_hand pass.new ≡ key_in_hand pass.old }
+        ensures known { known pass.new ≡ after_give (known pass.old) (once_ok result M.entry) }
+    {
+        let mut held = held;
+        match steps::expect_creations(&mut held, owner, creations) {
+            Ok(()) => {
+                self.baton.give::<M, R>(rt, pass, held);
+                Ok(())
+            }
+            Err(error) => {
+                self.give_back(rt, pass, held);
+                Err(error)
+            }
+        }
+    }
+
+    /// Sets deletions on the board that the pass holds, and gives the board back.
+    fn expect_deletions_held<M: Change<Entry>, R: Wait>(
+        &self,
+        rt: &R,
+        pass: &mut WorkPass,
+        held: Held<Board>,
+        owner: &Owner,
+        pods: Vec<String>,
+    ) -> Result<(), AllocError>
+        requires pass { IsHolding self.now pass.old held }
+        requires entry { M.entry ≡ changing (expect_deletions (owner_of owner.now) (map string_bytes pods.items)) (board (known pass.old).seen) }
+        ensures pass { IsPassAt self.now pass.new }
+        ensures key { key_in_hand pass.new ≡ key_in_hand pass.old }
+        ensures known { known pass.new ≡ after_give (known pass.old) (once_ok result M.entry) }
+    {
+        let mut held = held;
+        match steps::expect_deletions(&mut held, owner, pods) {
+            Ok(()) => {
+                self.baton.give::<M, R>(rt, pass, held);
+                Ok(())
+            }
+            Err(error) => {
+                self.give_back(rt, pass, held);
+                Err(error)
+            }
+        }
+    }
+
+    /// Removes what is expected from the board that the pass holds, and gives the board back.
+    fn forget_held<M: Change<Entry>, R: Wait>(
+        &self,
+        rt: &R,
+        pass: &mut WorkPass,
+        held: Held<Board>,
+        key: &Key,
+    )
+        requires pass { IsHolding self.now pass.old held }
+        requires entry { M.entry ≡ changing (forget (key_of key.now)) (board (known pass.old).seen) }
+        ensures pass { IsPassAt self.now pass.new }
+        ensures key { key_in_hand pass.new ≡ key_in_hand pass.old }
+        ensures known { known pass.new ≡ after_give (known pass.old) M.entry }
+    {
+        let mut held = held;
+        steps::forget(&mut held, key);
+        self.baton.give::<M, R>(rt, pass, held);
+    }
+}

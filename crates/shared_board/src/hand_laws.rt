@@ -1,0 +1,13 @@
+//! Laws of the histories that passes see.
+ghost use Rattle.shared_board.specs.Hands.{HandsAreApart, ChangesAreTold};
+
+/// In every history that a pass sees, the keys in process are just those in the hands of passes, and no key is in the hands of
+/// two.
+pub fn hands_are_apart()
+    ensures { HandsAreApart }
+{}
+
+/// A history has just the steps that change the board.
+pub fn changes_are_told()
+    ensures { ChangesAreTold }
+{}
