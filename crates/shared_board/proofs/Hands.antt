@@ -38,7 +38,7 @@ module _ (f g : ℕ → Option WorkKey) (p : WorkKeys) (h : AreHands f p) where
   -- no hand changes
   pub kept_hands : ((i : ℕ) → g i ≡ f i) → AreHands g p
   kept_hands is = record {
-    held = λ k e. let t = h.held k e in (t.0, is t.0 ∙ t.1);
+    taken = λ k e. let t = h.taken k e in (t.0, is t.0 ∙ t.1);
     processed = λ i k e. h.processed i k (sym (is i) ∙ e);
     apart = λ i j k a b. h.apart i j k (sym (is i) ∙ a) (sym (is j) ∙ b);
   }
@@ -46,7 +46,7 @@ module _ (f g : ℕ → Option WorkKey) (p : WorkKeys) (h : AreHands f p) where
   -- an empty hand takes a key that is in no hand
   pub taken_hands : (name : ℕ) (k : WorkKey) → f name ≡ None → g name ≡ Some k → ((i : ℕ) → i ≢ name → g i ≡ f i) → set.contains p k ≡ false → AreHands g (set.insert p k)
   taken_hands name k was now others free = record {
-    held = λ q e. by q (same q k) refl (sym (contains-insert work_key_total p k q) ∙ e);
+    taken = λ q e. by q (same q k) refl (sym (contains-insert work_key_total p k q) ∙ e);
     processed = λ i q e.
         contains-insert work_key_total p k q
         ∙ ⊎_elim (λ (a : i ≡ name). ap (λ b. b || set.contains p q) (ap (same q) (sym (some_same q k (g name) (ap g (sym a) ∙ e) now)) ∙ same_itself q)) (λ (a : i ≢ name). or_true (same q k) (h.processed i q (sym (others i a) ∙ e))) (same_name i name);
@@ -66,13 +66,13 @@ module _ (f g : ℕ → Option WorkKey) (p : WorkKeys) (h : AreHands f p) where
       by : (q : WorkKey) (b : Bool) → same q k ≡ b → (same q k || set.contains p q) ≡ true → (i : ℕ) × (g i ≡ Some q)
       by q true t e = (name, now ∙ ap (λ x. Some x) (sym (tells q k t)))
       by q false t e =
-          let old = h.held q (sym (ap (λ b. b || set.contains p q) t) ∙ e) in
+          let old = h.taken q (sym (ap (λ b. b || set.contains p q) t) ∙ e) in
           ⊎_elim (λ (a : old.0 ≡ name). not_both q (f name) (ap f (sym a) ∙ old.1) was) (λ (a : old.0 ≢ name). (old.0, others old.0 a ∙ old.1)) (same_name old.0 name)
 
   -- a hand gives its key back
   pub emptied_hands : (name : ℕ) (k : WorkKey) → f name ≡ Some k → g name ≡ None → ((i : ℕ) → i ≢ name → g i ≡ f i) → AreHands g (set.remove p k)
   emptied_hands name k was now others = record {
-    held = λ q e. by q (same q k) refl (sym (contains-remove work_key_total p k q) ∙ e);
+    taken = λ q e. by q (same q k) refl (sym (contains-remove work_key_total p k q) ∙ e);
     processed = λ i q e.
         ⊎_elim (λ (a : i ≡ name). not_both q (g name) (ap g (sym a) ∙ e) now) (λ (a : i ≢ name). contains-remove work_key_total p k q ∙ stays i q a (sym (others i a) ∙ e) (same q k) refl) (same_name i name);
     apart = λ i j q a b.
@@ -87,7 +87,7 @@ module _ (f g : ℕ → Option WorkKey) (p : WorkKeys) (h : AreHands f p) where
       by : (q : WorkKey) (b : Bool) → same q k ≡ b → (not (same q k) && set.contains p q) ≡ true → (i : ℕ) × (g i ≡ Some q)
       by q true t e = absurd (true≢false (sym e ∙ ap (λ b. not b && set.contains p q) t))
       by q false t e =
-          let old = h.held q (sym (ap (λ b. not b && set.contains p q) t) ∙ e) in
+          let old = h.taken q (sym (ap (λ b. not b && set.contains p q) t) ∙ e) in
           ⊎_elim (λ (a : old.0 ≡ name). absurd (true≢false (sym (same_itself k) ∙ ap (same k) (some_same k q (f name) was (ap f (sym a) ∙ old.1)) ∙ swapped q t))) (λ (a : old.0 ≢ name). (old.0, others old.0 a ∙ old.1)) (same_name old.0 name)
         where
           swapped : (q : WorkKey) → same q k ≡ false → same k q ≡ false

@@ -1,12 +1,12 @@
 -- Boards that are the same, by their codes.
 use Rattle.std.proofs.Common.{◌≡◌, ◌≢◌, ℕ, refl, sym, ap, ◌∙◌, true, false, true≢false, Bool, ◌==◌, ◌&&◌, if◌then◌else◌, eq-eqb, arith}
-use Rattle.std.specs.Prelude.{Option, Some, None}
+use Rattle.std.specs.Prelude.{Some, None}
 use Rattle.std.proofs.lemmas.Bool.Decides.{nat_tests}
 use base.Stored.{Gv, gnil, gnum, gcons}
 use Rattle.control.specs.Boards.{Board}
 use Rattle.control_desk.specs.Seen.{board_code}
 use Rattle.shared_board.specs.Hands.{ChangesAreTold}
-use Rattle.shared_board.specs.Steps.{Step, after, same_code, is_same, changing}
+use Rattle.shared_board.specs.Steps.{after, same_code, is_same}
 
 both : (a b : Bool) → (a && b) ≡ true → (a ≡ true) × (b ≡ true)
 both true b e = (refl, e)

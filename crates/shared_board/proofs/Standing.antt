@@ -138,7 +138,7 @@ stands_first : IsStanding []
 stands_first = record {
   sound = idle-sound;
   hands = record {
-    held = λ k e. absurd (true≢false (sym e ∙ contains-empty work_key_cmp k));
+    taken = λ k e. absurd (true≢false (sym e ∙ contains-empty work_key_cmp k));
     processed = λ i k e. not_both k (hand [] i) e (no_hands i);
     apart = λ i j k a b. not_both k (hand [] i) a (no_hands i);
   };

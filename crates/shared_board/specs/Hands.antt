@@ -23,7 +23,7 @@ MayFollow h name e = (after (board h) e ≢ board h) × IsAllowed (hand h name) 
 
 -- the keys in process are just those in hands, and no key is in the hands of two
 pub record AreHands (hands : ℕ → Option WorkKey) (processing : WorkKeys) : Type 0 where
-  pub held : (k : WorkKey) → set.contains processing k ≡ true → (name : ℕ) × (hands name ≡ Some k)
+  pub taken : (k : WorkKey) → set.contains processing k ≡ true → (name : ℕ) × (hands name ≡ Some k)
   pub processed : (name : ℕ) (k : WorkKey) → hands name ≡ Some k → set.contains processing k ≡ true
   pub apart : (one other : ℕ) (k : WorkKey) → hands one ≡ Some k → hands other ≡ Some k → one ≡ other
 

@@ -7,7 +7,7 @@ use Rattle.controllers.specs.Expectations.{Owner}
 use Rattle.controllers.specs.WorkQueues.{WorkKey, handed}
 use Rattle.definitions.specs.Keys.{Key}
 
--- a key is taken, is done, or failed and is to be tried again; a change is handled; pods are expected, or nothing any more; time passes
+-- a key is taken, is done, or failed and is to be tried again; a change is handled; pods are expected, or no longer; time passes
 pub data Step : Type 0 where
   take : WorkKey → Step
   finish : WorkKey → Step

@@ -76,7 +76,8 @@ impl ControlDesk {
         requires pass { IsPassAt self.now pass.old }
         requires mine { key_in_hand pass.old ≡ Some (work_key_of key.now) }
         ensures pass { IsPassAt self.now pass.new }
-        ensures step { IsCall (known pass.old) (λ b. once_ok result (changing (requeue (work_key_of key.now) (map observation_of undone.now)) b))
+        ensures step { IsCall (known pass.old)
+            (λ b. once_ok result (changing (requeue (work_key_of key.now) (map observation_of undone.now)) b))
             Nothing (known pass.new) }
         ensures key { OnOk result (key_in_hand pass.new ≡ None) }
         ensures still { OnErr result (key_in_hand pass.new ≡ key_in_hand pass.old) }
@@ -177,7 +178,8 @@ impl ControlDesk {
     ) -> Result<(), AllocError>
         requires pass { IsHolding self.now pass.old held }
         requires mine { key_in_hand pass.old ≡ Some (work_key_of key.now) }
-        requires entry { M.entry ≡ changing (requeue (work_key_of key.now) (map observation_of undone.now)) (board (known pass.old).seen) }
+        requires entry { M.entry
+            ≡ changing (requeue (work_key_of key.now) (map observation_of undone.now)) (board (known pass.old).seen) }
         ensures pass { IsPassAt self.now pass.new }
         ensures key { OnOk result (key_in_hand pass.new ≡ None) }
         ensures still { OnErr result (key_in_hand pass.new ≡ key_in_hand pass.old) }

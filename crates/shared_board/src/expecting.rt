@@ -19,8 +19,8 @@ use std::marker::Brand;
 use std::sync::Wait;
 
 impl ControlDesk {
-    /// Sets that a ReplicaSet expects so many pods to be created, from now on, and nothing else. The error is out of memory, and
-    /// changes nothing.
+    /// Sets that a ReplicaSet expects so many pods to be created, from now on, and nothing else. The error is out of memory,
+    /// and changes nothing.
     pub fn expect_creations<R: Wait>(
         &self,
         rt: &R,
@@ -30,7 +30,8 @@ impl ControlDesk {
     ) -> Result<(), AllocError>
         requires { IsPassAt self.now pass.old }
         ensures pass { IsPassAt self.now pass.new }
-        ensures step { IsCall (known pass.old) (λ b. once_ok result (changing (expect_creations (owner_of owner.now) creations) b))
+        ensures step { IsCall (known pass.old)
+            (λ b. once_ok result (changing (expect_creations (owner_of owner.now) creations) b))
             Nothing (known pass.new) }
         ensures key { key_in_hand pass.new ≡ key_in_hand pass.old }
     {
@@ -38,8 +39,8 @@ impl ControlDesk {
         self.expect_creations_held::<Brand, R>(rt, pass, held, owner, creations)
     }
 
-    /// Sets that a ReplicaSet expects the pods of these uids to be deleted, from now on, and nothing else. The error is out of memory,
-    /// and changes nothing.
+    /// Sets that a ReplicaSet expects the pods of these uids to be deleted, from now on, and nothing else. The error is out of
+    /// memory, and changes nothing.
     pub fn expect_deletions<R: Wait>(
         &self,
         rt: &R,
@@ -49,7 +50,8 @@ impl ControlDesk {
     ) -> Result<(), AllocError>
         requires { IsPassAt self.now pass.old }
         ensures pass { IsPassAt self.now pass.new }
-        ensures step { IsCall (known pass.old) (λ b. once_ok result (changing (expect_deletions (owner_of owner.now) (map string_bytes pods.items)) b))
+        ensures step { IsCall (known pass.old)
+            (λ b. once_ok result (changing (expect_deletions (owner_of owner.now) (map string_bytes pods.items)) b))
             Nothing (known pass.new) }
         ensures key { key_in_hand pass.new ≡ key_in_hand pass.old }
     {
@@ -62,7 +64,8 @@ impl ControlDesk {
     pub fn satisfied<R: Wait>(&self, rt: &R, pass: &mut WorkPass, owner: &Owner) -> bool
         requires { IsPassAt self.now pass.old }
         ensures pass { IsPassAt self.now pass.new }
-        ensures step { IsCall (known pass.old) (λ b. None) (λ b. result ≡ is_satisfied (owner_of owner.now) b) (known pass.new) }
+        ensures step { IsCall (known pass.old)
+            (λ b. None) (λ b. result ≡ is_satisfied (owner_of owner.now) b) (known pass.new) }
         ensures key { key_in_hand pass.new ≡ key_in_hand pass.old }
     {
         let held = self.take(rt, pass);
@@ -121,7 +124,8 @@ impl ControlDesk {
         pods: Vec<String>,
     ) -> Result<(), AllocError>
         requires pass { IsHolding self.now pass.old held }
-        requires entry { M.entry ≡ changing (expect_deletions (owner_of owner.now) (map string_bytes pods.items)) (board (known pass.old).seen) }
+        requires entry { M.entry
+            ≡ changing (expect_deletions (owner_of owner.now) (map string_bytes pods.items)) (board (known pass.old).seen) }
         ensures pass { IsPassAt self.now pass.new }
         ensures key { key_in_hand pass.new ≡ key_in_hand pass.old }
         ensures known { known pass.new ≡ after_give (known pass.old) (once_ok result M.entry) }

@@ -19,8 +19,8 @@ use std::sync::Wait;
 use work_keys::WorkKey;
 
 impl ControlDesk {
-    /// Notes what a change shows of the pods that are expected, and adds the keys that it owes, all in one step. The error is out of
-    /// memory, and changes nothing.
+    /// Notes what a change shows of the pods that are expected, and adds the keys that it owes, all in one step. The error is out
+    /// of memory, and changes nothing.
     pub fn observe<R: Wait>(
         &self,
         rt: &R,
@@ -30,7 +30,8 @@ impl ControlDesk {
     ) -> Result<(), AllocError>
         requires { IsPassAt self.now pass.old }
         ensures pass { IsPassAt self.now pass.new }
-        ensures step { IsCall (known pass.old) (λ b. once_ok result (changing (observe (map observation_of observations.now) (map work_key_of keys.now)) b))
+        ensures step { IsCall (known pass.old)
+            (λ b. once_ok result (changing (observe (map observation_of observations.now) (map work_key_of keys.now)) b))
             Nothing (known pass.new) }
         ensures key { key_in_hand pass.new ≡ key_in_hand pass.old }
     {
@@ -66,7 +67,8 @@ impl ControlDesk {
         keys: &[WorkKey],
     ) -> Result<(), AllocError>
         requires pass { IsHolding self.now pass.old held }
-        requires entry { M.entry ≡ changing (observe (map observation_of observations.now) (map work_key_of keys.now)) (board (known pass.old).seen) }
+        requires entry { M.entry
+            ≡ changing (observe (map observation_of observations.now) (map work_key_of keys.now)) (board (known pass.old).seen) }
         ensures pass { IsPassAt self.now pass.new }
         ensures key { key_in_hand pass.new ≡ key_in_hand pass.old }
         ensures known { known pass.new ≡ after_give (known pass.old) (once_ok result M.entry) }

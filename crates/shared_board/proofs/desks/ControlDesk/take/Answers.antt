@@ -1,4 +1,4 @@
-use Rattle.std.proofs.Common.{◌∙◌, ap, subst, sym, ◌≡◌, List, ℕ}
+use Rattle.std.proofs.Common.{◌∙◌, ap, sym}
 use Rattle.baton.specs.Marks.{made_by}
 use Rattle.crossbeam_queue.specs.Passes.{view}
 use Rattle.shared_board.proofs.Turns.{taken_by, board_of}
