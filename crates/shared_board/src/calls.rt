@@ -22,7 +22,7 @@ use std::sync::Wait;
 use work_keys::WorkKey;
 
 impl ControlDesk {
-    /// Returns a desk over a board where nothing is to be done, and as many passes as asked for. The error is out of memory.
+    /// Returns a desk over a board where nothing is to be done, and as many passes as asked for. The error is running out of memory.
     pub fn open(alloc: Global, count: usize) -> Result<(ControlDesk, Vec<WorkPass>), AllocError>
         requires { 0 < count }
         ensures passes { IfOk result (λ r. All (IsNewAt r.0) r.1.items) }
@@ -34,7 +34,7 @@ impl ControlDesk {
     }
 
     /// Returns the key that waits longest, if one waits, which is then in the hands of the pass. A pass takes a key only while it
-    /// has none. The error is out of memory, and takes nothing.
+    /// has none. The error is running out of memory, and takes nothing.
     pub fn take_key<R: Wait>(
         &self,
         rt: &R,
@@ -65,7 +65,7 @@ impl ControlDesk {
     }
 
     /// Gives back the key in the hands of the pass, which failed: it waits for its delay, and what was not done is expected no
-    /// longer. The error is out of memory, and gives nothing back: the key is still in the hands of the pass.
+    /// longer. The error is running out of memory, and gives nothing back: the key is still in the hands of the pass.
     pub fn requeue<R: Wait>(
         &self,
         rt: &R,

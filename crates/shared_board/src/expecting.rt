@@ -19,7 +19,7 @@ use std::marker::Brand;
 use std::sync::Wait;
 
 impl ControlDesk {
-    /// Sets that a ReplicaSet expects so many pods to be created, from now on, and nothing else. The error is out of memory,
+    /// Sets that a ReplicaSet expects so many pods to be created, from now on, and nothing else. The error is running out of memory,
     /// and changes nothing.
     pub fn expect_creations<R: Wait>(
         &self,
@@ -39,8 +39,8 @@ impl ControlDesk {
         self.expect_creations_held::<Brand, R>(rt, pass, held, owner, creations)
     }
 
-    /// Sets that a ReplicaSet expects the pods of these uids to be deleted, from now on, and nothing else. The error is out of
-    /// memory, and changes nothing.
+    /// Sets that a ReplicaSet expects the pods of these uids to be deleted, from now on, and nothing else. The error is running
+    /// out of memory, and changes nothing.
     pub fn expect_deletions<R: Wait>(
         &self,
         rt: &R,

@@ -19,8 +19,8 @@ use std::sync::Wait;
 use work_keys::WorkKey;
 
 impl ControlDesk {
-    /// Notes what a change shows of the pods that are expected, and adds the keys that it owes, all in one step. The error is out
-    /// of memory, and changes nothing.
+    /// Notes what a change shows of the pods that are expected, and adds the keys that it owes, all in one step. The error is running
+    /// out of memory, and changes nothing.
     pub fn observe<R: Wait>(
         &self,
         rt: &R,
@@ -40,7 +40,7 @@ impl ControlDesk {
     }
 
     /// Lets so many milliseconds pass, adds the keys whose moment has come, and returns true. Beyond the last moment, 2^53 - 1,
-    /// nothing changes, and it returns false. The error is out of memory, and changes nothing.
+    /// nothing changes, and it returns false. The error is running out of memory, and changes nothing.
     pub fn tick<R: Wait>(
         &self,
         rt: &R,
