@@ -1,6 +1,5 @@
 -- What lies between the first link to a uid and the first past it, and between the first key of a namespace and the first past it.
-use Rattle.std.proofs.Common.{◌≡◌, ◌&&◌, ◌∙◌, ◌++◌, ℕ, zero, suc, List, [], ◌∷◌, true, false, not, is_eq, is_le, is_lt, is_gt, nat_cmp, Ordering, Less, Equal, Greater, refl, ap, arith, string_bytes}
-use Rattle.std.proofs.lemmas.Cmp.{nat_cmp_total, tied_itself}
+use Rattle.std.proofs.Common.{◌≡◌, ◌&&◌, ◌∙◌, ◌++◌, ℕ, zero, suc, List, [], ◌∷◌, true, not, is_eq, is_le, is_lt, nat_cmp, Ordering, Less, Equal, Greater, refl, ap, arith, string_bytes}
 use Rattle.std.proofs.lemmas.Map.Text.{is_eq-slice_cmp}
 use Rattle.std.specs.Str.{bytes_eq}
 use Rattle.std.specs.Ordering.{ordering_then}
@@ -23,10 +22,6 @@ use Rattle.indexer.proofs.SeenMaps.{key_cmp}
 nil_first : (t : List ℕ) → is_le (slice_cmp nat_cmp [] t) ≡ true
 nil_first [] = refl
 nil_first (x ∷ t) = refl
-
-pub before_zero : (t : List ℕ) → slice_cmp nat_cmp t (t ++ 0 ∷ []) ≡ Less
-before_zero [] = refl
-before_zero (x ∷ t) = ap (λ o. ordering_then o (slice_cmp nat_cmp t (t ++ 0 ∷ []))) (tied_itself nat_cmp_total x) ∙ before_zero t
 
 then_next : (o r q : Ordering) → is_le r ≡ is_lt q → is_le (ordering_then o r) ≡ is_lt (ordering_then o q)
 then_next Less r q same = refl
@@ -80,11 +75,6 @@ links_between u first past begins ends q =
     ∙ ap (λ b. is_le (pair_cmp (first_link u) (link_of q)) && not b) (link-pair past (first_link (u ++ 0 ∷ [])) q ends)
     ∙ text_between u (string_bytes q.uid) (name_cmp (first_link []).1 (key_of q.key)) (name_cmp (first_link []).1 (key_of q.key)) (least_name (key_of q.key)) (least_name (key_of q.key))
 
-pub links_forward : (u : List ℕ) (first past : Link) → link_of first ≡ first_link u → link_of past ≡ first_link (u ++ 0 ∷ []) → is_gt (link_cmp first past) ≡ false
-links_forward u first past begins ends =
-    ap is_gt (link_cmp-pair first past ∙ ap (λ p. pair_cmp p (link_of past)) begins ∙ ap (λ p. pair_cmp (first_link u) p) ends
-    ∙ ap (λ o. ordering_then o (name_cmp (first_link []).1 (first_link []).1)) (before_zero u))
-
 -- ---- keys of a kind in a namespace
 
 kind_between : (o : Ordering) (s t : List ℕ) (r q : Ordering) → is_le r ≡ true → is_le q ≡ true
@@ -103,9 +93,3 @@ keys_between j s first past begins ends k =
     ∙ ap (λ b. is_le (name_cmp (first_name j s) (key_of k)) && not b) (key-name past (first_name j (s ++ 0 ∷ [])) k ends)
     ∙ kind_between (nat_cmp (rank j) (rank k.kind)) s (string_bytes k.namespace) (slice_cmp nat_cmp [] (string_bytes k.name)) (slice_cmp nat_cmp [] (string_bytes k.name)) (nil_first (string_bytes k.name))
     (nil_first (string_bytes k.name))
-
-pub keys_forward : (j : Kind) (s : List ℕ) (first past : Key) → key_of first ≡ first_name j s → key_of past ≡ first_name j (s ++ 0 ∷ []) → is_gt (key_cmp first past) ≡ false
-keys_forward j s first past begins ends =
-    ap is_gt (key_cmp-name_cmp first past ∙ ap (λ n. name_cmp n (key_of past)) begins ∙ ap (λ n. name_cmp (first_name j s) n) ends
-    ∙ ap (λ o. ordering_then o (ordering_then (slice_cmp nat_cmp s (s ++ 0 ∷ [])) (slice_cmp nat_cmp [] []))) (tied_itself nat_cmp_total (rank j))
-    ∙ ap (λ o. ordering_then o (slice_cmp nat_cmp [] [])) (before_zero s))

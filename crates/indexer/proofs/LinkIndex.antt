@@ -1,6 +1,6 @@
 -- The links of the members, as one is put or removed.
 use Rattle.std.proofs.Common.{◌≡◌, ◌&&◌, ◌||◌, ℕ, List, [], ◌∷◌, Bool, true, false, not, cond, Option, Some, None, map, filter_map, option_map, is_eq, nat_cmp, Ordering, Less, Equal, Greater, refl, sym, ap, ◌∙◌, string_bytes}
-use Rattle.std.specs.List.{list_any, AllZip, cons_option}
+use Rattle.std.specs.List.{list_any, cons_option}
 use Rattle.std.specs.Str.{bytes_eq}
 use Rattle.std.specs.Ordering.{ordering_then}
 use Rattle.std.specs.Cmp.Lexicographic.{slice_cmp}
@@ -18,10 +18,10 @@ use Rattle.keys.specs.Keys.{key_of}
 use Rattle.keys.specs.declared.key.Key.{Key}
 use Rattle.keys.proofs.KeyOrder.{key_cmp-name_cmp}
 use Rattle.reflector.specs.declared.shared_objects.SharedObject.{SharedObject}
-use Rattle.indexer.specs.Links.{link_of, link_to, links_at, link_cmp, has_link, IsCopy, IsIndexOf, HasLinks, AddsLinks, RemovesLinks}
+use Rattle.indexer.specs.Links.{link_of, link_to, links_at, has_link, IsIndexOf, Relinks}
 use Rattle.indexer.specs.Seen.{members_seen}
 use Rattle.indexer.specs.declared.links.Link.{Link}
-use Rattle.indexer.proofs.LinkSets.{pair_cmp, link_cmp-pair, is-Equal, is_eq-reverse, same, same_copy, same_sym}
+use Rattle.indexer.proofs.LinkSets.{pair_cmp, link_cmp-pair, is-Equal, is_eq-reverse}
 use Rattle.indexer.proofs.SeenMaps.{key_cmp, data_of, seen-lookup}
 
 -- ---- the links of one object
@@ -74,50 +74,30 @@ has-at ls n w is q = seen-has ls q ∙ ap (λ ps. has_pair ps (link_of q)) is �
 -- ---- one object changes
 
 -- o is what was linked, f what was owned, w and b what is and was under the key, s whether it is that key
-put_at : (o f s w b : Bool) → o ≡ f → (s ≡ true → f ≡ b) → ((o || (s && w)) && not ((s && b) && not (s && w))) ≡ cond s w f
-put_at true true true w b e g = by w b (g refl)
+put_at : (o f s w b : Bool) → o ≡ f → (s ≡ true → f ≡ b) → ((o && not (s && b)) || (s && w)) ≡ cond s w f
+put_at true true true w b e g = by b (g refl)
   where
-    by : (w b : Bool) → true ≡ b → (true && not (b && not w)) ≡ w
-    by true true e = refl
-    by false true e = refl
-    by w false e = cc
-put_at false false true w b e g = by w b (g refl)
-  where
-    by : (w b : Bool) → false ≡ b → (w && not (b && not w)) ≡ w
-    by true false e = refl
-    by false false e = refl
-    by w true e = cc
+    by : (b : Bool) → true ≡ b → ((true && not b) || w) ≡ w
+    by true e = refl
+    by false e = cc
+put_at false false true w b e g = refl
 put_at true true false w b e g = refl
 put_at false false false w b e g = refl
 put_at true false s w b e g = cc
 put_at false true s w b e g = cc
 
--- a is what is linked after some of the links were added
-kept_at : (o a f s w b : Bool) → o ≡ f → (s ≡ true → f ≡ b) → (o ≡ true → a ≡ true) → ((s && w) ≡ false → a ≡ o) → (a && not ((s && w) && not (s && b))) ≡ f
-kept_at o a f false w b e g grown only = by a (only refl ∙ e)
+-- what is removed was there, and is added again
+back_at : (o f s b : Bool) → o ≡ f → (s ≡ true → f ≡ b) → o ≡ ((o && not (s && b)) || (s && b))
+back_at true true true b e g = by b (g refl)
   where
-    by : (a : Bool) → a ≡ f → (a && true) ≡ f
-    by true e = e
-    by false e = e
-kept_at o a f true false b e g grown only = by a (only refl ∙ e)
-  where
-    by : (a : Bool) → a ≡ f → (a && true) ≡ f
-    by true e = e
-    by false e = e
-kept_at true a true true true b e g grown only = by a b (grown refl) (g refl)
-  where
-    by : (a b : Bool) → a ≡ true → true ≡ b → (a && not (true && not b)) ≡ true
-    by true true e h = refl
-    by true false e h = cc
-    by false b e h = cc
-kept_at false a false true true b e g grown only = by a b (g refl)
-  where
-    by : (a b : Bool) → false ≡ b → (a && not (true && not b)) ≡ false
-    by true false h = refl
-    by false false h = refl
-    by a true h = cc
-kept_at true a false s w b e g grown only = cc
-kept_at false a true s w b e g grown only = cc
+    by : (b : Bool) → true ≡ b → true ≡ ((true && not b) || b)
+    by true e = refl
+    by false e = cc
+back_at false false true b e g = g refl
+back_at true true false b e g = refl
+back_at false false false b e g = refl
+back_at true false s b e g = cc
+back_at false true s b e g = cc
 
 passes_cond : {A : Type 0} (test : A → Bool) (s : Bool) (w f : Option A) → cond s (is_some_and test w) (is_some_and test f) ≡ is_some_and test (cond s w f)
 passes_cond test true w f = refl
@@ -126,42 +106,33 @@ passes_cond test false w f = refl
 at_one : (k n : Name) (ms : Entries) (u : List ℕ) → is_same_key k n ≡ true → is_some_and (is_owned_by u) (found k ms) ≡ is_some_and (is_owned_by u) (found n ms)
 at_one k n ms u is = ap (λ k. is_some_and (is_owned_by u) (found k ms)) (name_tells k n (is-Equal (name_cmp k n) is))
 
--- the links of an object are added and then those that it had removed: they are those of the members with it
-pub index_changes : (old added new more gone : List Link) (ms ns : Entries) (n : Name) (w : Option Data) → IsIndexOf old ms → map link_of more ≡ links_at n w → map link_of gone ≡ links_at n (found n ms)
-    → HasLinks added old more → RemovesLinks new added gone more → ((q : Link) → found (key_of q.key) ns ≡ cond (is_same_key (key_of q.key) n) w (found (key_of q.key) ms)) → IsIndexOf new ns
-index_changes old added new more gone ms ns n w indexed mine had adds cuts put =
+-- the links of an object stand in the place of those that it had: they are those of the members with it
+pub index_changes : (old new more gone : List Link) (ms ns : Entries) (n : Name) (w : Option Data) → IsIndexOf old ms → map link_of more ≡ links_at n w → map link_of gone ≡ links_at n (found n ms)
+    → Relinks new old gone more → ((q : Link) → found (key_of q.key) ns ≡ cond (is_same_key (key_of q.key) n) w (found (key_of q.key) ms)) → IsIndexOf new ns
+index_changes old new more gone ms ns n w indexed mine had changes put =
     record {
       exact = λ q.
           let u = string_bytes q.uid in
           let s = is_same_key (key_of q.key) n in
-          cuts.has q ∙ ap (λ b. b && not (has_link gone q && not (has_link more q))) (adds.has q)
-          ∙ ap (λ b. (has_link old q || b) && not (has_link gone q && not b)) (has-at more n w mine q)
-          ∙ ap (λ b. (has_link old q || (s && is_some_and (is_owned_by u) w)) && not (b && not (s && is_some_and (is_owned_by u) w))) (has-at gone n (found n ms) had q)
+          changes.has q ∙ ap (λ b. (has_link old q && not (has_link gone q)) || b) (has-at more n w mine q)
+          ∙ ap (λ b. (has_link old q && not b) || (s && is_some_and (is_owned_by u) w)) (has-at gone n (found n ms) had q)
           ∙ put_at (has_link old q) (is_some_and (is_owned_by u) (found (key_of q.key) ms)) s (is_some_and (is_owned_by u) w) (is_some_and (is_owned_by u) (found n ms)) (indexed.exact q) (at_one (key_of q.key) n ms u)
           ∙ passes_cond (is_owned_by u) s w (found (key_of q.key) ms)
           ∙ ap (is_some_and (is_owned_by u)) (sym (put q));
     }
 
--- some of the links of an object are added, and then removed but for those that were there: the members are as they were
-pub index_stays : (old added new more gone : List Link) (ms : Entries) (n : Name) (w : Option Data) → IsIndexOf old ms → map link_of more ≡ links_at n w → map link_of gone ≡ links_at n (found n ms)
-    → AddsLinks added old more → RemovesLinks new added more gone → IsIndexOf new ms
-index_stays old added new more gone ms n w indexed mine had adds cuts =
+-- where an object has the links that it had, nothing changes
+pub index_stays : (old more gone : List Link) (ms : Entries) (n : Name) → IsIndexOf old ms → map link_of gone ≡ links_at n (found n ms) → ((q : Link) → has_link more q ≡ has_link gone q) → Relinks old old gone more
+index_stays old more gone ms n indexed had same =
     record {
-      exact = λ q.
+      has = λ q.
           let u = string_bytes q.uid in
           let s = is_same_key (key_of q.key) n in
-          cuts.has q ∙ ap (λ b. has_link added q && not (b && not (has_link gone q))) (has-at more n w mine q)
-          ∙ ap (λ b. has_link added q && not ((s && is_some_and (is_owned_by u) w) && not b)) (has-at gone n (found n ms) had q)
-          ∙ kept_at (has_link old q) (has_link added q) (is_some_and (is_owned_by u) (found (key_of q.key) ms)) s (is_some_and (is_owned_by u) w) (is_some_and (is_owned_by u) (found n ms)) (indexed.exact q) (at_one (key_of q.key) n ms u)
-          (adds.grown q) (λ none. adds.only q (has-at more n w mine q ∙ none));
+          let b = is_some_and (is_owned_by u) (found n ms) in
+          let is = has-at gone n (found n ms) had q in
+          back_at (has_link old q) (is_some_and (is_owned_by u) (found (key_of q.key) ms)) s b (indexed.exact q) (at_one (key_of q.key) n ms u)
+          ∙ ap (λ b. (has_link old q && not b) || b) (sym is) ∙ ap (λ b. (has_link old q && not (has_link gone q)) || b) (sym (same q));
     }
-
-pub none_added : (ls : List Link) → HasLinks ls ls []
-none_added ls = record { has = λ q. by (has_link ls q) }
-  where
-    by : (b : Bool) → b ≡ (b || false)
-    by true = refl
-    by false = refl
 
 -- ---- what is found after a removal
 
@@ -179,14 +150,3 @@ pub found_removed : (es fs : List (Key × SharedObject)) (k : Key) → ((q : Key
 found_removed es fs k cut q =
     sym (seen-lookup fs q.key) ∙ ap (option_map data_of) (cut q.key)
     ∙ removed_at (is_eq (key_cmp k q.key)) (is_same_key (key_of q.key) (key_of k)) (lookup (is_at (key_cmp q.key)) es) (found (key_of q.key) (members_seen es)) (key_turned k q.key) (seen-lookup es q.key)
-
--- ---- copies
-
-copied_one : (l m q : Link) (b c : Bool) → IsCopy l m → b ≡ c → (is_eq (link_cmp q m) || b) ≡ (is_eq (link_cmp q l) || c)
-copied_one l m q b c is e = ap (λ s. s || b) (same_sym q m ∙ same_copy l m q is ∙ same_sym l q) ∙ ap (λ b. is_eq (link_cmp q l) || b) e
-
-pub has_copied : (ls ms : List Link) → AllZip IsCopy ls ms → (q : Link) → has_link ms q ≡ has_link ls q
-has_copied [] [] is q = refl
-has_copied [] (m ∷ ms) is q = absurd is
-has_copied (l ∷ ls) [] is q = absurd is
-has_copied (l ∷ ls) (m ∷ ms) is q = copied_one l m q (has_link ms q) (has_link ls q) is.0 (has_copied ls ms is.1 q)

@@ -1,12 +1,17 @@
 -- What adding and removing links one by one comes to.
-use Rattle.std.proofs.Common.{◌≡◌, ◌&&◌, ◌||◌, ℕ, List, [], ◌∷◌, Bool, true, false, not, cond, is_eq, Ordering, Less, Equal, Greater, refl, sym, ap, ◌∙◌, nat_cmp, rules}
-use Rattle.std.specs.Cmp.Lexicographic.{slice_cmp}
-use Rattle.std.specs.List.{list_any}
-use Rattle.std.specs.Ordering.{ordering_then, ordering_reverse}
+use Rattle.std.proofs.Common.{◌≡◌, ◌&&◌, ◌||◌, ℕ, List, [], ◌∷◌, Bool, true, false, not, cond, Option, Some, None, is_eq, Ordering, Less, Equal, Greater, refl, sym, ap, ◌∙◌, nat_cmp, rules, arith, length}
+use Rattle.std.specs.Cmp.Lexicographic.{pointwise, slice_cmp}
+use Rattle.std.specs.List.Sorted.{IsStrictlySortedBy}
+use Rattle.std.specs.Map.{keys_of, lookup, remove_entry}
+use Rattle.std.specs.Ordering.{match_ordering, ordering_then, ordering_reverse}
+use Rattle.std.proofs.lemmas.Cmp.{eq_by_cmp_equiv}
+use Rattle.std.proofs.lemmas.Map.{lookup-remove_entry}
+use Rattle.std.proofs.lemmas.Map.Keys.{IsDistinct-from_sorted}
+use Rattle.shared_map.specs.Entries.{put_entry}
 use Rattle.std.specs.BTreeMap.{is_at}
 use Rattle.definitions.specs.Keys.{Key as Name, key_cmp as name_cmp}
 use Rattle.keys.proofs.KeyOrder.{key_cmp-name_cmp}
-use Rattle.indexer.specs.Links.{link_of, link_cmp, has_link, IsCopy, AddsLinks}
+use Rattle.indexer.specs.Links.{link_of, link_cmp, has_link, HasLinks, RemovesLinks, Relinks}
 use Rattle.indexer.specs.contracts.links.LinkPartialEq.TheImpl as link_eq
 use Rattle.indexer.specs.contracts.links.LinkOrd.TheImpl.Laws.{matches_eq-law, total-law}
 use Rattle.indexer.specs.declared.links.Link.{Link}
@@ -36,104 +41,116 @@ is-Equal Greater e = cc
 pub same_sym : (a b : Link) → same a b ≡ same b a
 same_sym a b = ap is_eq (total-law.antisymm a b) ∙ is_eq-reverse (link_cmp b a)
 
--- a copy is the same as any other just where the link is
-pub same_copy : (link copy q : Link) → IsCopy link copy → same copy q ≡ same link q
-same_copy link copy q is = ap is_eq (link_cmp-pair copy q ∙ ap (λ p. pair_cmp p (link_of q)) is ∙ sym (link_cmp-pair link q))
-
--- lists have both of two links that are one, or neither
-pub has_same : (a b : Link) (ls : List Link) → same a b ≡ true → has_link ls a ≡ has_link ls b
-has_same a b [] is = refl
-has_same a b (l ∷ ls) is = by (has_link ls a) (has_link ls b) (has_same a b ls is)
+-- equal lists have the same links
+pub same_lists : (ls ms : List Link) → true ≡ pointwise (link_eq.ghosts).eq ls ms → (q : Link) → has_link ls q ≡ has_link ms q
+same_lists [] [] is q = refl
+same_lists [] (m ∷ ms) is q = cc
+same_lists (l ∷ ls) [] is q = cc
+same_lists (l ∷ ls) (m ∷ ms) is q = by ((link_eq.ghosts).eq l m) (λ rest. same_lists ls ms rest q) refl is
   where
-    by : (x y : Bool) → x ≡ y → (is_eq (link_cmp a l) || x) ≡ (is_eq (link_cmp b l) || y)
-    by x y e = ap (λ o. is_eq o || x) (total-law.congr a b l (is-Equal (link_cmp a b) is)) ∙ ap (λ x. is_eq (link_cmp b l) || x) e
+    by : (b : Bool) → (true ≡ pointwise (link_eq.ghosts).eq ls ms → has_link ls q ≡ has_link ms q) → (link_eq.ghosts).eq l m ≡ b → true ≡ (b && pointwise (link_eq.ghosts).eq ls ms) → (same q l || has_link ls q) ≡ (same q m || has_link ms q)
+    by false same_rest one is = cc
+    by true same_rest one is =
+        ap (λ b. b || has_link ls q) (same_sym q l ∙ ap is_eq (total-law.congr l m q (is-Equal (link_cmp l m) (sym (matches_eq-law l m) ∙ one))) ∙ same_sym m q)
+        ∙ ap (λ b. same q m || b) (same_rest is)
 
--- `contains` of a slice
-pub any_equal : (ls : List Link) (a : Link) → list_any (λ (y : Link). (link_eq.ghosts).eq y a) ls ≡ has_link ls a
-any_equal [] a = refl
-any_equal (l ∷ ls) a = ap (λ b. b || list_any (λ (y : Link). (link_eq.ghosts).eq y a) ls) (matches_eq-law l a ∙ same_sym l a) ∙ ap (λ b. same a l || b) (any_equal ls a)
+-- an empty list has no links
+pub no_links : (ls : List Link) → length ls ≡ 0 → (q : Link) → has_link [] q ≡ has_link ls q
+no_links [] none q = refl
+no_links (l ∷ ls) none q = absurd (omega (arith, none))
 
--- ---- links added
+-- ---- links put into a map and removed from one
 
-pub record IsAdding (now first rest more : List Link) : Type 0 where
-  pub has : (l : Link) → (has_link now l || has_link rest l) ≡ (has_link first l || has_link more l)
-  pub grown : (l : Link) → has_link first l ≡ true → has_link now l ≡ true
+swapped : (s t h : Bool) → (t || (s || h)) ≡ (s || (t || h))
+swapped true true h = refl
+swapped true false h = refl
+swapped false true h = refl
+swapped false false h = refl
 
-or_left : (a b : Bool) → a ≡ true → (a || b) ≡ true
-or_left true b e = refl
-or_left false b e = cc
+kept : (s t h : Bool) → s ≡ t → (s || h) ≡ (s || (t || h))
+kept true true h e = refl
+kept false false h e = refl
+kept true false h e = cc
+kept false true h e = cc
 
-one_added : (s h r t : Bool) → s ≡ t → (cond s true h || r) ≡ (h || (t || r))
-one_added true true r true e = refl
-one_added true false r true e = refl
-one_added false true r false e = refl
-one_added false false r false e = refl
-one_added true h r false e = cc
-one_added false h r true e = cc
+same_as : (a b q : Link) → link_cmp a b ≡ Equal → same q a ≡ same q b
+same_as a b q is = same_sym q a ∙ ap is_eq (total-law.congr a b q is) ∙ same_sym b q
 
-stays : (s h : Bool) → h ≡ true → cond s true h ≡ true
-stays true h e = refl
-stays false h e = e
+module _ {V : Type 0} where
+  pub has_put : (es : List (Link × V)) (e : Link × V) (q : Link) → has_link (keys_of (put_entry link_cmp es e)) q ≡ (same q e.0 || has_link (keys_of es) q)
+  has_put [] e q = refl
+  has_put (f ∷ fs) e q = by (link_cmp e.0 f.0) refl (has_put fs e q)
+    where
+      by : (r : Ordering) → link_cmp e.0 f.0 ≡ r → has_link (keys_of (put_entry link_cmp fs e)) q ≡ (same q e.0 || has_link (keys_of fs) q)
+          → has_link (keys_of (match_ordering r (e ∷ f ∷ fs) (e ∷ fs) (f ∷ put_entry link_cmp fs e))) q ≡ (same q e.0 || (same q f.0 || has_link (keys_of fs) q))
+      by Less is rest = refl
+      by Equal is rest = kept (same q e.0) (same q f.0) (has_link (keys_of fs) q) (same_as e.0 f.0 q is)
+      by Greater is rest = ap (λ b. same q f.0 || b) rest ∙ swapped (same q e.0) (same q f.0) (has_link (keys_of fs) q)
 
-pub adds_one : (old new first rest before more : List Link) (link copy : Link) → before ≡ link ∷ rest → IsCopy link copy
-    → ((q : Link) → has_link new q ≡ cond (is_at (link_cmp copy) q) true (has_link old q))
-    → IsAdding old first before more → IsAdding new first rest more
-adds_one old new first rest before more link copy goes is put a =
-    record {
-      has = λ l. ap (λ b. b || has_link rest l) (put l) ∙ one_added (same copy l) (has_link old l) (has_link rest l) (same l link) (same_copy link copy l is ∙ same_sym link l)
-          ∙ ap (λ ls. has_link old l || has_link ls l) (sym goes) ∙ a.has l;
-      grown = λ l had. put l ∙ stays (same copy l) (has_link old l) (a.grown l had);
-    }
+  abbrev is_there : Option V → Bool
+  is_there (Some v) = true
+  is_there None = false
 
-between : (h r f m : Bool) → (h || r) ≡ (f || m) → (f ≡ true → h ≡ true) → m ≡ false → h ≡ f
-between true r true m e g n = refl
-between true r false true e g n = n
-between true r false false e g n = e
-between false r true m e g n = g refl
-between false r false m e g n = refl
+  has_found : (es : List (Link × V)) (q : Link) → has_link (keys_of es) q ≡ is_there (lookup (is_at (link_cmp q)) es)
+  has_found [] q = refl
+  has_found (e ∷ es) q = by (same q e.0) (has_found es q)
+    where
+      by : (b : Bool) → has_link (keys_of es) q ≡ is_there (lookup (is_at (link_cmp q)) es) → (b || has_link (keys_of es) q) ≡ is_there (cond b (Some e.1) (lookup (is_at (link_cmp q)) es))
+      by true rest = refl
+      by false rest = rest
 
--- as far as it has come, nothing else is added
-pub adds_only : (now first rest more : List Link) → IsAdding now first rest more → AddsLinks now first more
-adds_only now first rest more a =
-    record { grown = a.grown; only = λ l not_more. between (has_link now l) (has_link rest l) (has_link first l) (has_link more l) (a.has l) (a.grown l) not_more }
+  there_but : (s : Bool) (o : Option V) (h : Bool) → h ≡ is_there o → is_there (cond s None o) ≡ (h && not s)
+  there_but true o true e = refl
+  there_but true o false e = refl
+  there_but false o true e = sym e
+  there_but false o false e = sym e
 
--- ---- links removed
+  pub has_removed : (l q : Link) (es : List (Link × V)) → IsStrictlySortedBy link_cmp (keys_of es) → has_link (keys_of (remove_entry (is_at (link_cmp l)) es)) q ≡ (has_link (keys_of es) q && not (same l q))
+  has_removed l q es sorted =
+      has_found (remove_entry (is_at (link_cmp l)) es) q
+      ∙ ap is_there (lookup-remove_entry (eq_by_cmp_equiv total-law) (is_at (link_cmp l)) (λ x y is. ap is_eq (total-law.congr l x y (is-Equal (link_cmp l x) is))) q es (IsDistinct-from_sorted link_cmp (keys_of es) sorted))
+      ∙ there_but (same l q) (lookup (is_at (link_cmp q)) es) (has_link (keys_of es) q) (has_found es q)
 
-pub record IsRemoving (now first rest gone spared : List Link) : Type 0 where
-  pub has : (l : Link) → (has_link now l && not (has_link rest l && not (has_link spared l))) ≡ (has_link first l && not (has_link gone l && not (has_link spared l)))
+  -- ---- links added
 
-spares : (h s r p : Bool) → (s ≡ true → p ≡ true) → (h && not (r && not p)) ≡ (h && not ((s || r) && not p))
-spares h false r p e = refl
-spares true true true p e = by p (e refl)
-  where
-    by : (p : Bool) → p ≡ true → (true && not (true && not p)) ≡ (true && not (true && not p))
-    by p e = refl
-spares true true false true e = refl
-spares true true false false e = sym (e refl)
-spares false true r p e = refl
+  pub record IsAdding (now first : List (Link × V)) (rest more : List Link) : Type 0 where
+    pub has : (l : Link) → (has_link (keys_of now) l || has_link rest l) ≡ (has_link (keys_of first) l || has_link more l)
 
-drops : (h s t r p : Bool) → s ≡ t → (s ≡ true → p ≡ false) → (cond t false h && not (r && not p)) ≡ (h && not ((s || r) && not p))
-drops h false false r p is e = refl
-drops h false true r p is e = cc
-drops h true false r p is e = cc
-drops true true true r true is e = sym (e refl)
-drops true true true r false is e = refl
-drops false true true r p is e = refl
+  pub adds_one : (old new first : List (Link × V)) (rest before more : List Link) (link : Link) (v : V) → before ≡ link ∷ rest → new ≡ put_entry link_cmp old (link, v)
+      → IsAdding old first before more → IsAdding new first rest more
+  adds_one old new first rest before more link v goes put a =
+      record {
+        has = λ l. ap (λ (es : List (Link × V)). has_link (keys_of es) l || has_link rest l) put ∙ ap (λ b. b || has_link rest l) (has_put old (link, v) l)
+            ∙ moved (same l link) (has_link (keys_of old) l) (has_link rest l)
+            ∙ ap (λ ls. has_link (keys_of old) l || has_link ls l) (sym goes) ∙ a.has l;
+      }
+    where
+      moved : (s h r : Bool) → ((s || h) || r) ≡ (h || (s || r))
+      moved true true r = refl
+      moved true false r = refl
+      moved false true r = refl
+      moved false false r = refl
 
-pub spares_one : (now first rest before gone spared : List Link) (link : Link) → before ≡ link ∷ rest → true ≡ list_any (λ (y : Link). (link_eq.ghosts).eq y link) spared
-    → IsRemoving now first before gone spared → IsRemoving now first rest gone spared
-spares_one now first rest before gone spared link goes found a =
-    record {
-      has = λ l. spares (has_link now l) (same l link) (has_link rest l) (has_link spared l) (λ is. has_same l link spared is ∙ sym (any_equal spared link) ∙ sym found)
-          ∙ ap (λ ls. has_link now l && not (has_link ls l && not (has_link spared l))) (sym goes) ∙ a.has l;
-    }
+  -- ---- links removed
 
-pub removes_one : (old new first rest before gone spared : List Link) (link : Link) → before ≡ link ∷ rest → false ≡ list_any (λ (y : Link). (link_eq.ghosts).eq y link) spared
-    → ((q : Link) → has_link new q ≡ cond (is_at (link_cmp link) q) false (has_link old q))
-    → IsRemoving old first before gone spared → IsRemoving new first rest gone spared
-removes_one old new first rest before gone spared link goes found cut a =
-    record {
-      has = λ l. ap (λ b. b && not (has_link rest l && not (has_link spared l))) (cut l)
-          ∙ drops (has_link old l) (same l link) (same link l) (has_link rest l) (has_link spared l) (same_sym l link) (λ is. has_same l link spared is ∙ sym (any_equal spared link) ∙ sym found)
-          ∙ ap (λ ls. has_link old l && not (has_link ls l && not (has_link spared l))) (sym goes) ∙ a.has l;
-    }
+  pub record IsRemoving (now first : List (Link × V)) (rest gone : List Link) : Type 0 where
+    pub has : (l : Link) → (has_link (keys_of now) l && not (has_link rest l)) ≡ (has_link (keys_of first) l && not (has_link gone l))
+
+  pub removes_one : (old new first : List (Link × V)) (rest before gone : List Link) (link : Link) → before ≡ link ∷ rest → IsStrictlySortedBy link_cmp (keys_of old)
+      → new ≡ remove_entry (is_at (link_cmp link)) old → IsRemoving old first before gone → IsRemoving new first rest gone
+  removes_one old new first rest before gone link goes sorted cut a =
+      record {
+        has = λ l. ap (λ (es : List (Link × V)). has_link (keys_of es) l && not (has_link rest l)) cut ∙ ap (λ b. b && not (has_link rest l)) (has_removed link l old sorted)
+            ∙ ap (λ s. (has_link (keys_of old) l && not s) && not (has_link rest l)) (same_sym link l)
+            ∙ moved (has_link (keys_of old) l) (same l link) (has_link rest l)
+            ∙ ap (λ ls. has_link (keys_of old) l && not (has_link ls l)) (sym goes) ∙ a.has l;
+      }
+    where
+      moved : (h s r : Bool) → ((h && not s) && not r) ≡ (h && not (s || r))
+      moved true true r = refl
+      moved true false r = refl
+      moved false s r = refl
+
+-- what is gone is removed, and then more is added
+pub relinks : (new cut old gone more : List Link) → RemovesLinks cut old gone → HasLinks new cut more → Relinks new old gone more
+relinks new cut old gone more cuts adds = record { has = λ l. adds.has l ∙ ap (λ b. b || has_link more l) (cuts.has l) }

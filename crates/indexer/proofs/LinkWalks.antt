@@ -1,5 +1,6 @@
 -- Links that are gone through in order lead to the objects with the owner.
-use Rattle.std.proofs.Common.{◌≡◌, ◌&&◌, ◌||◌, ℕ, List, [], ◌∷◌, Bool, true, false, cond, Option, Some, None, map, filter, filter_map, option_map, is_eq, nat_cmp, Less, Equal, refl, sym, ap, ◌∙◌, string_bytes}
+use denote.Ref.{Bor}
+use Rattle.std.proofs.Common.{◌≡◌, ◌&&◌, ◌||◌, ℕ, List, [], ◌∷◌, Bool, true, false, cond, Option, Some, None, map, filter, filter_map, option_map, is_eq, nat_cmp, Less, Equal, refl, sym, ap, ◌∙◌, ◌++◌, append-nil, arith, length, string_bytes}
 use Rattle.std.specs.List.{AllByRecursion, list_any, cons_option}
 use Rattle.std.proofs.lemmas.Slice.Eq.{bytes_eq-Decides}
 use Rattle.std.specs.List.Sorted.{IsStrictlySortedBy}
@@ -8,6 +9,8 @@ use Rattle.std.specs.Str.{bytes_eq}
 use Rattle.std.specs.Ordering.{ordering_then}
 use Rattle.std.specs.Cmp.Lexicographic.{slice_cmp}
 use Rattle.std.specs.BTreeMap.{is_at}
+use Rattle.std.specs.BTreeMap.Range.{entries_between, range_contains}
+use Rattle.std.specs.declared.ops.Bound.TheVariants.{Included, Excluded}
 use Rattle.serde_json.specs.Data.{Data}
 use Rattle.definitions.specs.History.{Entries, found}
 use Rattle.definitions.specs.Keys.{Key as Name, key_cmp as name_cmp}
@@ -62,6 +65,13 @@ passing-owned u (e ∷ es) = by (owned u e.1) (passing-owned u es)
         ≡ cond b (shown e.0 e.1 ∷ of_owner u (members_seen es)) (of_owner u (members_seen es))
     by true rest = ap (λ ms. shown e.0 e.1 ∷ ms) rest
     by false rest = rest
+
+-- nothing is left to be looked up
+pub looked_all : {V : Type 0} (es : List (Key × SharedObject)) (ms : Entries) (rest whole items : List (Bor (Link × V))) → length rest ≡ 0 → whole ≡ items
+    → ms ++ looked es (keys_of (map (λ (e : Bor (Link × V)). e.now) rest)) ≡ looked es (keys_of (map (λ (e : Bor (Link × V)). e.now) whole))
+    → ms ≡ looked es (keys_of (map (λ (e : Bor (Link × V)). e.now) items))
+looked_all {V} es ms [] whole items none same all = sym (append-nil ms) ∙ all ∙ ap (λ (l : List (Bor (Link × V))). looked es (keys_of (map (λ (e : Bor (Link × V)). e.now) l))) same
+looked_all es ms (e ∷ rest) whole items none same all = absurd (omega (arith, none))
 
 -- ---- the links to a uid are in the order of their keys
 
@@ -124,3 +134,16 @@ links_lead first u named es ls in_order sorted indexed =
     (λ k. let q : Link = record { uid = first.uid; key = k } in
     has_kept u q named ls ∙ indexed.exact q ∙ ap (λ u. is_some_and (is_owned_by u) (found (key_of k) (members_seen es))) named ∙ ap (is_some_and (is_owned_by u)) (sym (seen-lookup es k)) ∙ owned_at u (lookup (is_at (key_cmp k)) es))
     ∙ passing-owned u es
+
+-- the links of the entries between two keys
+pub keys_in_span : {V : Type 0} (u : List ℕ) (first past : Link) → ((q : Link) → range_contains link_cmp (Included first) (Excluded past) q ≡ bytes_eq u (string_bytes q.uid)) → (es : List (Link × V))
+    → keys_of (entries_between link_cmp (Included first) (Excluded past) es) ≡ to_uid u (keys_of es)
+keys_in_span u first past spans [] = refl
+keys_in_span {V} u first past spans (e ∷ es) =
+    ap (λ b. keys_of (cond b (e ∷ entries_between link_cmp (Included first) (Excluded past) es) (entries_between link_cmp (Included first) (Excluded past) es))) (spans e.0)
+    ∙ by (bytes_eq u (string_bytes e.0.uid)) (keys_in_span u first past spans es)
+  where
+    by : (b : Bool) → keys_of (entries_between link_cmp (Included first) (Excluded past) es) ≡ to_uid u (keys_of es)
+        → keys_of (cond b (e ∷ entries_between link_cmp (Included first) (Excluded past) es) (entries_between link_cmp (Included first) (Excluded past) es)) ≡ cond b (e.0 ∷ to_uid u (keys_of es)) (to_uid u (keys_of es))
+    by true rest = ap (λ ls. e.0 ∷ ls) rest
+    by false rest = rest

@@ -1,5 +1,5 @@
 -- Links: which objects name which owners.
-use Rattle.std.specs.Prelude.{◌≡◌, ◌&&◌, ◌||◌, ℕ, List, Bool, true, false, not, Option, option_map, filter_map, [], None, Some, string_bytes}
+use Rattle.std.specs.Prelude.{◌≡◌, ◌&&◌, ◌||◌, ℕ, List, Bool, not, Option, option_map, filter_map, [], None, Some, string_bytes}
 use Rattle.std.specs.declared.cmp.Ordering.{Ordering}
 use Rattle.std.specs.List.{list_any}
 use Rattle.std.specs.BTreeMap.{is_at}
@@ -28,9 +28,6 @@ abbrev pub links_at : Name → Option Data → List (List ℕ × Name)
 links_at n None = []
 links_at n (Some d) = filter_map (link_to n) (owners d)
 
-abbrev pub IsCopy : Link → Link → Type 0
-IsCopy l m = link_of m ≡ link_of l
-
 abbrev pub link_cmp : Link → Link → Ordering
 link_cmp = (link_ord.ghosts).cmp
 
@@ -46,14 +43,13 @@ pub record IsIndexOf (ls : List Link) (ms : Entries) : Type 0 where
 pub record HasLinks (new old more : List Link) : Type 0 where
   pub has : (l : Link) → has_link new l ≡ (has_link old l || has_link more l)
 
--- the old links and some of more, and no others
-pub record AddsLinks (new old more : List Link) : Type 0 where
-  pub grown : (l : Link) → has_link old l ≡ true → has_link new l ≡ true
-  pub only : (l : Link) → has_link more l ≡ false → has_link new l ≡ has_link old l
+-- the old links, but for those that are gone
+pub record RemovesLinks (new old gone : List Link) : Type 0 where
+  pub has : (l : Link) → has_link new l ≡ (has_link old l && not (has_link gone l))
 
--- the old links, but for those that are gone and not spared
-pub record RemovesLinks (new old gone spared : List Link) : Type 0 where
-  pub has : (l : Link) → has_link new l ≡ (has_link old l && not (has_link gone l && not (has_link spared l)))
+-- the old links, with more in the place of those that are gone
+pub record Relinks (new old gone more : List Link) : Type 0 where
+  pub has : (l : Link) → has_link new l ≡ ((has_link old l && not (has_link gone l)) || has_link more l)
 
 -- ---- where they lie
 

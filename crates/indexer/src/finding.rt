@@ -1,5 +1,6 @@
 //! Objects that are found by a namespace or by an owner.
 ghost use Rattle.std.specs.Prelude.{◌≡◌, ◌++◌, ◌∷◌, [], IfOk, OnOk, map, string_bytes};
+ghost use Rattle.std.specs.Map.{keys_of};
 ghost use Rattle.keys.specs.Keys.{key_of};
 ghost use Rattle.controllers.specs.Informers.{of_namespace, of_owner};
 ghost use Rattle.turns.specs.Entries.{entry_of};
@@ -10,8 +11,8 @@ use crate::links::Link;
 use definitions::kinds::Kind;
 use keys::Key;
 use reflector::SharedObject;
+use shared_map::SharedMap;
 use std::alloc::{AllocError, Global};
-use std::collections::{BTreeMap, BTreeSet};
 use turns::Entry;
 
 /// Returns the first key of a kind in a namespace.
@@ -47,12 +48,12 @@ fn text_after(alloc: Global, text: &str) -> Result<String, AllocError>
 /// Returns the objects with an owner of this uid, with their keys, in the order of keys. The error is running out of memory.
 pub fn by_owner<'a>(
     alloc: Global,
-    objects: &'a BTreeMap<Key, SharedObject>,
-    links: &'a BTreeSet<Link>,
+    objects: &'a SharedMap<Key, SharedObject>,
+    links: &'a SharedMap<Link, ()>,
     uid: &str,
 ) -> Result<Vec<Entry<'a>>, AllocError>
-    requires indexed { IsIndexOf links.now.keys (members_seen objects.now.entries) }
-    ensures { IfOk result (λ v. map entry_of v.items ≡ of_owner uid.entry.now (members_seen objects.entry.now.entries)) }
+    requires indexed { IsIndexOf (keys_of links.now) (members_seen objects.now) }
+    ensures { IfOk result (λ v. map entry_of v.items ≡ of_owner uid.entry.now (members_seen objects.entry.now)) }
 {
     let first = first_link(alloc, String::from_str(alloc, uid)?);
     let past = first_link(alloc, text_after(alloc, uid)?);
@@ -60,10 +61,10 @@ pub fn by_owner<'a>(
     if objects.len() == 0 {
         return Ok(found);
     }
-    for link in links.range(first..past) {
-        if let Some(object) = objects.get(&link.key) {
+    for link in links.between(alloc, &first, &past)? {
+        if let Some(object) = objects.get(&link.0.key) {
             found.push(Entry {
-                key: &link.key,
+                key: &link.0.key,
                 object: object.object(),
             })?;
         }
@@ -71,36 +72,46 @@ pub fn by_owner<'a>(
     Ok(found)
 }
 
+/// Appends entries. The error is running out of memory, after which some may be there.
+fn append_entries<'a>(
+    found: &mut Vec<Entry<'a>>,
+    entries: Vec<&'a (Key, SharedObject)>,
+) -> Result<(), AllocError>
+    ensures { OnOk result (map entry_of found.new.items ≡ map entry_of found.old.items ++ members_seen (map (λ e. e.now) entries.entry.items)) }
+{
+    for entry in entries {
+        found.push(Entry {
+            key: &entry.0,
+            object: entry.1.object(),
+        })?;
+    }
+    Ok(())
+}
+
 /// Adds the objects of a kind in a namespace, with their keys. The error is running out of memory, after which some may be there.
 fn add_of_kind<'a>(
     alloc: Global,
     found: &mut Vec<Entry<'a>>,
-    objects: &'a BTreeMap<Key, SharedObject>,
+    objects: &'a SharedMap<Key, SharedObject>,
     kind: Kind,
     namespace: &str,
 ) -> Result<(), AllocError>
     ensures { OnOk result (map entry_of found.new.items
-        ≡ map entry_of found.old.items ++ of_kind kind namespace.entry.now (members_seen objects.entry.now.entries)) }
+        ≡ map entry_of found.old.items ++ of_kind kind namespace.entry.now (members_seen objects.entry.now)) }
 {
     let first = first_key(alloc, kind, String::from_str(alloc, namespace)?);
     let past = first_key(alloc, kind, text_after(alloc, namespace)?);
-    for (key, object) in objects.range(first..past) {
-        found.push(Entry {
-            key,
-            object: object.object(),
-        })?;
-    }
-    Ok(())
+    append_entries(found, objects.between(alloc, &first, &past)?)
 }
 
 /// Returns the objects of a namespace with their keys, in the order of keys. It costs what it finds, and the way to the first of
 /// each kind. The error is running out of memory.
 pub fn by_namespace<'a>(
     alloc: Global,
-    objects: &'a BTreeMap<Key, SharedObject>,
+    objects: &'a SharedMap<Key, SharedObject>,
     namespace: &str,
 ) -> Result<Vec<Entry<'a>>, AllocError>
-    ensures { IfOk result (λ v. map entry_of v.items ≡ of_namespace namespace.entry.now (members_seen objects.entry.now.entries)) }
+    ensures { IfOk result (λ v. map entry_of v.items ≡ of_namespace namespace.entry.now (members_seen objects.entry.now)) }
 {
     let mut found = Vec::new(alloc);
     if objects.len() == 0 {

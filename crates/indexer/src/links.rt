@@ -1,30 +1,20 @@
 //! Which objects name which owners.
-ghost use Rattle.std.specs.Prelude.{◌≡◌, ◌&&◌, not, IfOk, OnOk, filter_map, map};
+ghost use Rattle.std.specs.Prelude.{◌≡◌, IfOk, OnOk, filter_map, map};
+ghost use Rattle.std.specs.Map.{keys_of};
 ghost use Rattle.keys.specs.Keys.{key_of};
 ghost use Rattle.definitions.specs.Metadata.{owners};
-ghost use Rattle.indexer.specs.Links.{IsCopy, link_of, link_to, HasLinks, AddsLinks, RemovesLinks};
+ghost use Rattle.indexer.specs.Links.{link_of, link_to, HasLinks, RemovesLinks, Relinks};
 
 use keys::Key;
 use meta::Object;
+use shared_map::SharedMap;
 use std::alloc::{AllocError, Global};
-use std::collections::BTreeSet;
 
 /// The uid of an owner, and the key of an object that names it. They go by uid, then key.
 #[derive(PartialEq, Eq, PartialOrd, Ord, Drop)]
 pub struct Link {
     pub uid: String,
     pub key: Key,
-}
-
-impl Clone for Link {
-    ghost is_clone = { λ l m. IsCopy l m };
-
-    fn clone(&self) -> Result<Link, AllocError> {
-        Ok(Link {
-            uid: self.uid.clone()?,
-            key: self.key.try_copy()?,
-        })
-    }
 }
 
 /// Returns a link for each owner that the object under a key names by its uid.
@@ -44,23 +34,48 @@ pub fn links_of(alloc: Global, key: &Key, object: &Object) -> Result<Vec<Link>, 
 }
 
 /// Adds links. The error is running out of memory, after which some may be there.
-pub fn add_links(links: &mut BTreeSet<Link>, more: &[Link]) -> Result<(), AllocError>
-    ensures ok { OnOk result (HasLinks links.new.keys links.old.keys more.now) }
-    ensures only { AddsLinks links.new.keys links.old.keys more.now }
+fn add_links(links: &mut SharedMap<Link, ()>, more: Vec<Link>) -> Result<(), AllocError>
+    ensures { OnOk result (HasLinks (keys_of links.new) (keys_of links.old) more.items) }
 {
     for link in more {
-        links.insert(link.clone()?)?;
+        links.insert(link, ())?;
     }
     Ok(())
 }
 
-/// Removes links, but for those that are to be spared. It takes no memory.
-pub fn remove_links(links: &mut BTreeSet<Link>, gone: &[Link], spared: &[Link])
-    ensures { RemovesLinks links.new.keys links.old.keys gone.now spared.now }
+/// Removes links. The error is running out of memory, after which some may be gone.
+fn remove_links(links: &mut SharedMap<Link, ()>, gone: &[Link]) -> Result<(), AllocError>
+    ensures { OnOk result (RemovesLinks (keys_of links.new) (keys_of links.old) gone.now) }
 {
     for link in gone {
-        if !spared.contains(link) {
-            links.remove(link);
-        }
+        links.remove(link)?;
     }
+    Ok(())
+}
+
+/// Puts more links in the place of those that are gone. The error is running out of memory, after which some may be changed.
+pub fn relink(
+    links: &mut SharedMap<Link, ()>,
+    gone: &[Link],
+    more: Vec<Link>,
+) -> Result<(), AllocError>
+    ensures { OnOk result (Relinks (keys_of links.new) (keys_of links.old) gone.now more.items) }
+{
+    remove_links(links, gone)?;
+    add_links(links, more)?;
+    Ok(())
+}
+
+/// Returns a copy of links, in which more links stand in the place of those that are gone. It costs a count for each few links.
+/// The error is running out of memory.
+pub fn relinked(
+    links: &SharedMap<Link, ()>,
+    gone: &[Link],
+    more: Vec<Link>,
+) -> Result<SharedMap<Link, ()>, AllocError>
+    ensures { IfOk result (λ m. Relinks (keys_of m) (keys_of links.now) gone.now more.items) }
+{
+    let mut changed = links.try_copy()?;
+    relink(&mut changed, gone, more)?;
+    Ok(changed)
 }

@@ -1,25 +1,26 @@
 //! Maps of objects, with an index by owner.
 use crate::finding;
 use crate::links::Link;
-use crate::putting::{copy_of, lay_over, put_under, remove_under};
+use crate::putting::{lay_over, put_made, put_under, remove_under};
 use keys::Key;
 use reflector::SharedObject;
 use reflector::identities::key_of;
+use shared_map::SharedMap;
 use std::alloc::{AllocError, Global};
-use std::collections::{BTreeMap, BTreeSet};
 use std::marker::Model;
 use turns::Entry;
 
 /// The objects that are there, in the order of their keys, with an index of those that name an owner. It is seen as members.
 #[derive(Drop)]
 pub struct ObjectMap {
-    objects: BTreeMap<Key, SharedObject>,
-    links: BTreeSet<Link>,
+    objects: SharedMap<Key, SharedObject>,
+    links: SharedMap<Link, ()>,
     alloc: Global,
 }
 
 impl Model for ObjectMap {
     ghost use Rattle.definitions.specs.History.{Entries};
+    ghost use Rattle.std.specs.Map.{keys_of};
     ghost use Rattle.server_state.specs.Codes.{coded_members};
     ghost use Rattle.indexer.specs.Links.{IsIndexOf};
     ghost use Rattle.indexer.specs.Seen.{members_seen};
@@ -28,9 +29,9 @@ impl Model for ObjectMap {
 
     ghost coded = { coded_members };
 
-    ghost view = { λ m. members_seen m.objects.entries };
+    ghost view = { λ m. members_seen m.objects };
 
-    ghost invariant = { λ m. IsIndexOf m.links.keys (members_seen m.objects.entries) };
+    ghost invariant = { λ m. IsIndexOf (keys_of m.links) (members_seen m.objects) };
 }
 
 impl ObjectMap {
@@ -51,30 +52,37 @@ impl ObjectMap {
         ensures { result ≡ [] }
     {
         ObjectMap {
-            objects: BTreeMap::new(alloc),
-            links: BTreeSet::new(alloc),
+            objects: SharedMap::new(alloc),
+            links: SharedMap::new(alloc),
             alloc,
         }
     }
 
     /// Returns the map of these objects. The error is running out of memory.
-    pub fn of(alloc: Global, objects: &[SharedObject]) -> Result<ObjectMap, AllocError>
-        ensures { IfOk result (λ m. m ≡ put_all [] objects.now) }
+    pub fn of(alloc: Global, listed: &[SharedObject]) -> Result<ObjectMap, AllocError>
+        ensures { IfOk result (λ m. m ≡ put_all [] listed.now) }
     {
-        let mut made = ObjectMap::new(alloc);
-        for object in objects {
-            made.put(object)?;
+        let mut objects = SharedMap::new(alloc);
+        let mut links = SharedMap::new(alloc);
+        for object in listed {
+            let key = key_of(alloc, object.object())?;
+            put_made(alloc, &mut objects, &mut links, key, object)?;
         }
-        Ok(made)
+        Ok(ObjectMap {
+            objects,
+            links,
+            alloc,
+        })
     }
 
-    /// Returns a copy, which shares the objects. The error is running out of memory.
+    /// Returns a copy, which shares the objects and the links. It costs a count for each few of them. The error is running out of
+    /// memory.
     pub fn try_copy(&self) -> Result<ObjectMap, AllocError>
         ensures { IfOk result (λ m. m ≡ self.now) }
     {
         Ok(ObjectMap {
-            objects: copy_of(self.alloc, &self.objects)?,
-            links: self.links.clone()?,
+            objects: self.objects.try_copy()?,
+            links: self.links.try_copy()?,
             alloc: self.alloc,
         })
     }
@@ -86,8 +94,8 @@ impl ObjectMap {
         self.objects.len()
     }
 
-    /// Puts an object under its key. It costs the way to the key and to each owner that the object names or named. The error is
-    /// running out of memory, and changes nothing.
+    /// Puts an object under its key. It costs the way to the key; where the owners that the object names change, also the way to
+    /// each, and a count for each few links. The error is running out of memory, and changes nothing.
     pub fn put(&mut self, object: &SharedObject) -> Result<(), AllocError>
         ensures ok { OnOk result (self.new ≡ put_in self.old object.now) }
         ensures err { OnErr result (self.new ≡ self.old) }
@@ -118,10 +126,10 @@ impl ObjectMap {
         ensures in_order { IsStrictlySortedBy key_cmp (keys_of self.now) }
     {
         let mut found = Vec::with_capacity(alloc, self.objects.len())?;
-        for (key, object) in &self.objects {
+        for entry in self.objects.all(alloc)? {
             found.push(Entry {
-                key,
-                object: object.object(),
+                key: &entry.0,
+                object: entry.1.object(),
             })?;
         }
         Ok(found)
@@ -143,11 +151,11 @@ impl ObjectMap {
     }
 
     /// Returns the objects of both maps, the later ones in the place of the earlier. The error is running out of memory.
-    pub fn with_later(&self, later: &ObjectMap) -> Result<BTreeMap<Key, SharedObject>, AllocError>
-        ensures { IfOk result (λ m. members_seen m.entries ≡ overlaid self.now later.now) }
+    pub fn with_later(&self, later: &ObjectMap) -> Result<SharedMap<Key, SharedObject>, AllocError>
+        ensures { IfOk result (λ m. members_seen m ≡ overlaid self.now later.now) }
     {
-        let mut both = copy_of(self.alloc, &self.objects)?;
-        lay_over(&mut both, &later.objects)?;
+        let mut both = self.objects.try_copy()?;
+        lay_over(self.alloc, &mut both, &later.objects)?;
         Ok(both)
     }
 }

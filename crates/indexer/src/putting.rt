@@ -5,22 +5,23 @@ ghost use Rattle.definitions.specs.History.{found, put_or_remove};
 ghost use Rattle.definitions.specs.Keys.{key_cmp};
 ghost use Rattle.controllers.specs.Shifts.{overlaid};
 ghost use Rattle.std.specs.BTreeMap.{insert_entry};
-ghost use Rattle.indexer.specs.Links.{link_of, links_at, HasLinks, AddsLinks, IsIndexOf};
+ghost use Rattle.std.specs.Map.{keys_of};
+ghost use Rattle.indexer.specs.Links.{link_of, links_at, IsIndexOf};
 ghost use Rattle.indexer.specs.Seen.{members_seen};
 
-use crate::links::{Link, add_links, links_of, remove_links};
+use crate::links::{Link, links_of, relink, relinked};
 use keys::Key;
 use reflector::SharedObject;
+use shared_map::SharedMap;
 use std::alloc::{AllocError, Global};
-use std::collections::{BTreeMap, BTreeSet};
 
 /// Returns the links of the object under a key, if there is one.
 fn links_under(
     alloc: Global,
-    objects: &BTreeMap<Key, SharedObject>,
+    objects: &SharedMap<Key, SharedObject>,
     key: &Key,
 ) -> Result<Vec<Link>, AllocError>
-    ensures { IfOk result (λ v. map link_of v.items ≡ links_at (key_of key.now) (found (key_of key.now) (members_seen objects.now.entries))) }
+    ensures { IfOk result (λ v. map link_of v.items ≡ links_at (key_of key.now) (found (key_of key.now) (members_seen objects.now))) }
 {
     match objects.get(key) {
         Some(object) => links_of(alloc, key, object.object()),
@@ -28,100 +29,103 @@ fn links_under(
     }
 }
 
-/// Adds links, and then puts an object under a key. The error is running out of memory, after which some of the links may be
-/// there.
-fn put_linked(
-    objects: &mut BTreeMap<Key, SharedObject>,
-    links: &mut BTreeSet<Link>,
+/// Puts an object, which is then shared, under a key. The error is running out of memory, and changes nothing.
+fn put_object(
+    objects: &mut SharedMap<Key, SharedObject>,
     key: Key,
     object: &SharedObject,
-    more: &[Link],
 ) -> Result<(), AllocError>
-    ensures members { OnOk result (members_seen objects.new.entries
-        ≡ insert_entry key_cmp (members_seen objects.old.entries) (key_of key) object.now.value) }
-    ensures ok { OnOk result (HasLinks links.new.keys links.old.keys more.now) }
-    ensures only { AddsLinks links.new.keys links.old.keys more.now }
-    ensures err { OnErr result (objects.new.entries ≡ objects.old.entries) }
+    ensures ok { OnOk result (members_seen objects.new
+        ≡ insert_entry key_cmp (members_seen objects.old) (key_of key) object.now.value) }
+    ensures err { OnErr result (objects.new ≡ objects.old) }
 {
-    add_links(links, more)?;
     objects.insert(key, object.try_copy()?)?;
     Ok(())
 }
 
-/// Puts an object under a key. The error is running out of memory, after which the links that were added are removed again.
-pub fn put_under(
+/// Puts an object under a key, for a map that is only made. The error is running out of memory, after which the links may be of
+/// other objects than those that are there.
+pub fn put_made(
     alloc: Global,
-    objects: &mut BTreeMap<Key, SharedObject>,
-    links: &mut BTreeSet<Link>,
+    objects: &mut SharedMap<Key, SharedObject>,
+    links: &mut SharedMap<Link, ()>,
     key: Key,
     object: &SharedObject,
 ) -> Result<(), AllocError>
-    requires indexed { IsIndexOf links.old.keys (members_seen objects.old.entries) }
-    ensures members { OnOk result (members_seen objects.new.entries
-        ≡ insert_entry key_cmp (members_seen objects.old.entries) (key_of key) object.now.value) }
-    ensures indexed { IsIndexOf links.new.keys (members_seen objects.new.entries) }
-    ensures err { OnErr result (objects.new.entries ≡ objects.old.entries) }
+    requires indexed { IsIndexOf (keys_of links.old) (members_seen objects.old) }
+    ensures members { OnOk result (members_seen objects.new
+        ≡ insert_entry key_cmp (members_seen objects.old) (key_of key) object.now.value) }
+    ensures indexed { OnOk result (IsIndexOf (keys_of links.new) (members_seen objects.new)) }
 {
-    let new_links = links_of(alloc, &key, object.object())?;
-    let old_links = links_under(alloc, objects, &key)?;
-    let more = new_links.as_slice();
-    let gone = old_links.as_slice();
-    match put_linked(objects, links, key, object, more) {
-        Ok(()) => {
-            remove_links(links, gone, more);
-            Ok(())
-        }
-        Err(error) => {
-            remove_links(links, more, gone);
-            Err(error)
-        }
+    let more = links_of(alloc, &key, object.object())?;
+    let gone = links_under(alloc, objects, &key)?;
+    relink(links, gone.as_slice(), more)?;
+    put_object(objects, key, object)?;
+    Ok(())
+}
+
+/// Puts an object under a key. Where its owners stay the same, so do the links. The error is running out of memory, and changes
+/// nothing.
+pub fn put_under(
+    alloc: Global,
+    objects: &mut SharedMap<Key, SharedObject>,
+    links: &mut SharedMap<Link, ()>,
+    key: Key,
+    object: &SharedObject,
+) -> Result<(), AllocError>
+    requires indexed { IsIndexOf (keys_of links.old) (members_seen objects.old) }
+    ensures members { OnOk result (members_seen objects.new
+        ≡ insert_entry key_cmp (members_seen objects.old) (key_of key) object.now.value) }
+    ensures indexed { IsIndexOf (keys_of links.new) (members_seen objects.new) }
+    ensures err { OnErr result (objects.new ≡ objects.old) }
+{
+    let more = links_of(alloc, &key, object.object())?;
+    let gone = links_under(alloc, objects, &key)?;
+    if more.as_slice() == gone.as_slice() {
+        put_object(objects, key, object)?;
+        return Ok(());
     }
+    let changed = relinked(links, gone.as_slice(), more)?;
+    put_object(objects, key, object)?;
+    *links = changed;
+    Ok(())
 }
 
 /// Removes the object under a key, if there is one. The error is running out of memory, and changes nothing.
 pub fn remove_under(
     alloc: Global,
-    objects: &mut BTreeMap<Key, SharedObject>,
-    links: &mut BTreeSet<Link>,
+    objects: &mut SharedMap<Key, SharedObject>,
+    links: &mut SharedMap<Link, ()>,
     key: &Key,
 ) -> Result<(), AllocError>
-    requires indexed { IsIndexOf links.old.keys (members_seen objects.old.entries) }
-    ensures members { OnOk result (members_seen objects.new.entries
-        ≡ put_or_remove (members_seen objects.old.entries) (key_of key.now) None) }
-    ensures indexed { IsIndexOf links.new.keys (members_seen objects.new.entries) }
-    ensures err { OnErr result (objects.new.entries ≡ objects.old.entries) }
+    requires indexed { IsIndexOf (keys_of links.old) (members_seen objects.old) }
+    ensures members { OnOk result (members_seen objects.new
+        ≡ put_or_remove (members_seen objects.old) (key_of key.now) None) }
+    ensures indexed { IsIndexOf (keys_of links.new) (members_seen objects.new) }
+    ensures err { OnErr result (objects.new ≡ objects.old) }
 {
     let gone = links_under(alloc, objects, key)?;
-    remove_links(links, gone.as_slice(), &[]);
-    objects.remove(key);
+    if gone.is_empty() {
+        objects.remove(key)?;
+        return Ok(());
+    }
+    let changed = relinked(links, gone.as_slice(), Vec::new(alloc))?;
+    objects.remove(key)?;
+    *links = changed;
     Ok(())
 }
 
 /// Puts the objects of a map into another. The error is running out of memory, after which some may be there.
 pub fn lay_over(
-    made: &mut BTreeMap<Key, SharedObject>,
-    over: &BTreeMap<Key, SharedObject>,
+    alloc: Global,
+    made: &mut SharedMap<Key, SharedObject>,
+    over: &SharedMap<Key, SharedObject>,
 ) -> Result<(), AllocError>
-    ensures { OnOk result (members_seen made.new.entries
-        ≡ overlaid (members_seen made.old.entries) (members_seen over.now.entries)) }
+    ensures { OnOk result (members_seen made.new
+        ≡ overlaid (members_seen made.old) (members_seen over.now)) }
 {
-    for (key, object) in over {
-        made.insert(key.try_copy()?, object.try_copy()?)?;
+    for entry in over.all(alloc)? {
+        made.insert(entry.0.try_copy()?, entry.1.try_copy()?)?;
     }
     Ok(())
-}
-
-/// Returns a copy of a map, which shares its objects. The error is running out of memory.
-pub fn copy_of(
-    alloc: Global,
-    objects: &BTreeMap<Key, SharedObject>,
-) -> Result<BTreeMap<Key, SharedObject>, AllocError>
-    ensures { IfOk result (λ m. members_seen m.entries ≡ members_seen objects.now.entries) }
-{
-    let mut made = BTreeMap::new(alloc);
-    if objects.len() == 0 {
-        return Ok(made);
-    }
-    lay_over(&mut made, objects)?;
-    Ok(made)
 }

@@ -80,8 +80,8 @@ pub fn shifts_between(
 {
     let both = old.with_later(new)?;
     let mut shifts = Vec::new(alloc);
-    for (key, _) in &both {
-        let shift = shift_at(old, new, key)?;
+    for entry in both.all(alloc)? {
+        let shift = shift_at(old, new, &entry.0)?;
         if differ(alloc, &shift.old, &shift.new)? {
             shifts.push(shift)?;
         }

@@ -147,7 +147,8 @@ impl<K: Ord + Drop, V: Drop> SharedMap<K, V> {
     /// Returns the entries from a key to before another, in the order of keys. It costs what it returns, and the way to the first.
     /// The error is running out of memory.
     pub fn between(&self, alloc: Global, first: &K, past: &K) -> Result<Vec<&(K, V)>, AllocError>
-        ensures { IfOk result (λ v. map (λ e. e.now) v.items ≡ entries_between K.cmp (Included first.now) (Excluded past.now) self.now) }
+        ensures span { IfOk result (λ v. map (λ e. e.now) v.items ≡ entries_between K.cmp (Included first.now) (Excluded past.now) self.now) }
+        ensures ordered { IsStrictlySortedBy K.cmp (keys_of self.now) }
     {
         let mut found = Vec::new(alloc);
         if self.chunks.is_empty() {

@@ -8,6 +8,6 @@ use Rattle.indexer.proofs.finding.by_namespace.Goals as goal
 
 pub returns : goal.returns
 returns c =
-    let ms = members_seen c.args.objects.now.entries in
+    let ms = members_seen c.args.objects.now in
     let all : map entry_of c.loop-kind.found.items ≡ of_kinds kinds c.args.namespace.now ms = search (rules, c.loop-kind.invariant) in
-    all ∙ kinds_are_all c.args.namespace.now ms (in_order_seen c.args.objects.now.entries c.len.ensures.ordered)
+    all ∙ kinds_are_all c.args.namespace.now ms (in_order_seen c.args.objects.now c.len.ensures.ordered)

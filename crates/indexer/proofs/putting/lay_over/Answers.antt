@@ -1,17 +1,15 @@
-use Rattle.std.proofs.Common.{rules, ◌≡◌, ◌∷◌, ◌∙◌}
+use denote.Ref.{Bor}
+use Rattle.std.proofs.Common.{rules, ◌≡◌, ◌∷◌, ◌∙◌, map}
+use Rattle.keys.specs.declared.key.Key.{Key}
+use Rattle.reflector.specs.declared.shared_objects.SharedObject.{SharedObject}
 use Rattle.indexer.proofs.Copies.{one-more}
 use Rattle.indexer.proofs.putting.lay_over.Goals as goal
 
-pub loop-key-preserved-in_ok-insert : goal.loop-key-preserved-in_ok-insert
-loop-key-preserved-in_ok-insert c =
-    let goes : c.loop-key.key-iterator ≡ (c.in-Some.key.now, c.in-Some.object.now) ∷ c.next.new.self = search (rules, c.in-Some.ensures.steps) in
-    one-more c.loop-key.made.entries c.insert.new.self.entries c.next.new.self c.loop-key.key-iterator c.in-Some.key.now c.in_ok-try_copy.field-0 c.in-Some.object.now c.in_ok-try_copy-2.field-0
-    c.in_ok-insert.ensures.entries c.in_ok-try_copy.ensures c.in_ok-try_copy-2.ensures goes
-    ∙ c.loop-key.invariant
-
-pub loop-key-preserved : goal.loop-key-preserved
-loop-key-preserved c =
-    let goes : c.loop-key.key-iterator ≡ (c.in-Some.key.now, c.in-Some.object.now) ∷ c.next.new.self = search (rules, c.in-Some.ensures.steps) in
-    one-more c.loop-key.made.entries c.insert.new.self.entries c.next.new.self c.loop-key.key-iterator c.in-Some.key.now c.in_ok-try_copy.field-0 c.in-Some.object.now c.in_ok-try_copy-2.field-0
-    c.in_ok-insert.ensures.entries c.in_ok-try_copy.ensures c.in_ok-try_copy-2.ensures goes
-    ∙ c.loop-key.invariant
+pub loop-entry-preserved : goal.loop-entry-preserved
+loop-entry-preserved c =
+    let lent = map (λ (e : Bor (Key × SharedObject)). e.now) c.loop-entry.entry-iterator.rest.items in
+    let left = map (λ (e : Bor (Key × SharedObject)). e.now) c.next.new.self.rest.items in
+    let goes : lent ≡ (c.in-Some.entry.now.0, c.in-Some.entry.now.1) ∷ left = search rules in
+    one-more c.loop-entry.made c.insert.new.self left lent c.in-Some.entry.now.0 c.in_ok-try_copy.field-0 c.in-Some.entry.now.1 c.in_ok-try_copy-2.field-0
+    c.in_ok-insert.ensures.ok c.in_ok-try_copy.ensures c.in_ok-try_copy-2.ensures goes
+    ∙ c.loop-entry.invariant

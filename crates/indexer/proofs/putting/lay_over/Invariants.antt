@@ -1,8 +1,9 @@
-use Rattle.std.proofs.Common.{◌≡◌}
+use Rattle.std.proofs.Common.{◌≡◌, map}
 use Rattle.controllers.specs.Shifts.{overlaid}
 use Rattle.indexer.specs.Seen.{members_seen}
 use Rattle.indexer.proofs.putting.lay_over.Given as goal
 
 -- with what is still to be laid, it is all
-abbrev pub invariant-loop-key : goal.invariant-loop-key
-invariant-loop-key l = overlaid (members_seen l.made.entries) (members_seen l.key-iterator) ≡ overlaid (members_seen l.initial.made.entries) (members_seen l.initial.key-iterator)
+abbrev pub invariant-loop-entry : goal.invariant-loop-entry
+invariant-loop-entry l =
+    overlaid (members_seen l.made) (members_seen (map (λ e. e.now) l.entry-iterator.rest.items)) ≡ overlaid (members_seen l.initial.made) (members_seen (map (λ e. e.now) l.initial.entry-iterator.rest.items))

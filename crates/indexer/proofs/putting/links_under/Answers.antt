@@ -8,8 +8,8 @@ use Rattle.indexer.proofs.putting.links_under.Goals as goal
 pub returns-in-Some : goal.returns-in-Some
 returns-in-Some c =
     subst (λ (w : Option Data). IfOk c.links_of.result (λ v. map link_of v.items ≡ links_at (key_of c.args.key.now) w))
-    (ap (λ o. Some o.value) c.object.ensures ∙ ap (option_map data_of) c.in-Some.ensures.value ∙ seen-lookup c.args.objects.now.entries c.args.key.now) c.links_of.ensures
+    (ap (λ o. Some o.value) c.object.ensures ∙ ap (option_map data_of) c.in-Some.ensures ∙ seen-lookup c.args.objects.now c.args.key.now) c.links_of.ensures
 
 pub returns-in-None : goal.returns-in-None
 returns-in-None c =
-    ap (map link_of) c.new.ensures.items ∙ ap (links_at (key_of c.args.key.now)) (ap (option_map data_of) c.in-None.ensures.value ∙ seen-lookup c.args.objects.now.entries c.args.key.now)
+    ap (map link_of) c.new.ensures.items ∙ ap (links_at (key_of c.args.key.now)) (ap (option_map data_of) c.in-None.ensures ∙ seen-lookup c.args.objects.now c.args.key.now)

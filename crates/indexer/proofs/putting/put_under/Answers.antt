@@ -1,33 +1,38 @@
-use Rattle.std.proofs.Common.{◌∙◌, ap, sym, subst, Some, map, List}
+use Rattle.std.proofs.Common.{rules, ◌≡◌, ◌∙◌, ap, Some, map, true}
+use Rattle.std.specs.Cmp.Lexicographic.{pointwise}
+use Rattle.std.specs.Map.{keys_of}
 use Rattle.definitions.specs.History.{found}
+use Rattle.definitions.specs.Objects.{Object}
 use Rattle.definitions.proofs.PutLaws.{lookup-insert_entry}
 use Rattle.controllers.proofs.WorkKeyOrder.{name_total}
 use Rattle.keys.specs.Keys.{key_of}
-use Rattle.keys.specs.declared.key.Key.{Key}
-use Rattle.reflector.specs.declared.shared_objects.SharedObject.{SharedObject}
-use Rattle.definitions.specs.Objects.{Object}
-use Rattle.indexer.specs.Links.{link_of, links_at, IsIndexOf}
+use Rattle.indexer.specs.Links.{link_of, links_at}
 use Rattle.indexer.specs.Seen.{members_seen}
+use Rattle.indexer.specs.contracts.links.LinkPartialEq.TheImpl as link_eq
+use Rattle.indexer.proofs.LinkSets.{same_lists}
 use Rattle.indexer.proofs.LinkIndex.{index_changes, index_stays}
 use Rattle.indexer.proofs.putting.put_under.Goals as goal
 
-pub returns-in-Ok-clause-indexed : goal.returns-in-Ok-clause-indexed
-returns-in-Ok-clause-indexed c =
-    let ms = members_seen c.args.objects.now.entries in
+pub returns-then-eq-clause-indexed : goal.returns-then-eq-clause-indexed
+returns-then-eq-clause-indexed c =
+    let ls = keys_of c.args.links.now in
+    let ms = members_seen c.args.objects.now in
+    let n = key_of c.args.key in
     let d = c.args.object.now.value in
-    index_changes c.args.links.now.keys c.put_linked.new.links.keys c.remove_links.new.links.keys c.as_slice-more.result.now c.as_slice-gone.result.now ms (members_seen c.put_linked.new.objects.entries)
-    (key_of c.args.key) (Some d) c.requires.indexed
-    (ap (map link_of) c.as_slice-more.ensures.value ∙ c.in_ok-new_links.ensures ∙ ap (λ (o : Object). links_at (key_of c.args.key) (Some o.value)) c.object.ensures)
-    (ap (map link_of) c.as_slice-gone.ensures.value ∙ c.in_ok-old_links.ensures)
-    c.in-Ok.ensures.ok c.remove_links.ensures
-    (λ q. ap (found (key_of q.key)) c.in-Ok.ensures.members ∙ lookup-insert_entry name_total (key_of q.key) (key_of c.args.key) d ms)
+    let more = c.in_ok-more.more.items in
+    let gone = c.in_ok-gone.gone.items in
+    let same : true ≡ pointwise (link_eq.ghosts).eq more gone = search (rules, c.eq.ensures, c.if-eq) in
+    index_changes ls ls more gone ms (members_seen c.put_object.new.objects) n (Some d) c.requires.indexed
+    (c.in_ok-more.ensures ∙ ap (λ (o : Object). links_at n (Some o.value)) c.object.ensures) c.in_ok-gone.ensures
+    (index_stays ls more gone ms n c.requires.indexed c.in_ok-gone.ensures (same_lists more gone same))
+    (λ q. ap (found (key_of q.key)) c.in_ok-put_object.ensures.ok ∙ lookup-insert_entry name_total (key_of q.key) n d ms)
 
 pub returns-clause-indexed : goal.returns-clause-indexed
 returns-clause-indexed c =
-    let es = c.args.objects.now.entries in
-    subst (λ (es : List (Key × SharedObject)). IsIndexOf c.remove_links-in-Err.new.links.keys (members_seen es)) (sym c.in-Err.ensures.err)
-    (index_stays c.args.links.now.keys c.put_linked.new.links.keys c.remove_links-in-Err.new.links.keys c.as_slice-more.result.now c.as_slice-gone.result.now (members_seen es) (key_of c.args.key)
-    (Some c.args.object.now.value) c.requires.indexed
-    (ap (map link_of) c.as_slice-more.ensures.value ∙ c.in_ok-new_links.ensures ∙ ap (λ (o : Object). links_at (key_of c.args.key) (Some o.value)) c.object.ensures)
-    (ap (map link_of) c.as_slice-gone.ensures.value ∙ c.in_ok-old_links.ensures)
-    c.in-Err.ensures.only c.remove_links-in-Err.ensures)
+    let ms = members_seen c.args.objects.now in
+    let n = key_of c.args.key in
+    let d = c.args.object.now.value in
+    index_changes (keys_of c.args.links.now) (keys_of c.in_ok-changed.changed) c.in_ok-more.more.items c.as_slice-3.result.now ms (members_seen c.put_object-2.new.objects) n (Some d) c.requires.indexed
+    (c.in_ok-more.ensures ∙ ap (λ (o : Object). links_at n (Some o.value)) c.object.ensures) (ap (map link_of) c.as_slice-3.ensures.value ∙ c.in_ok-gone.ensures)
+    c.in_ok-changed.ensures
+    (λ q. ap (found (key_of q.key)) c.in_ok-put_object-2.ensures.ok ∙ lookup-insert_entry name_total (key_of q.key) n d ms)

@@ -7,7 +7,7 @@ use Rattle.indexer.specs.Shifted.{shift_of}
 use Rattle.indexer.proofs.shifts.shifts_between.Given as goal
 
 -- what was found and what is still to be found is all
-abbrev pub invariant-loop-key : goal.invariant-loop-key
-invariant-loop-key l =
-    map shift_of l.shifts.items ++ filter is_change (map (λ (e : Name × Data). shift_at l.old l.new e.0) (members_seen l.key-iterator))
-    ≡ filter is_change (map (λ (e : Name × Data). shift_at l.old l.new e.0) (members_seen l.initial.key-iterator))
+abbrev pub invariant-loop-entry : goal.invariant-loop-entry
+invariant-loop-entry l =
+    map shift_of l.shifts.items ++ filter is_change (map (λ (e : Name × Data). shift_at l.old l.new e.0) (members_seen (map (λ e. e.now) l.entry-iterator.rest.items)))
+    ≡ filter is_change (map (λ (e : Name × Data). shift_at l.old l.new e.0) (members_seen (map (λ e. e.now) l.initial.entry-iterator.rest.items)))

@@ -6,5 +6,5 @@ use Rattle.indexer.proofs.objects.ObjectMap.get.Goals as goal
 
 pub returns : goal.returns
 returns c =
-    option_map-copied c.get.result ∙ ap (option_map data_of) c.get.ensures.value ∙ seen-lookup c.self.inside.objects.entries c.args.key.now
+    option_map-copied c.get.result ∙ ap (option_map data_of) c.get.ensures ∙ seen-lookup c.self.inside.objects c.args.key.now
     ∙ ap (λ (ms : Entries). found (key_of c.args.key.now) ms) c.self.view_is

@@ -1,7 +1,10 @@
 use Rattle.std.proofs.Common.{◌≡◌, [], drop}
+use Rattle.std.specs.Map.{keys_of}
 use Rattle.controllers.specs.Reflectors.{put_all}
+use Rattle.indexer.specs.Links.{IsIndexOf}
+use Rattle.indexer.specs.Seen.{members_seen}
 use Rattle.indexer.proofs.objects.ObjectMap.of.Given as goal
 
--- with what is still to be put, it is all
+-- the links are those of the objects, which with what is still to be put are all
 abbrev pub invariant-loop-object : goal.invariant-loop-object
-invariant-loop-object l = put_all l.made (drop l.object-index l.objects) ≡ put_all [] l.objects
+invariant-loop-object l = IsIndexOf (keys_of l.links) (members_seen l.objects) × (put_all (members_seen l.objects) (drop l.object-index l.listed) ≡ put_all [] l.listed)

@@ -13,8 +13,8 @@ append_chunks_between-requires g c =
     let back : c.split_at.result.1.now ≡ drop i cs = c.split_at.ensures.back ∙ ap (drop i) c.as_slice-2.ensures.value in
     subst (λ l. InOrder g.met.K.Ord.total (joined l)) (sym (ap parts back ∙ sym (drop-map chunk_entries i cs))) (sorted_drop g.met.K.Ord.total c.args.past.now (parts cs) i c.self.invariant.0)
 
-pub returns : goal.returns
-returns g c =
+pub returns-clause-span : goal.returns-clause-span
+returns-clause-span g c =
     let R = g.K.Ord.cmp in
     let o = g.met.K.Ord.total in
     let f = c.args.first.now in
