@@ -19,7 +19,7 @@ use Rattle.simulation_laws.proofs.Serving.{same_answers}
 use Rattle.cluster.specs.RecordedStates as recorded
 use Rattle.cluster.specs.RecordedStates.{RecordedState, journal_after}
 use Rattle.cluster.specs.Standing.{Stands}
-use Rattle.cluster.specs.ClusterStates.{ClusterState, follower, with_follower}
+use Rattle.cluster.specs.ClusterStates.{ClusterState, follower, with_follower, step}
 use Rattle.cluster.proofs.Stood.{same_follower, stood, stands_opened}
 
 abbrev pub cluster_of : RecordedState → Follower → Follower → Follower → Follower → ClusterState
@@ -33,15 +33,18 @@ standing_opened size r a b d e first f g h k = subst Stands (λ i. cluster_of (s
 
 pub standing_restarted : (w : ClusterState) (a b d e : Follower) → a ≡ begun ConfigMap → b ≡ begun Pod → d ≡ begun ReplicaSet → e ≡ begun Deployment → Stands w
     → Stands (cluster_of (record { session = w.session; journal = w.journal }) a b d e)
+unfolding step
 standing_restarted w a b d e f g h k is =
     subst Stands (λ i. cluster_of (record { session = w.session; journal = w.journal }) (sym f i) (sym g i) (sym h i) (sym k i)) (stood w restart is)
 
 pub standing_answered : (w : ClusterState) (t : List ℕ) (s : SessionState) (j : History) → s ≡ state_after w.session (line_of t) → j ≡ journal_after w.session w.journal (line_of t) → Stands w
     → Stands (record w { session = s; journal = j })
+unfolding step
 standing_answered w t s j after added is = subst Stands (λ i. record w { session = sym after i; journal = sym added i }) (stood w (request t) is)
 
 pub standing_compacted : (w : ClusterState) (r : ℕ) (s : SessionState) (j : History) → s ≡ state_after w.session (lines.compact r) → j ≡ w.journal → Stands w
     → Stands (record w { session = s; journal = j })
+unfolding step
 standing_compacted w r s j after same is = subst Stands (λ i. record w { session = sym after i; journal = sym same i }) (stood w (compact r) is)
 
 -- ---- one follower
@@ -79,6 +82,7 @@ unchanged w Deployment is = is
 -- the follower after a move that may have been refused
 pub kept_standing : {X E : Type 0} (w : ClusterState) (k : Kind) (s : Server) (m : Move) (r : Result X E) (f : Follower) → s ≡ w.session.server → Stands w
     → (let g = follower k w in OnOk r (f ≡ (move_by g.reflector.kind (answers_by g.reflector.kind s) g m).follower)) → OnErr r (f ≡ follower k w) → Stands (with_follower k f w)
+unfolding step
 kept_standing w k s m (Ok x) f same is moved stays =
     subst (λ g. Stands (with_follower k g w)) (sym (moved ∙ ap (λ (m : moving.Moved). m.follower) (moved_at w k s m same is))) (stood w (moves k m) is)
 kept_standing w k s m (Err e) f same is moved stays = subst (λ g. Stands (with_follower k g w)) (sym stays) (unchanged w k is)

@@ -14,11 +14,11 @@ use Rattle.laws.specs.LifecycleLaws.{ReplacesVersion}
 use Rattle.line_protocol.specs.Lines.{line_of}
 use Rattle.server_state.specs.Snapshots.{Snapshot}
 use Rattle.session.proofs.Followed.{same_outcome}
-use Rattle.session.specs.SessionStates.{reply_for, of_write, written_by, effect_on}
+use Rattle.session.specs.SessionStates.{accepted, reply_for, of_write, written_by, effect_on}
 use Rattle.simulation.specs.Clusters as clusters
 use Rattle.simulation.specs.Clusters.{Cluster, ClusterStep, request, compact, moves, restart}
 use Rattle.simulation.specs.Followers.{Follower}
-use Rattle.simulation_laws.proofs.Requests.{named_replaced}
+use Rattle.simulation_laws.proofs.Requests.{replaces}
 use Rattle.simulation_laws.proofs.Runs.{rise_one}
 use Rattle.simulation_laws.specs.ClusterLaws.{NoRestart, Asks, NamesVersion, update, status, patch, delete}
 use Rattle.steps.specs.Steps.{step_of}
@@ -28,6 +28,7 @@ use Rattle.cluster.specs.Headline.{ShowsLists, RevisionsRise, ReplacesNamedVersi
 use Rattle.cluster.specs.RecordedStates.{write_in, journal_after}
 use Rattle.cluster.specs.Standing.{StandsFor, Stands}
 use Rattle.cluster.specs.ClusterStates.{ClusterState, published, step, run}
+use Rattle.cluster.proofs.Taking.{run_last}
 use Rattle.cluster.proofs.Stood.{same_follower, steps_follow, stood, run_stood}
 
 -- ---- lists
@@ -112,30 +113,33 @@ in_of : (e : Option history.Write) → write_in (of_write e) ≡ e
 in_of None = refl
 in_of (Some w) = refl
 
-asked_effect : (w : ClusterState) (c : Cluster) (t : List ℕ) (q : Request) → StandsFor w c → Asks t q
-    → write_in (effect_on w.session (line_of t)) ≡ write_of (accept q (clusters.history c) c.session.moment)
-asked_effect w c t q is a =
-    ap (λ l. write_in (effect_on w.session l)) a.3
-    ∙ ap (λ r. write_in (of_write (written_by (reply_for w.session r)))) a.4
-    ∙ ap (λ o. write_in (of_write (write_of o))) (same_outcome w.session c.session is.session q)
-    ∙ in_of (write_of (accept q (clusters.history c) c.session.moment))
+asked_effect : (w : ClusterState) (t : List ℕ) (q : Request) → Asks t q → write_in (effect_on w.session (line_of t)) ≡ write_of (accepted w.session q)
+asked_effect w t q a =
+    ap (λ l. write_in (effect_on w.session l)) a.3 ∙ ap (λ r. write_in (of_write (written_by (reply_for w.session r)))) a.4 ∙ in_of (write_of (accepted w.session q))
 
-abbrev Replaced : History → Key → List ℕ → history.Write → Type 0
+abbrev pub Replaced : History → Key → List ℕ → history.Write → Type 0
 Replaced h k named w = (existing : Data) × (w.key ≡ k) × (state h (present h) k ≡ Some existing) × (version existing ≡ Some named)
 
-replaced : (w : ClusterState) (t : List ℕ) (q : Request) (k : Key) (named : List ℕ) (x : history.Write) → Stands w → Asks t q → NamesVersion w.journal k named q
-    → journal_after w.session w.journal (line_of t) ≡ w.journal ++ write x ∷ [] → Replaced w.journal k named x
+-- a request that names a version
+pub request_replaced : (w : ClusterState) (q : Request) (k : Key) (named : List ℕ) (x : history.Write) → Stands w → NamesVersion w.journal k named q
+    → with_write w.journal (write_of (accepted w.session q)) ≡ w.journal ++ write x ∷ [] → Replaced w.journal k named x
 unfolding Stands
-replaced w t q k named x (c, is, followed) a names adds =
+request_replaced w q k named x (c, is, followed) names adds =
     let h = clusters.history c in
     let o = accept q h c.session.moment in
-    let wrote : write_of o ≡ Some x = written_is w.journal (write_of o) x (sym (ap (with_write w.journal) (asked_effect w c t q is a)) ∙ adds) in
-    let by_law : ReplacesVersion k named h o = (named_replaced c t q k named a (names_by w.journal h k named q is.journal names)).2 in
+    let wrote : write_of o ≡ Some x = written_is w.journal (write_of o) x (ap (λ a. with_write w.journal (write_of a)) (sym (same_outcome w.session c.session is.session q)) ∙ adds) in
+    let by_law : ReplacesVersion k named h o = replaces h k named q c.session.moment (names_by w.journal h k named q is.journal names) in
     let there : Replaced h k named x = subst (λ e. IfSome e (Replaced h k named)) wrote by_law in
     (there.0, there.1, state_by h w.journal k there.0 (sym is.journal) there.2, there.3)
 
+-- a line that asks one
+pub replaced : (w : ClusterState) (t : List ℕ) (q : Request) (k : Key) (named : List ℕ) (x : history.Write) → Stands w → Asks t q → NamesVersion w.journal k named q
+    → journal_after w.session w.journal (line_of t) ≡ w.journal ++ write x ∷ [] → Replaced w.journal k named x
+replaced w t q k named x is a names adds = request_replaced w q k named x is names (sym (ap (with_write w.journal) (asked_effect w t q a)) ∙ adds)
+
 pub replaced_after : {X E : Type 0} (w v : ClusterState) (s : ClusterStep) (r : Result X E) → Stands w → OnOk r (v ≡ (step w s).cluster) → OnErr r (v ≡ w)
     → ReplacesNamedVersion s w.journal v.journal
+unfolding step
 replaced_after w v s (Ok y) is moved stays =
     record {
       replaces = λ t q k named x at a names adds. replaced w t q k named x is a names (sym (ap (λ (u : ClusterState). u.journal) moved ∙ ap (λ s. (step w s).cluster.journal) at) ∙ adds);
@@ -164,14 +168,10 @@ risen_run w v ss (Ok x) is ran stopped =
 risen_run w v ss (Err e) is ran stopped =
     risen_to w v (map step_of ss) e.taken is (stopped.1 ∙ ap (run w) (sym (take-map step_of e.taken ss)))
 
-run-last : (w : ClusterState) (ss : List ClusterStep) (s : ClusterStep) → run w (ss ++ s ∷ []) ≡ (step (run w ss) s).cluster
-run-last w [] s = refl
-run-last w (t ∷ ss) s = run-last (step w t).cluster ss s
-
 pub replaced_run : (w : ClusterState) (ss : List ClusterStep) → Stands w → ReplacesNamedVersions ss w
 replaced_run w ss is =
     record {
       replaces = λ taken rest s at.
           let v = run w taken in
-          subst (λ (u : ClusterState). ReplacesNamedVersion s v.journal u.journal) (sym (run-last w taken s)) (replaced_after {E = Unit {0}} v (step v s).cluster s (Ok (step v s)) (run_stood w taken is) refl tt);
+          subst (λ (u : ClusterState). ReplacesNamedVersion s v.journal u.journal) (sym (run_last (λ w s. (step w s).cluster) run (λ _. refl) (λ _ _ _. refl) w taken s)) (replaced_after {E = Unit {0}} v (step v s).cluster s (Ok (step v s)) (run_stood w taken is) refl tt);
     }

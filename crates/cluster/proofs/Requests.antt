@@ -28,11 +28,10 @@ use Rattle.cluster.specs.ClusterStates.{ClusterState}
 
 -- ---- the cluster after a request
 
-after : Request → Cluster → Cluster
+abbrev pub after : Request → Cluster → Cluster
 after q c = record c { session = record c.session { history = history_after (history c) (accept q (history c) c.session.moment) } }
 
 follows : (q : Request) (c : Cluster) → CanBeRead q → IsFollowed c → IsFollowed (after q c)
-unfolding after
 follows q c read is =
     let s = record c.session { history = history_after (history c) (accept q (history c) c.session.moment) } in
     let more = begins-write (history c) (history c) (write_of (accept q (history c) c.session.moment)) ([], nothing (history c)) in
@@ -49,8 +48,7 @@ same_writes : (j h : History) (o : Option Write) → writes j ≡ writes h → w
 same_writes j h None same = same
 same_writes j h (Some w) same = writes-append j (write w ∷ []) ∙ ap (λ ws. ws ++ w ∷ []) same ∙ sym (writes-append h (write w ∷ []))
 
-stands_after : (w : ClusterState) (c : Cluster) (q : Request) (o : Option Write) → write_of (accepted w.session q) ≡ o → StandsFor w c → StandsFor (written o w) (after q c)
-unfolding after
+pub stands_after : (w : ClusterState) (c : Cluster) (q : Request) (o : Option Write) → write_of (accepted w.session q) ≡ o → StandsFor w c → StandsFor (written o w) (after q c)
 stands_after w c q o writes_this is =
     let same : accepted w.session q ≡ accept q (history c) c.session.moment = same_outcome w.session c.session is.session q in
     let this : o ≡ write_of (accept q (history c) c.session.moment) = sym writes_this ∙ ap write_of same in

@@ -4,12 +4,12 @@ use Rattle.definitions.specs.declared.kinds.Kind.{Kind}
 use Rattle.definitions.specs.declared.kinds.Kind.TheVariants.{ConfigMap, Pod, ReplicaSet, Deployment}
 use Rattle.line_protocol.specs.Lines as lines
 use Rattle.line_protocol.specs.Lines.{Line, line_of}
-use Rattle.session.proofs.Followed.{follows_line, sessions_follow}
+use Rattle.session.proofs.Followed.{follows_line, same_line, sessions_follow}
 use Rattle.simulation.specs.Clusters as clusters
 use Rattle.simulation.specs.Clusters.{Cluster, ClusterStep, request, compact, moves, restart}
 use Rattle.simulation.specs.Followers.{Follower}
 use Rattle.simulation.specs.Moves as moving
-use Rattle.simulation.specs.Moves.{Move, answers_by, move_by}
+use Rattle.simulation.specs.Moves.{Move, replied, answers_by, move_by}
 use Rattle.simulation_laws.proofs.Runs.{keeps, runs_followed}
 use Rattle.simulation_laws.proofs.Serving.{servers_serve}
 use Rattle.cluster.specs.Standing.{StandsFor, Stands}
@@ -52,6 +52,7 @@ after_line w c l is =
     }
 
 after_compaction : (w : ClusterState) (c : Cluster) (r : ℕ) → StandsFor w c → StandsFor (step w (compact r)).cluster (clusters.step c (compact r)).cluster
+unfolding step
 after_compaction w c r is =
     record {
       session = follows_line w.session c.session is.session (lines.compact r);
@@ -63,11 +64,20 @@ after_compaction w c r is =
     }
 
 pub steps_follow : (w : ClusterState) (c : Cluster) (s : ClusterStep) → StandsFor w c → StandsFor (step w s).cluster (clusters.step c s).cluster
+unfolding step
 steps_follow w c (request t) is = after_line w c (line_of t) is
 steps_follow w c (compact r) is = after_compaction w c r is
 steps_follow w c (moves k m) is = with_same w c k _ _ is (ap (λ (m : moving.Moved). m.follower) (same_move w c k m is))
 steps_follow w c restart is =
     record { session = is.session; journal = is.journal; config_maps = refl; pods = refl; replica_sets = refl; deployments = refl }
+
+-- and the same is told of both
+pub outcomes_same : (w : ClusterState) (c : Cluster) (s : ClusterStep) → StandsFor w c → (step w s).outcome ≡ (clusters.step c s).outcome
+unfolding step
+outcomes_same w c (request t) is = ap replied (same_line w.session c.session is.session (line_of t))
+outcomes_same w c (compact r) is = ap replied (same_line w.session c.session is.session (lines.compact r))
+outcomes_same w c (moves k m) is = ap (λ (m : moving.Moved). m.outcome) (same_move w c k m is)
+outcomes_same w c restart is = refl
 
 -- ---- what it stands for stays so
 
@@ -79,13 +89,12 @@ pub run_stood : (w : ClusterState) (ss : List ClusterStep) → Stands w → Stan
 run_stood w [] is = is
 run_stood w (s ∷ ss) is = run_stood (step w s).cluster ss (stood w s is)
 
+pub stands_for_opened : (size : ℕ) → StandsFor (opened size) (clusters.opened size)
+stands_for_opened size = record { session = sessions_follow.0 size; journal = refl; config_maps = refl; pods = refl; replica_sets = refl; deployments = refl }
+
 pub stands_opened : (size : ℕ) → Stands (opened size)
 unfolding Stands
-stands_opened size = (
-  clusters.opened size,
-  record { session = sessions_follow.0 size; journal = refl; config_maps = refl; pods = refl; replica_sets = refl; deployments = refl },
-  runs_followed size [],
-)
+stands_opened size = (clusters.opened size, stands_for_opened size, runs_followed size [])
 
 -- a step that was taken, or changed nothing
 pub stood_after : {X E : Type 0} (w v : ClusterState) (s : ClusterStep) (r : Result X E) → Stands w → OnOk r (v ≡ (step w s).cluster) → OnErr r (v ≡ w) → Stands v

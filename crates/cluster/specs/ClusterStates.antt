@@ -85,7 +85,7 @@ answered_line w l =
 abbrev pub compacted_to : ClusterState → ℕ → Stepped
 compacted_to w r = record { cluster = record w { session = state_after w.session (lines.compact r) }; outcome = replied (reply_to w.session (lines.compact r)) }
 
-abbrev pub step : ClusterState → ClusterStep → Stepped
+unfoldable pub step : ClusterState → ClusterStep → Stepped
 step w (request t) = answered_line w (line_of t)
 step w (compact r) = compacted_to w r
 step w (moves k m) = moved_in k w (move_by k (answers_by k w.session.server) (follower k w) m)

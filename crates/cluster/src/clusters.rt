@@ -142,6 +142,7 @@ impl Cluster {
     }
 
     /// Takes a step, and returns what is told of it. The error is running out of memory, and changes nothing.
+    #[tactic(auto, unfolding(crate::specs::ClusterStates::step))]
     fn take(&mut self, alloc: Global, wanted: Step<'_>) -> Result<Outcome, AllocError>
         ensures after { OnOk result (self.new ≡ (step self.old (step_of wanted.entry)).cluster) }
         ensures outcome { IfOk result (λ o. outcome_of o ≡ (step self.old (step_of wanted.entry)).outcome) }

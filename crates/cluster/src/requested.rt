@@ -36,7 +36,7 @@ impl Cluster {
     }
 
     /// Returns the reply to a request of one object with what it writes, or why it is refused. Nothing is written yet: whoever has to make
-    /// something of the reply first takes the write with `take`. It asks for a body as it can be read of bytes; then the reply's text is
+    /// something of the reply first takes the write with `take_write`. It asks for a body as it can be read of bytes; then the reply's text is
     /// read as the answer.
     pub fn answer_request(
         &self,

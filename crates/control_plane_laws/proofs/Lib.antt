@@ -1,5 +1,5 @@
-mod Asking
-mod PlaneRuns
+pub mod Asking
+pub mod PlaneRuns
 mod Replacing
-mod Rising
+pub mod Rising
 mod StoredLists

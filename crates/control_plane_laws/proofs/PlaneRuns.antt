@@ -108,12 +108,12 @@ run_begins : (p : ControlPlane) (ss : List Step) → Begins (history p.cluster) 
 run_begins p [] = ([], nothing (history p.cluster))
 run_begins p (s ∷ ss) = onward (history p.cluster) (history (step p s).plane.cluster) (history (run (step p s).plane ss).cluster) (step_begins p s) (run_begins (step p s).plane ss)
 
-run_append : (p : ControlPlane) (ss ts : List Step) → run p (ss ++ ts) ≡ run (run p ss) ts
+pub run_append : (p : ControlPlane) (ss ts : List Step) → run p (ss ++ ts) ≡ run (run p ss) ts
 run_append p [] ts = refl
 run_append p (s ∷ ss) ts = run_append (step p s).plane ss ts
 
 module _ (window workers : ℕ) (steps : List Step) where
-  look_listed : (k : Kind) (s : Snapshot) → WasPublished (opened window workers) steps k s → IsServerList (history (run (opened window workers) steps).cluster) k s
+  pub look_listed : (k : Kind) (s : Snapshot) → WasPublished (opened window workers) steps k s → IsServerList (history (run (opened window workers) steps).cluster) k s
   look_listed k s x =
       let v = opened window workers in
       let q = run v x.0 in

@@ -5,4 +5,4 @@
 mod sets;
 pub mod showing;
 
-pub use showing::observations;
+pub use showing::{object_in, observations};

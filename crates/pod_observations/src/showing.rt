@@ -197,8 +197,8 @@ pub fn observations(alloc: Global, shift: &Shift) -> Result<Vec<Observation>, Al
     }
 }
 
-/// Returns the object that is shared, if there is one.
-fn object_in(shared: &Option<SharedObject>) -> Option<&Object>
+/// Returns the object that is shared, if there is one. It takes no memory.
+pub fn object_in(shared: &Option<SharedObject>) -> Option<&Object>
     ensures { data_of result ≡ option_map (λ o. o.value) shared.now }
 {
     match shared {

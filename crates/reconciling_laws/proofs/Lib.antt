@@ -4,7 +4,7 @@ pub mod Counting
 mod Dirty
 pub mod Following
 pub mod Growing
-mod HandRuns
+pub mod HandRuns
 mod InHands
 pub mod IssuedRuns
 pub mod Lists
