@@ -1,0 +1,5 @@
+pub mod InSlots
+pub mod Served
+pub mod Asking
+pub mod Issues
+pub mod Counts

@@ -1,0 +1,16 @@
+-- Codes by which models may store turns in slots, and a manager.
+use Rattle.std.specs.Prelude.{List, refl}
+use Rattle.std.specs.Coded.{Coded, code_by, coded×, coded_list, coded_option}
+use Rattle.control.specs.Boards.{Board}
+use Rattle.control_desk.specs.Seen.{board_code}
+use Rattle.reconciling.specs.Codes.{coded_turn, coded_issued}
+use Rattle.reconciling.specs.Managers.{Issued, Manager}
+use Rattle.managers.specs.Slots.{Slots}
+
+abbrev pub coded_slots : Coded Slots
+coded_slots = coded_list (coded_option coded_turn)
+
+abbrev pub coded_manager : Coded Manager
+coded_manager =
+    code_by (Board × (Slots × List Issued)) (coded× board_code (coded× coded_slots (coded_list coded_issued))) (λ m. (m.board, (m.turns, m.issued)))
+    (λ p. record { board = p.0; turns = p.1.0; issued = p.1.1 }) (λ _. refl)

@@ -1,0 +1,6 @@
+pub mod Slots
+pub mod Seen
+pub mod Reached
+pub mod Codes
+pub mod Told
+pub mod Issuing

@@ -1,0 +1,245 @@
+//! Commands that workers issue.
+ghost use Rattle.std.specs.Prelude.{◌≡◌, IfOk, OnOk, OnErr, IfSome, Some, true, is_some, option_map, string_bytes};
+ghost use Rattle.std.specs.Arc.{arc_value};
+ghost use Rattle.answer_laws.specs.AnswerLaws.{IsOfObject};
+ghost use Rattle.cluster.specs.Requested.{IsWriteOf, written};
+ghost use Rattle.definitions.specs.Reached.{CanBeRead};
+ghost use Rattle.definitions.specs.Verbs as verbs;
+ghost use Rattle.managers.specs.Issuing.{coming, coming_of};
+ghost use Rattle.managers.specs.Reached.{asked_by, write_reaching};
+ghost use Rattle.managers.specs.Seen.{issued_of};
+ghost use Rattle.meta.specs.Writes.{write_of};
+ghost use Rattle.reconciling.specs.Managers as managers;
+ghost use Rattle.reconciling.specs.Managers.{learnt, reaching};
+ghost use Rattle.reconciling.specs.NextSteps.{next};
+ghost use Rattle.reconciling.specs.Turns as turns;
+ghost use Rattle.requests.specs.Requests.{request_of};
+ghost use Rattle.session.specs.SessionStates.{accepted};
+ghost use Rattle.steps.specs.Actions.{delivery_of};
+ghost use Rattle.turns.specs.Commands.{command_of};
+ghost use Rattle.workers.specs.Seen.{answer_of, answered_to, command_issued, data_of};
+
+use crate::issued::Issued;
+use crate::manager::Manager;
+use crate::{copies, lines};
+use cluster::Cluster;
+use keys::Fault;
+use meta::Write;
+use reply::Reply;
+use requests::Request;
+use std::alloc::{AllocError, Global};
+use std::sync::Arc;
+use steps::Delivery;
+use turns::Command;
+use workers::{Answer, NextStep, Turn};
+
+/// What a worker learns of its command, and what the server is to write.
+#[derive(Drop)]
+struct Answered {
+    answer: Answer,
+    write: Option<Write>,
+}
+
+/// Returns what a worker learns where its command is accepted with a reply. It takes no memory.
+fn acceptance(reply: Reply) -> Answer
+    ensures { answer_of result ≡ turns.accepted reply.code (data_of (string_bytes reply.text)) }
+{
+    Answer::Accepted {
+        code: reply.code,
+        text: reply.text,
+    }
+}
+
+/// Returns what the server answers to a request. The error is running out of memory.
+#[tactic(auto, using(crate::proofs::Served::acceptance_of, crate::proofs::Served::write_served))]
+fn ask(alloc: Global, cluster: &Cluster, request: Request) -> Result<Answered, AllocError>
+    requires readable { CanBeRead (request_of request) }
+    requires object { IsOfObject (request_of request) }
+    ensures answer { IfOk result (λ a. answer_of a.answer ≡ managers.answer_of (accepted cluster.now.session (request_of request))) }
+    ensures write { IfOk result (λ a. option_map write_of a.write ≡ verbs.write_of (accepted cluster.now.session (request_of request))) }
+{
+    match cluster.answer_request(alloc, request) {
+        Ok((reply, write)) => Ok(Answered {
+            answer: acceptance(reply),
+            write,
+        }),
+        Err(Fault::NoMemory) => Err(AllocError),
+        Err(fault) => Ok(Answered {
+            answer: Answer::Refused {
+                code: reply::code(&fault),
+            },
+            write: None,
+        }),
+    }
+}
+
+/// Returns what comes of a request that is delivered, or whose answer is lost, or that is dropped. The error is running out of memory.
+fn deliver(
+    alloc: Global,
+    cluster: &Cluster,
+    request: Request,
+    delivery: Delivery,
+) -> Result<Answered, AllocError>
+    requires readable { IfSome (reaching (delivery_of delivery) (request_of request)) CanBeRead }
+    requires object { IsOfObject (request_of request) }
+    ensures answer { IfOk result (λ a. answer_of a.answer ≡ learnt (delivery_of delivery) (accepted cluster.now.session (request_of request))) }
+    ensures write { IfOk result (λ a. option_map write_of a.write ≡ write_reaching cluster.now.session (reaching (delivery_of delivery) (request_of request))) }
+{
+    match delivery {
+        Delivery::Delivered => ask(alloc, cluster, request),
+        Delivery::AnswerLost => {
+            let answered = ask(alloc, cluster, request)?;
+            Ok(Answered {
+                answer: Answer::Lost,
+                write: answered.write,
+            })
+        }
+        Delivery::Dropped => Ok(Answered {
+            answer: Answer::Lost,
+            write: None,
+        }),
+    }
+}
+
+/// Makes a write, if there is one. The error is running out of memory, and then nothing has changed.
+fn write(cluster: &mut Cluster, write: Option<Write>) -> Result<(), AllocError>
+    requires { IfSome (option_map write_of write) (λ v. IsWriteOf cluster.old.session (Some v)) }
+    ensures ok { OnOk result (cluster.new ≡ written (option_map write_of write) cluster.old) }
+    ensures err { OnErr result (cluster.new ≡ cluster.old) }
+{
+    match write {
+        Some(write) => cluster.take_write(Some(write)),
+        None => Ok(()),
+    }
+}
+
+/// What comes of a command that is issued: the line that tells of it, the turn after it, what is recorded of it, and what the server is to
+/// write.
+#[derive(Drop)]
+pub(crate) struct Issuing {
+    pub(crate) line: Vec<u8>,
+    pub(crate) turn: Turn,
+    pub(crate) issued: Arc<Issued, Global>,
+    pub(crate) write: Option<Write>,
+}
+
+/// Returns what is recorded of a command that was issued. The error is running out of memory.
+fn recorded(
+    alloc: Global,
+    turn: &Turn,
+    command: &Command,
+    answer: &Answer,
+) -> Result<Arc<Issued, Global>, AllocError>
+    ensures { IfOk result (λ i. issued_of (arc_value i) ≡ record { turn = turn.now; command = command_of command.now; answer = answer_of answer.now }) }
+{
+    let issued = Issued {
+        turn: turn.try_copy()?,
+        command: copies::command(command)?,
+        answer: copies::answer(answer)?,
+    };
+    Ok(Arc::new(alloc, issued)?)
+}
+
+/// Returns a turn once its next command was answered. The error is running out of memory.
+fn answered_turn(turn: &Turn, answer: Answer) -> Result<Turn, AllocError>
+    requires { is_some (command_issued (next turn.now)) ≡ true }
+    ensures { IfOk result (λ t. t ≡ answered_to (command_issued (next turn.now)) (answer_of answer) turn.now) }
+{
+    let mut turn = turn.try_copy()?;
+    turn.answer(answer)?;
+    Ok(turn)
+}
+
+/// Returns what comes of the command that a turn issues next, if it issues one. Nothing has changed yet. The error is running out of memory.
+fn next_issue(
+    alloc: Global,
+    cluster: &Cluster,
+    worker: u64,
+    turn: &Turn,
+    delivery: Delivery,
+) -> Result<Option<Issuing>, AllocError>
+    requires readable { IfSome (asked_by (delivery_of delivery) turn.now) CanBeRead }
+    ensures { IfOk result (λ o. option_map coming_of o ≡ option_map (coming cluster.now.session worker turn.now (delivery_of delivery)) (command_issued (next turn.now))) }
+{
+    let NextStep::Issue(command) = turn.next() else {
+        return Ok(None);
+    };
+    let Some(request) = turn.request(alloc)? else {
+        return Ok(None);
+    };
+    let answered = deliver(alloc, cluster, request, delivery)?;
+    let line = lines::issued(alloc, worker, command, &answered.answer)?;
+    let issued = recorded(alloc, turn, command, &answered.answer)?;
+    Ok(Some(Issuing {
+        line,
+        turn: answered_turn(turn, answered.answer)?,
+        issued,
+        write: answered.write,
+    }))
+}
+
+impl Manager {
+    ghost use Rattle.std.specs.Prelude.{◌≡◌, ◌<◌, ◌++◌, ◌∷◌, [], IfOk, IfSome, OnOk, OnErr, Some, length, option_map, slice_set};
+    ghost use Rattle.std.specs.Arc.{arc_value};
+    ghost use Rattle.cluster.specs.Requested.{IsWriteOf, written};
+    ghost use Rattle.meta.specs.Writes.{write_of};
+    ghost use Rattle.managers.specs.Seen.{issued_of};
+    ghost use Rattle.reconciling.specs.Managers as managers;
+    ghost use Rattle.reconciling.specs.Managers.{act};
+    ghost use Rattle.reconciling.specs.OutcomeTexts.{outcome_text};
+    ghost use Rattle.steps.specs.Actions.{delivery_of};
+    ghost use Rattle.managers.specs.Reached.{client_of, after_request, CanBeAsked};
+
+    /// Makes what comes of a command of a worker's. The error is running out of memory, and then nothing has changed, at the server neither.
+    fn make(
+        &mut self,
+        cluster: &mut Cluster,
+        worker: u64,
+        issuing: Issuing,
+    ) -> Result<Vec<u8>, AllocError>
+        requires write { IfSome (option_map write_of issuing.write) (λ v. IsWriteOf cluster.old.session (Some v)) }
+        requires worker { worker < length self.old.turns }
+        ensures ok { OnOk result (self.new ≡ record self.old {
+          turns = slice_set self.old.turns worker (Some issuing.turn);
+          issued = self.old.issued ++ issued_of (arc_value issuing.issued) ∷ [];
+        }) }
+        ensures line { IfOk result (λ l. l.items ≡ issuing.line.items) }
+        ensures cluster { OnOk result (cluster.new ≡ written (option_map write_of issuing.write) cluster.old) }
+        ensures err { OnErr result (self.new ≡ self.old) }
+        ensures untouched { OnErr result (cluster.new ≡ cluster.old) }
+    {
+        self.issued.push(issuing.issued)?;
+        if write(cluster, issuing.write).is_err() {
+            self.issued.pop();
+            return Err(AllocError);
+        }
+        self.turns.set(worker, Some(issuing.turn));
+        Ok(issuing.line)
+    }
+
+    /// Has a worker issue the next command of its plan, where that comes next in its turn; it is delivered, or its answer is lost, or it is
+    /// dropped. Returns the line that tells of it. The error is running out of memory, and then nothing has changed, at the server neither.
+    pub fn issue(
+        &mut self,
+        alloc: Global,
+        cluster: &mut Cluster,
+        worker: u64,
+        delivery: Delivery,
+    ) -> Result<Vec<u8>, AllocError>
+        requires asked { CanBeAsked cluster.old worker (managers.issue (delivery_of delivery)) self.old }
+        ensures ok { OnOk result (self.new ≡ (act (client_of cluster.old) worker (managers.issue (delivery_of delivery)) self.old).manager) }
+        ensures told { IfOk result (λ l. l.items ≡ outcome_text (act (client_of cluster.old) worker (managers.issue (delivery_of delivery)) self.old).outcome) }
+        ensures cluster { OnOk result (cluster.new
+            ≡ after_request (act (client_of cluster.old) worker (managers.issue (delivery_of delivery)) self.old).request cluster.old) }
+        ensures err { OnErr result (self.new ≡ self.old) }
+        ensures untouched { OnErr result (cluster.new ≡ cluster.old) }
+    {
+        let Some(turn) = self.turns.get(worker) else {
+            return lines::no_step(alloc);
+        };
+        let Some(issuing) = next_issue(alloc, cluster, worker, turn, delivery)? else {
+            return lines::no_step(alloc);
+        };
+        self.make(cluster, worker, issuing)
+    }
+}

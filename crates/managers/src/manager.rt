@@ -1,0 +1,100 @@
+//! The controller manager.
+use crate::issued::Issued;
+use crate::lines;
+use crate::slots::Slots;
+use control_desk::{Board, Observation};
+use std::alloc::{AllocError, Global};
+use std::marker::Model;
+use std::sync::Arc;
+use work_keys::WorkKey;
+
+/// The board, for each worker its turn or none, and all commands that were issued, in order.
+#[derive(Drop)]
+pub struct Manager {
+    pub(crate) board: Board,
+    pub(crate) turns: Slots,
+    pub(crate) issued: Vec<Arc<Issued, Global>>,
+}
+
+impl Model for Manager {
+    ghost use Rattle.std.specs.Prelude.{map};
+    ghost use Rattle.std.specs.Arc.{arc_value};
+    ghost use Rattle.reconciling.specs.Managers as managers;
+    ghost use Rattle.managers.specs.Codes.{coded_manager};
+    ghost use Rattle.managers.specs.Seen.{issued_of};
+
+    ghost Value = { managers.Manager };
+
+    ghost coded = { coded_manager };
+
+    ghost view = { λ m. record { board = m.board; turns = m.turns; issued = map (λ i. issued_of (arc_value i)) m.issued.items } };
+}
+
+impl Manager {
+    ghost use Rattle.std.specs.Prelude.{◌≡◌, IfOk, OnOk, OnErr, map};
+    ghost use Rattle.std.specs.Arc.{arc_value};
+    ghost use Rattle.control.specs.Boards.{observed, ticked};
+    ghost use Rattle.control_desk.specs.Seen.{observation_of};
+    ghost use Rattle.reconciling.specs.Managers.{begun, restarted};
+    ghost use Rattle.managers.specs.Seen.{issued_of};
+    ghost use Rattle.managers.specs.Told.{told_of_tick};
+    ghost use Rattle.reconciling.specs.OutcomeTexts.{outcome_text};
+    ghost use Rattle.work_keys.specs.WorkKeys.{work_key_of};
+
+    /// Returns a manager with so many workers, none of which is in a turn. The error is running out of memory.
+    pub fn new(alloc: Global, workers: usize) -> Result<Manager, AllocError>
+        ensures { IfOk result (λ m. m ≡ begun workers) }
+    {
+        Ok(Manager {
+            board: Board::new(alloc),
+            turns: Slots::new(alloc, workers)?,
+            issued: Vec::new(alloc),
+        })
+    }
+
+    /// Begins anew: all but what was issued is forgotten. It takes no memory.
+    pub fn restart(&mut self, alloc: Global)
+        ensures { self.new ≡ restarted self.old }
+    {
+        self.board = Board::new(alloc);
+        self.turns.clear();
+    }
+
+    /// Returns the commands that were issued, in order. It takes no memory.
+    pub fn issued(&self) -> &[Arc<Issued, Global>]
+        ensures { map (λ i. issued_of (arc_value i)) result.now ≡ self.now.issued }
+    {
+        self.issued.as_slice()
+    }
+
+    /// Notes what a change shows of the pods that are expected, and adds the keys that it owes. The error is running out of memory, and
+    /// then nothing has changed.
+    pub fn observe(
+        &mut self,
+        observations: &[Observation],
+        keys: &[WorkKey],
+    ) -> Result<(), AllocError>
+        ensures ok { OnOk result (self.new ≡ record self.old {
+          board = observed (map observation_of observations.now) (map work_key_of keys.now) self.old.board;
+        }) }
+        ensures err { OnErr result (self.new ≡ self.old) }
+    {
+        self.board.observe(observations, keys)
+    }
+
+    /// Lets so many milliseconds pass, and adds the keys whose moment has come; beyond the last moment, 2^53 - 1, nothing changes.
+    /// Returns the line that tells of it. The error is running out of memory, and then nothing has changed.
+    pub fn tick(&mut self, alloc: Global, milliseconds: u64) -> Result<Vec<u8>, AllocError>
+        ensures ok { OnOk result (self.new ≡ record self.old { board = ticked milliseconds self.old.board }) }
+        ensures told { IfOk result (λ l. l.items ≡ outcome_text (told_of_tick milliseconds self.old.board)) }
+        ensures err { OnErr result (self.new ≡ self.old) }
+    {
+        let passed = lines::time(alloc, self.board.time().saturating_add(milliseconds))?;
+        let closed = lines::no_step(alloc)?;
+        if self.board.tick(milliseconds)? {
+            Ok(passed)
+        } else {
+            Ok(closed)
+        }
+    }
+}
