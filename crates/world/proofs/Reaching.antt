@@ -1,0 +1,37 @@
+-- What workers reach of a stored cluster is what they reach of the cluster that it stands for.
+use Rattle.std.proofs.Common.{◌≡◌, refl, ap, ◌∙◌, Option, Some, None}
+use Rattle.std.specs.Prelude.{◌&&◌}
+use Rattle.definitions.specs.History.{found, present, state}
+use Rattle.definitions.specs.Keys.{Key}
+use Rattle.definitions.specs.ObjectRequests.{Request}
+use Rattle.laws.proofs.VerbLaws.{found-state}
+use Rattle.server_state.specs.Snapshots.{Snapshot}
+use Rattle.session.proofs.Followed.{same_outcome}
+use Rattle.simulation.specs.Clusters.{Cluster, history}
+use Rattle.reconciling.specs.ControlPlanes as planes
+use Rattle.cluster.proofs.Requests.{stands_after}
+use Rattle.cluster.proofs.Stood.{same_follower}
+use Rattle.cluster.specs.ClusterStates.{ClusterState}
+use Rattle.cluster.specs.Standing.{StandsFor}
+use Rattle.managers.specs.Reached.{client_of, after_request}
+use Rattle.definitions.specs.Verbs.{write_of}
+use Rattle.session.specs.SessionStates.{accepted}
+
+-- what is there under a key
+same_live : (w : ClusterState) (c : Cluster) → StandsFor w c → (k : Key) → found k w.session.server.snapshot.members ≡ state (history c) (present (history c)) k
+same_live w c is k = ap (λ (s : Snapshot). found k s.members) is.session.0.0 ∙ found-state (history c) k
+
+pub same_client : (w : ClusterState) (c : Cluster) → StandsFor w c → client_of w ≡ planes.client c
+same_client w c is =
+    λ i. record {
+      has_synced = (is.config_maps i).has_listed && (is.pods i).has_listed && (is.replica_sets i).has_listed && (is.deployments i).has_listed;
+      published = λ k. (same_follower w c is k i).informer.published;
+      live = λ k. same_live w c is k i;
+      answer = λ q. same_outcome w.session c.session is.session q i;
+    }
+
+-- a request, if one was asked
+pub request_follows : (w : ClusterState) (c : Cluster) (o : Option Request) → StandsFor w c → StandsFor (after_request o w) (planes.after_request o c)
+request_follows w c None is =
+    record { session = is.session; journal = is.journal; config_maps = is.config_maps; pods = is.pods; replica_sets = is.replica_sets; deployments = is.deployments }
+request_follows w c (Some q) is = stands_after w c q (write_of (accepted w.session q)) refl is

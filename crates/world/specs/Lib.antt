@@ -1,0 +1,4 @@
+pub mod WorldStates
+pub mod Standing
+pub mod Told
+pub mod Headline
