@@ -3,7 +3,7 @@
 
 A case is a pair of files in cases/: NAME.simulate has the lines, NAME.expect what is written for them. Beside these, the worked example
 of a letter that is cut is run with the cut after each byte of its frame in turn. With `--random N` come N schedules of a hundred random
-steps each, whose text is the oracle's; `--oracle` runs nothing, and compares the cases with what the oracle says.
+steps each, whose text is the oracle's; `--oracle` runs nothing, and compares the cases without workers with what the oracle says.
 
 The program is built from the sources by `rt try`, which proves nothing; `--program PATH` runs one that is built already.
 Usage: run.py [--program PATH | --oracle] [--random N] [--seed N] [WORD]      WORD: only cases whose name has it
@@ -90,8 +90,15 @@ def random_cases(count, seed):
     return [run.Case(f"random-{number:05}", given, oracle.simulate(given)) for number, given in enumerate(schedules)]
 
 
+def has_workers(case):
+    """Returns whether a worker has a part in a case."""
+    return any(line.startswith(b"take ") for line in case.given.split(b"\n"))
+
+
 def by_oracle(asked):
-    """Compares the cases with what the oracle says."""
+    """Compares the cases with what the oracle says, which knows nothing of workers."""
+    left, asked = [case for case in asked if has_workers(case)], [case for case in asked if not has_workers(case)]
+    print("".join(f"left out, since workers have a part in it: {case.name}\n" for case in left), end="")
     failed = [case.name for case in asked if oracle.simulate(case.given) != case.wanted]
     print("".join(f"FAILED {name}\n" for name in failed), end="")
     print(f"{len(asked) - len(failed)} passed, {len(failed)} failed")

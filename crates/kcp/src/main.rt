@@ -1,5 +1,5 @@
 //! The control plane's program: `kcp replay` answers the request lines of its standard input, `kcp simulate` takes the steps of a
-//! simulated cluster that lines ask for, and `kcp serve` answers the requests that come over HTTP/1.1.
+//! simulated control plane that lines ask for, and `kcp serve` answers the requests that come over HTTP/1.1.
 #![tactic(auto)]
 
 ghost use Rattle.std.specs.Prelude.{◌≡◌, OnOk, OnErr, IfErr, IfSome};
@@ -8,7 +8,7 @@ ghost use Rattle.definitions.specs.Replies.{default_window};
 ghost use Rattle.line_protocol.specs.Lines as lines;
 ghost use Rattle.line_service.specs.Replies.{AppendsBeginning};
 ghost use Rattle.kcp.specs.Replays.{fault_text, serve_fault_text, AnswersSome};
-ghost use Rattle.simulation.specs.StepLines.{simulate};
+ghost use Rattle.reconciling.specs.StepLines.{simulate};
 ghost use Rattle.simulations.specs.Laws as simulated;
 
 mod handling;
@@ -65,7 +65,7 @@ pub fn replay<R: BufRead, W: Write>(
     replay_with(alloc, DEFAULT_WINDOW, reader, writer)
 }
 
-/// Takes the steps of a simulated cluster that the lines ask for, one after another, and writes what is told of each and nothing
+/// Takes the steps of a simulated control plane that the lines ask for, one after another, and writes what is told of each and nothing
 /// else. Each outcome is flushed before the next line is waited for.
 ///
 /// At an error a beginning of all outcomes was written: no step after the one at which the error came is taken. The

@@ -1,4 +1,3 @@
 pub mod Alongside
 pub mod Taken
 pub mod Simulated
-pub mod Stands

@@ -1,31 +1,31 @@
--- What follows for simulations: one whose cluster stands for a cluster answers as the cluster does, and what is written for all lines is
+-- What follows for simulations: one whose world stands for a control plane answers as that does, and what is written for all lines is
 -- what the definitions say.
 use Rattle.std.specs.Prelude.{◌≡◌, ℕ, List, Option, Some, None}
 use Rattle.line_service.specs.Replies.{lines_of, replies, EndsEarly}
 use Rattle.line_service.specs.declared.fault.RunFault.{RunFault}
-use Rattle.simulation.specs.Clusters.{Cluster}
-use Rattle.simulation.specs.StepLines.{simulate}
-use Rattle.simulations.specs.SimulationStates.{reply_by_stored, next_stored, reply_by_cluster, next_cluster}
-use Rattle.cluster.specs.Standing.{StandsFor}
-use Rattle.cluster.specs.ClusterStates.{ClusterState}
+use Rattle.reconciling.specs.ControlPlanes.{ControlPlane}
+use Rattle.reconciling.specs.StepLines.{simulate}
+use Rattle.simulations.specs.SimulationStates.{reply_by_stored, next_stored, reply_by_plane, next_plane}
+use Rattle.world.specs.Standing.{StandsFor}
+use Rattle.world.specs.WorldStates.{WorldState}
 
--- neither has begun, or the cluster stands for the cluster
-abbrev pub Follows : Option ClusterState → Option Cluster → Type 0
+-- neither has begun, or the world stands for the control plane
+abbrev pub Follows : Option WorldState → Option ControlPlane → Type 0
 Follows None None = Unit {0}
 Follows None (Some c) = ⊥
 Follows (Some w) None = ⊥
 Follows (Some w) (Some c) = StandsFor w c
 
--- a simulation that follows the definitions' replies to a line as they say, and goes on so
+-- a simulation that follows the definitions replies to a line as they say, and goes on so
 abbrev pub SimulationsFollow : Type 0
 SimulationsFollow =
-    (s : Option ClusterState) (c : Option Cluster) (line : List ℕ) → Follows s c → (reply_by_stored s line ≡ reply_by_cluster c line) × Follows (next_stored s line) (next_cluster c line)
+    (s : Option WorldState) (p : Option ControlPlane) (line : List ℕ) → Follows s p → (reply_by_stored s line ≡ reply_by_plane p line) × Follows (next_stored s line) (next_plane p line)
 
 -- the replies to all lines are what is written for all that is read
 abbrev pub RepliesAreSimulated : Type 0
-RepliesAreSimulated = (input : List ℕ) → replies reply_by_cluster next_cluster None (lines_of input) ≡ simulate input
+RepliesAreSimulated = (input : List ℕ) → replies reply_by_plane next_plane None (lines_of input) ≡ simulate input
 
 -- a simulation has answered some lines of the input, from the first on, and no others; their replies were appended: all of them, unless
 -- writing failed, and then all but the last one's and a beginning of that
 abbrev pub AnswersSome : RunFault → Option (List ℕ) → Option (List ℕ) → List ℕ → Type 0
-AnswersSome why old new input = (last : Option Cluster) × EndsEarly reply_by_cluster next_cluster why None last old new (lines_of input)
+AnswersSome why old new input = (last : Option ControlPlane) × EndsEarly reply_by_plane next_plane why None last old new (lines_of input)

@@ -1,49 +1,53 @@
 -- What a simulation answers and how it goes on, as it is stored and as the definitions have it.
 use Rattle.std.specs.Prelude.{ℕ, List, Option}
 use Rattle.std.specs.Coded.{Coded, coded_option}
-use Rattle.simulation.specs.Clusters as clusters
-use Rattle.simulation.specs.Clusters.{Cluster, ClusterStep}
-use Rattle.simulation.specs.Moves.{Outcome}
 use Rattle.simulation.specs.StepLines.{Config}
+use Rattle.reconciling.specs.ControlPlanes as planes
+use Rattle.reconciling.specs.ControlPlanes.{ControlPlane, Step}
+use Rattle.reconciling.specs.OutcomeTexts.{outcome_text}
+use Rattle.reconciling.specs.StepLines.{opened_with}
 use Rattle.simulations.specs.Lines as lines
-use Rattle.cluster.specs.ClusterStates as stored
-use Rattle.cluster.specs.ClusterStates.{ClusterState, coded_cluster}
+use Rattle.world.specs.WorldStates as stored
+use Rattle.world.specs.WorldStates.{WorldState, coded_world}
 
 -- a code by which a model may store it
-abbrev pub coded_simulation : Coded (Option ClusterState)
-coded_simulation = coded_option coded_cluster
+abbrev pub coded_simulation : Coded (Option WorldState)
+coded_simulation = coded_option coded_world
 
 -- ---- as it is stored
 
-unfoldable pub stored_after : ClusterState → ClusterStep → ClusterState
-stored_after w step = (stored.step w step).cluster
+abbrev pub opened_stored : Config → WorldState
+opened_stored c = stored.opened c.window c.workers
 
-unfoldable pub told_by_stored : ClusterState → ClusterStep → Outcome
-told_by_stored w step = (stored.step w step).outcome
+unfoldable pub stored_after : WorldState → Step → WorldState
+stored_after w step = (stored.step w step).world
+
+unfoldable pub told_by_stored : WorldState → Step → List ℕ
+told_by_stored w step = outcome_text (stored.step w step).outcome
 
 -- of the first line
 abbrev pub first_text : List ℕ → Option Config → List ℕ
-first_text t c = lines.first_text stored.opened stored_after told_by_stored t c
+first_text t c = lines.first_text opened_stored stored_after told_by_stored t c
 
-abbrev pub first_stored : List ℕ → Option Config → ClusterState
-first_stored t c = lines.first_cluster stored.opened stored_after told_by_stored t c
+abbrev pub first_stored : List ℕ → Option Config → WorldState
+first_stored t c = lines.first_world opened_stored stored_after told_by_stored t c
 
-abbrev pub reply_by_stored : Option ClusterState → List ℕ → List ℕ
-reply_by_stored s t = lines.reply stored.opened stored_after told_by_stored s t
+abbrev pub reply_by_stored : Option WorldState → List ℕ → List ℕ
+reply_by_stored s t = lines.reply opened_stored stored_after told_by_stored s t
 
-abbrev pub next_stored : Option ClusterState → List ℕ → Option ClusterState
-next_stored s t = lines.next stored.opened stored_after told_by_stored s t
+abbrev pub next_stored : Option WorldState → List ℕ → Option WorldState
+next_stored s t = lines.next opened_stored stored_after told_by_stored s t
 
 -- ---- as the definitions have it
 
-abbrev cluster_after : Cluster → ClusterStep → Cluster
-cluster_after c step = (clusters.step c step).cluster
+abbrev plane_after : ControlPlane → Step → ControlPlane
+plane_after p step = (planes.step p step).plane
 
-abbrev told_by_cluster : Cluster → ClusterStep → Outcome
-told_by_cluster c step = (clusters.step c step).outcome
+abbrev told_by_plane : ControlPlane → Step → List ℕ
+told_by_plane p step = outcome_text (planes.step p step).outcome
 
-abbrev pub reply_by_cluster : Option Cluster → List ℕ → List ℕ
-reply_by_cluster s t = lines.reply clusters.opened cluster_after told_by_cluster s t
+abbrev pub reply_by_plane : Option ControlPlane → List ℕ → List ℕ
+reply_by_plane s t = lines.reply opened_with plane_after told_by_plane s t
 
-abbrev pub next_cluster : Option Cluster → List ℕ → Option Cluster
-next_cluster s t = lines.next clusters.opened cluster_after told_by_cluster s t
+abbrev pub next_plane : Option ControlPlane → List ℕ → Option ControlPlane
+next_plane s t = lines.next opened_with plane_after told_by_plane s t

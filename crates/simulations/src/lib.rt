@@ -1,4 +1,4 @@
-//! A simulated cluster as a service of lines: each line that is read is a step, and what comes of it is told.
+//! A simulated control plane as a service of lines: each line that is read is a step, and what comes of it is told.
 #![tactic(auto)]
 
 pub mod runs;

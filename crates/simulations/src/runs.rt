@@ -2,7 +2,7 @@
 ghost use Rattle.std.specs.Prelude.{◌≡◌, OnOk, OnErr, IfErr, IfSome};
 ghost use Rattle.std.specs.Io.KnownBytes.{Appends};
 ghost use Rattle.line_service.specs.Replies.{AppendsBeginning};
-ghost use Rattle.simulation.specs.StepLines.{simulate};
+ghost use Rattle.reconciling.specs.StepLines.{simulate};
 ghost use Rattle.simulations.specs.Laws.{AnswersSome};
 
 use crate::simulations::Simulation;

@@ -1,7 +1,7 @@
 //! Laws of simulations.
 ghost use Rattle.simulations.specs.Laws.{SimulationsFollow, RepliesAreSimulated};
 
-/// A simulation whose cluster stands for a cluster replies to each line as the cluster does, and its cluster stands for the cluster afterwards.
+/// A simulation whose world stands for a control plane replies to each line as that does, and its world stands for it afterwards.
 pub fn simulations_follow()
     ensures { SimulationsFollow }
 {}

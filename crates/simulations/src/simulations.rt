@@ -1,55 +1,78 @@
-//! A simulated cluster that answers lines.
-ghost use Rattle.std.specs.Prelude.{◌≡◌, IfOk, OnOk, OnErr};
-ghost use Rattle.simulation.specs.OutcomeTexts.{outcome_text};
-ghost use Rattle.simulation.specs.StepLines.{step_asked};
-ghost use Rattle.simulations.specs.SimulationStates.{told_by_stored, stored_after};
-ghost use Rattle.steps.specs.Steps.{step_of};
+//! A simulated control plane that answers lines.
+ghost use Rattle.std.specs.Prelude.{◌≡◌, IfOk, OnOk, OnErr, None};
+ghost use Rattle.reconciling.specs.StepLines.{step_asked};
+ghost use Rattle.simulations.specs.Ready.{IsReady};
+ghost use Rattle.simulations.specs.SimulationStates.{told_by_stored, stored_after, first_text, first_stored};
+ghost use Rattle.steps.specs.PlaneSteps.{plane_step_of};
+ghost use Rattle.world.specs.Told.{text_of};
 
 use crate::telling::{ready, told};
-use cluster::Cluster;
 use line_service::LineService;
 use std::alloc::{AllocError, Global};
 use std::marker::Model;
-use steps::{Config, Step};
+use steps::{Config, PlaneStep, Step};
+use world::{Told, World};
 
 /// Returns the step that a line asks for. A line of no form is answered as a request that says nothing is.
-fn step_asked(line: &[u8]) -> Step<'_>
-    ensures { step_of result ≡ step_asked line.now }
+fn step_asked(line: &[u8]) -> PlaneStep<'_>
+    ensures { plane_step_of result ≡ step_asked line.now }
 {
-    match Step::read(line) {
+    match PlaneStep::read(line) {
         Some(step) => step,
-        None => Step::Request(&[]),
+        None => PlaneStep::InCluster(Step::Request(&[])),
+    }
+}
+
+/// Returns the line by which a step is told. Where it does not come made, it is written into an empty line with room for it.
+fn line_of(line: Vec<u8>, step: Told) -> Vec<u8>
+    requires ready { IsReady line }
+    ensures { result.items ≡ text_of step }
+{
+    match step {
+        Told::InCluster(outcome) => told(line, outcome),
+        Told::Line(made) => made,
     }
 }
 
 /// Takes the step that a line asks for, and returns what is told of it. The error is running out of memory, and changes nothing: the
 /// memory for what is told is there before the step is taken.
-fn take(alloc: Global, cluster: &mut Cluster, line: &[u8]) -> Result<Vec<u8>, AllocError>
-    ensures text { IfOk result (λ l. l.items ≡ outcome_text (told_by_stored cluster.old (step_asked line.now))) }
-    ensures cluster { OnOk result (cluster.new ≡ stored_after cluster.old (step_asked line.now)) }
-    ensures err { OnErr result (cluster.new ≡ cluster.old) }
+fn take(alloc: Global, world: &mut World, line: &[u8]) -> Result<Vec<u8>, AllocError>
+    ensures text { IfOk result (λ l. l.items ≡ told_by_stored world.old (step_asked line.now)) }
+    ensures world { OnOk result (world.new ≡ stored_after world.old (step_asked line.now)) }
+    ensures err { OnErr result (world.new ≡ world.old) }
 {
     let text = ready(alloc)?;
-    let outcome = cluster.step(alloc, step_asked(line))?;
-    Ok(told(text, outcome))
+    let told = world.step(alloc, step_asked(line))?;
+    Ok(line_of(text, told))
 }
 
-/// A simulated cluster, which begins with the first line that is not empty.
+/// Takes the step that a line asks for in an opening world whose sizes nobody said, and returns that world and what is told. The error is
+/// running out of memory.
+fn first_step(alloc: Global, line: &[u8]) -> Result<(World, Vec<u8>), AllocError>
+    ensures world { IfOk result (λ first. first.0 ≡ first_stored line.now None) }
+    ensures text { IfOk result (λ first. first.1.items ≡ first_text line.now None) }
+{
+    let mut world = World::open(alloc, Config::default())?;
+    let text = take(alloc, &mut world, line)?;
+    Ok((world, text))
+}
+
+/// A simulated control plane, which begins with the first line that is not empty.
 #[derive(Drop)]
 pub struct Simulation {
-    cluster: Option<Cluster>,
+    world: Option<World>,
 }
 
 impl Model for Simulation {
     ghost use Rattle.std.specs.Prelude.{Option};
-    ghost use Rattle.cluster.specs.ClusterStates.{ClusterState};
+    ghost use Rattle.world.specs.WorldStates.{WorldState};
     ghost use Rattle.simulations.specs.SimulationStates.{coded_simulation};
 
-    ghost Value = { Option ClusterState };
+    ghost Value = { Option WorldState };
 
     ghost coded = { coded_simulation };
 
-    ghost view = { λ s. s.cluster };
+    ghost view = { λ s. s.world };
 }
 
 impl Simulation {
@@ -61,25 +84,32 @@ impl Simulation {
     pub fn new() -> Simulation
         ensures { result ≡ None }
     {
-        Simulation { cluster: None }
+        Simulation { world: None }
+    }
+
+    /// Stores a world in the place of the one before, if there was one.
+    fn store(&mut self, world: World)
+        ensures { self.new ≡ Some world }
+    {
+        self.world = Some(world);
     }
 
     /// Begins with the first line, and returns what is told of it: nothing, where it is a configuration. The error is running out of
     /// memory, and changes nothing.
     fn begin(&mut self, alloc: Global, line: &[u8]) -> Result<Vec<u8>, AllocError>
         ensures text { IfOk result (λ l. l.items ≡ first_text line.now (config_of_line line.now)) }
-        ensures cluster { OnOk result (self.new ≡ Some (first_stored line.now (config_of_line line.now))) }
+        ensures world { OnOk result (self.new ≡ Some (first_stored line.now (config_of_line line.now))) }
         ensures err { OnErr result (self.new ≡ self.old) }
     {
         match Config::read(line) {
             Some(config) => {
-                self.cluster = Some(Cluster::open(alloc, config.window)?);
+                let world = World::open(alloc, config)?;
+                self.store(world);
                 Ok(Vec::new(alloc))
             }
             None => {
-                let mut cluster = Cluster::open(alloc, Config::default().window)?;
-                let text = take(alloc, &mut cluster, line)?;
-                self.cluster = Some(cluster);
+                let (world, text) = first_step(alloc, line)?;
+                self.store(world);
                 Ok(text)
             }
         }
@@ -97,8 +127,8 @@ impl LineService for Simulation {
         if line.is_empty() {
             return Ok(Vec::new(alloc));
         }
-        match &mut self.cluster {
-            Some(cluster) => take(alloc, cluster, line),
+        match &mut self.world {
+            Some(world) => take(alloc, world, line),
             None => self.begin(alloc, line),
         }
     }

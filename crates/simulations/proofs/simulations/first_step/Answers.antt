@@ -1,0 +1,9 @@
+use Rattle.std.proofs.Common.{ap, ◌∙◌}
+use Rattle.reconciling.specs.StepLines.{step_asked}
+use Rattle.simulations.specs.SimulationStates.{told_by_stored, opened_stored}
+use Rattle.simulations.proofs.simulations.first_step.Goals as goal
+
+pub returns-clause-text : goal.returns-clause-text
+returns-clause-text c =
+    let world = c.in_ok-world.ensures ∙ ap opened_stored c.default.ensures in
+    c.in_ok-text.ensures.text ∙ ap (λ w. told_by_stored w (step_asked c.args.line.now)) world
