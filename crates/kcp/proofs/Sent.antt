@@ -23,7 +23,6 @@ use Rattle.routes.proofs.entries.Entry.TheSendSync as entry
 use Rattle.routes.proofs.entries.Layout.TheSendSync as layout
 use Rattle.routes.specs.contracts.table.Routes as Routes
 use Rattle.kcp.specs.contracts.handling.Ringer as Ringer
-use Rattle.kcp.specs.contracts.handling.Pause as Pause
 use Rattle.kcp.specs.contracts.handling.Connection as Connection
 use Rattle.shared_desk.proofs.Sent.{desk, pass_field}
 
@@ -47,9 +46,6 @@ alloc = search (heap.send, sendable)
 routes : IsSend (as_row Routes.the_field)
 routes = search (knot.crosses, route.the_send, route.the_field_send, place.the_send, place.the_field_send, slab.the_send, entry.the_send, entry.the_field_send, layout.the_send, layout.the_field_send, group.the_send, group.the_field_send, heap.crosses, maps.crosses, sendable) depth 60 fits 20000
 
-number : IsSend (as_row Field.u64-field)
-number = search sendable
-
 module _ (a : NamedLft) (R : RattleType) (r : IsSync R) where
   ringer : IsSend (Ringer.the_row a)
   ringer = search (heap.crosses, sendable) depth 20
@@ -60,8 +56,5 @@ module _ (a : NamedLft) (R : RattleType) (r : IsSync R) where
   lent_bell : IsSend (as_row (Field.shr_ref_field a Bell.the_row tt))
   lent_bell = search (bell.the_sync, heap.crosses, sendable) depth 20
 
-  pause : IsSend (as_row (Pause.the_field a R))
-  pause = declared_send (Pause.the_type a R) (runtime, (lent_bell, (number, tt)))
-
   pub connection : IsSend (Connection.the_row a R)
-  connection = declared_send (Connection.the_type a R) (alloc, (routes, (seat a (Ringer.the_row a) R ringer r, (pause, tt))))
+  connection = declared_send (Connection.the_type a R) (alloc, (routes, (seat a (Ringer.the_row a) R ringer r, (runtime, (lent_bell, tt)))))
