@@ -22,6 +22,7 @@ PROGRAM = "crates/kcp/out/kcp"
 FOLLOWER = "crates/watch_example/out/watch_example"
 RANDOM_HEADS = 5000
 RANDOM_SCHEDULES = 200
+RANDOM_TURNS = 100
 # What `rt ci` says of a proof, a negative test, a test or a program that is not as it has to be.
 WRONG = re.compile("NOT PROVED|NOT REFUSED|NOT TRIED|BAD EDIT|FAILED|not what|ended with status")
 sys.path[:0] = [str(ROOT / ".ci"), str(ROOT / "conformance")]
@@ -115,10 +116,13 @@ def asked_first(log):
 
 
 def asked_of_program(log):
-    """Runs what asks the program that `rt ci` built: schedules of a simulated cluster, and over sockets cases, random heads, many clients at
-    once, real clients where they are installed, and a follower through a proxy and over recorded bytes."""
+    """Runs what asks the program that `rt ci` built: schedules of a simulated cluster, a rollout and schedules of controllers, and over
+    sockets cases, random heads, many clients at once, real clients where they are installed, and a follower through a proxy and over
+    recorded bytes."""
     words = {
         "schedules": ["simulate/run.py", "--random", str(RANDOM_SCHEDULES)],
+        "a rollout": ["simulate/rollout.py"],
+        "schedules of controllers": ["simulate/schedules.py", "--count", str(RANDOM_TURNS)],
         "cases over HTTP": ["http/run.py"],
         "random heads": ["http/heads.py", "--count", str(RANDOM_HEADS)],
         "histories": ["histories/run.py"],
