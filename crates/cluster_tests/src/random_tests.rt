@@ -112,10 +112,10 @@ fn each_published_map_is_the_list_at_its_revision(rt: HostRuntime) -> Result<(),
     let alloc = rt.alloc();
     let mut cluster = Cluster::open(alloc, 16)?;
     let mut numbers = Numbers { state: 1 };
-    let mut published = 0;
+    let mut published = 0_u64;
     for _ in 0..STEPS {
         if let Outcome::Published(kind, _, _) = take(alloc, &mut cluster, &mut numbers)? {
-            published += 1;
+            published = published.saturating_add(1);
             assert!(rt; shows_list(alloc, &cluster, kind)?);
         }
     }
