@@ -1,3 +1,4 @@
 -- The definitions, in reading order.
 pub mod Targets
+pub mod Outgoing
 pub mod Begun

@@ -1,6 +1,7 @@
 //! A server, as who asks it sees it.
-use client::{Answer, More, Outgoing};
+use client::{Answer, More};
 use definitions::kinds::Kind;
+use requests::Request;
 use std::alloc::Global;
 
 /// What became of the request for a watch.
@@ -18,8 +19,9 @@ pub enum Opened {
 
 /// A server that is asked.
 pub trait Api {
-    /// Asks a request, and returns what became of it.
-    fn call(&mut self, alloc: Global, request: Outgoing<'_>) -> Answer;
+    /// Asks a request of one object, and returns what became of it. It is not sent where it cannot be told over HTTP
+    /// (`request_texts::can_be_told`), or memory runs out before a byte is written.
+    fn call(&mut self, alloc: Global, request: &Request) -> Answer;
 
     /// Asks for a list of a kind, of all namespaces, and returns what became of it.
     fn list(&mut self, alloc: Global, kind: Kind) -> Answer;

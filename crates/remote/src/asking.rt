@@ -2,11 +2,14 @@
 use crate::api::{Api, Opened};
 use crate::beginning::begin_watch;
 use crate::connect::Connect;
+use crate::outgoing::outgoing;
 use crate::targets::{list_target, watch_target};
 use chunked::{Reader, Watched};
 use client::outgoing::text_of;
 use client::{Answer, More, Outgoing, call, read_more};
 use definitions::kinds::Kind;
+use request_texts::{can_be_told, request_text};
+use requests::Request;
 use std::alloc::Global;
 
 /// A server that is asked over connections, one for each request, and the watch of it that is open, if one is.
@@ -36,6 +39,17 @@ impl<C: Connect + Drop> Remote<C> {
         }
     }
 
+    /// Writes a request over a new connection, and returns what became of it.
+    fn send(&mut self, alloc: Global, request: Outgoing<'_>) -> Answer {
+        match self.connector.connect() {
+            Ok((reader, writer)) => {
+                let mut writer = Watched::new(writer);
+                call(alloc, request, Watched::new(reader), &mut writer)
+            }
+            Err(_) => Answer::NotSent,
+        }
+    }
+
     /// Writes the request for a watch over a new connection, and opens it.
     fn begin(&mut self, alloc: Global, text: &[u8]) -> Opened {
         let (reader, writer) = match self.connector.connect() {
@@ -53,19 +67,19 @@ impl<C: Connect + Drop> Remote<C> {
 }
 
 impl<C: Connect + Drop> Api for Remote<C> {
-    fn call(&mut self, alloc: Global, request: Outgoing<'_>) -> Answer {
-        match self.connector.connect() {
-            Ok((reader, writer)) => {
-                let mut writer = Watched::new(writer);
-                call(alloc, request, Watched::new(reader), &mut writer)
-            }
+    fn call(&mut self, alloc: Global, request: &Request) -> Answer {
+        if !can_be_told(request) {
+            return Answer::NotSent;
+        }
+        match request_text(alloc, request) {
+            Ok(text) => self.send(alloc, outgoing(&text)),
             Err(_) => Answer::NotSent,
         }
     }
 
     fn list(&mut self, alloc: Global, kind: Kind) -> Answer {
         match list_target(alloc, kind) {
-            Ok(target) => self.call(alloc, get(target.as_str())),
+            Ok(target) => self.send(alloc, get(target.as_str())),
             Err(_) => Answer::NotSent,
         }
     }

@@ -1,0 +1,5 @@
+pub mod Segments
+pub mod Routed
+pub mod Asked
+pub mod Options
+pub mod Names

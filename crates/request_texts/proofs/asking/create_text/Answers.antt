@@ -1,0 +1,25 @@
+use Rattle.std.proofs.Common.{◌∙◌, string_bytes, ap}
+use Rattle.std.proofs.lemmas.Str.{IsUtf8-string_bytes}
+use Rattle.serde_json.specs.View.{view}
+use Rattle.definitions.proofs.Truths.{both_true}
+use Rattle.definitions.specs.Keys.{is_namespace}
+use Rattle.request_texts.specs.Texts.{is_shallow}
+use Rattle.request_texts.proofs.Segments.{is_path}
+use Rattle.request_texts.proofs.Routed.{collection_clear}
+use Rattle.request_texts.proofs.Asked.{asks_create}
+use Rattle.request_texts.proofs.asking.create_text.Goals as goal
+
+pub json_text-requires : goal.json_text-requires
+json_text-requires c = (both_true (is_namespace c.args.namespace.now) (is_shallow (view c.args.object.now)) c.requires).1
+
+pub returns-clause-path : goal.returns-clause-path
+returns-clause-path c =
+    ap is_path c.in_ok-collection_target.ensures
+    ∙ collection_clear c.args.kind c.args.namespace.now (both_true (is_namespace c.args.namespace.now) (is_shallow (view c.args.object.now)) c.requires).0
+
+pub returns-clause-asks : goal.returns-clause-asks
+returns-clause-asks c =
+    let target = c.in_ok-collection_target in
+    let body = c.in_ok-json_text in
+    let named = (both_true (is_namespace c.args.namespace.now) (is_shallow (view c.args.object.now)) c.requires).0 in
+    asks_create c.args.kind c.args.namespace.now (string_bytes target.field-0) (string_bytes body.field-0) (view c.args.object.now) named (IsUtf8-string_bytes target.field-0) target.ensures (IsUtf8-string_bytes body.field-0) body.ensures
