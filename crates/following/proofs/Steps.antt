@@ -1,5 +1,5 @@
 -- What a list makes of a follower, and what a publish changes.
-use Rattle.std.proofs.Common.{◌≡◌, ℕ, List, [], ◌∷◌, length, Option, Some, None, option_map, refl, sym, ap, subst, ◌∙◌}
+use Rattle.std.proofs.Common.{◌≡◌, ℕ, List, [], ◌∷◌, length, Option, Some, None, option_map, IsSome, refl, sym, ap, subst, ◌∙◌}
 use Rattle.definitions.specs.History.{Entries}
 use Rattle.server_state.specs.Snapshots.{Snapshot}
 use Rattle.controllers.specs.Informers.{Informer, appended, after_publish, all_applied}
@@ -11,6 +11,17 @@ use Rattle.following.specs.Followers.{Follower, after_list, published, changes_i
 pub listed_is : (o : Option Listed) (f : Follower) (d : Delta) → Some d ≡ option_map list_delta o → record { reflector = with_list o f.reflector; informer = appended f.informer d } ≡ after_list o f
 listed_is None f d is = cc
 listed_is (Some l) f d is = let this : d ≡ list_delta l = cc in ap (λ d. record { reflector = with_list (Some l) f.reflector; informer = appended f.informer d }) this
+
+is_listed : (o : Option Listed) (d : Delta) → Some d ≡ option_map list_delta o → IsSome o
+is_listed None d is = cc
+is_listed (Some l) d is = refl
+
+pub is_listed_as : (body : List ℕ) (f : Follower) (s q : Reflector) (i : Informer) (d : Delta) → record { reflector = s; informer = i } ≡ f → q ≡ s
+    → Some d ≡ option_map list_delta (list_of q.kind body) → IsSome (list_of f.reflector.kind body)
+is_listed_as body f s q i d is same delta =
+    let at_copy : IsSome (list_of q.kind body) = is_listed (list_of q.kind body) d delta in
+    let at_first : IsSome (list_of s.kind body) = subst (λ (t : Reflector). IsSome (list_of t.kind body)) same at_copy in
+    subst (λ (g : Follower). IsSome (list_of g.reflector.kind body)) is at_first
 
 -- a copy of the reflector takes the list in, and the informer the delta
 pub listed_step : (body : List ℕ) (f : Follower) (s q r : Reflector) (i j : Informer) (d : Delta) → record { reflector = s; informer = i } ≡ f → q ≡ s

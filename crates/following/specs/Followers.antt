@@ -2,7 +2,6 @@
 use Rattle.std.specs.Prelude.{ℕ, List, [], ◌∷◌, Option, Some, None}
 use Rattle.definitions.specs.declared.kinds.Kind.{Kind}
 use Rattle.definitions.specs.History.{Entries}
-use Rattle.controllers.specs.Informers as informers
 use Rattle.controllers.specs.Informers.{Informer, appended, after_publish}
 use Rattle.controllers.specs.Reflectors as reflectors
 use Rattle.controllers.specs.Reflectors.{Reflector, Delta, Listed, Fed, with_list, list_delta, fed}
@@ -14,9 +13,9 @@ pub record Follower : Type 0 where
   pub reflector : Reflector
   pub informer : Informer
 
--- nothing was taken in, and nothing is published
-abbrev pub begun : Kind → Follower
-begun k = record { reflector = reflectors.begun k; informer = informers.begun }
+-- nothing was taken in
+abbrev pub begun_over : Kind → Informer → Follower
+begun_over k i = record { reflector = reflectors.begun k; informer = i }
 
 -- a list that was read replaces the whole map at the next publish; another body changes nothing
 abbrev pub after_list : Option Listed → Follower → Follower
@@ -49,3 +48,12 @@ changes_in ms (d ∷ ds) = Some (all_shifts ms (d ∷ ds))
 
 abbrev pub changes_of : Informer → Option (List Shift)
 changes_of i = changes_in i.published.members i.pending
+
+-- changes that the sink has not taken keep back what waits
+abbrev pub published_unless : Option (List Shift) → Follower → Follower
+published_unless None f = published f
+published_unless (Some owed) f = f
+
+abbrev pub owed_after : Option (List Shift) → Informer → Option (List Shift)
+owed_after None i = changes_of i
+owed_after (Some owed) i = Some owed

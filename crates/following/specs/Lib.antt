@@ -1,4 +1,6 @@
 -- The definitions, in reading order.
 pub mod Followers
+pub mod Answered
+pub mod Given
 pub mod Pauses
 pub mod Codes

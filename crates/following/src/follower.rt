@@ -3,19 +3,19 @@ use controllers::reflectors::{Ask, End};
 use definitions::kinds::Kind;
 use framing::Want;
 use indexer::{Indexed, Shift};
-use informer::PlainInformer;
+use informer::Publishing;
 use reflector::{Fed, ListFault, Reflector};
 use std::alloc::{AllocError, Global};
 use std::marker::Model;
 
-/// A copy of the objects of one kind, in all namespaces, with what is to be asked of a server to keep it up to date.
+/// A copy of the objects of one kind, in all namespaces, in an informer, with what is to be asked of a server to keep it up to date.
 #[derive(Drop)]
-pub struct Follower {
+pub struct Follower<I: Publishing> {
     reflector: Reflector,
-    informer: PlainInformer,
+    informer: I,
 }
 
-impl Model for Follower {
+impl<I: Publishing> Model for Follower<I> {
     ghost use Rattle.following.specs.Followers as followers;
     ghost use Rattle.following.specs.Codes.{coded_follower};
 
@@ -23,24 +23,31 @@ impl Model for Follower {
 
     ghost coded = { coded_follower };
 
-    ghost view = { λ f. record { reflector = f.reflector; informer = f.informer } };
+    ghost view = { λ f. record { reflector = f.reflector; informer = I.informer_of f.informer } };
 }
 
-impl Follower {
-    ghost use Rattle.std.specs.Prelude.{◌≡◌, IfOk, IfErr, OnOk, OnErr, map, option_map};
+impl<I: Publishing> Follower<I> {
+    ghost use Rattle.std.specs.Prelude.{◌≡◌, IfOk, IfErr, IsSome, OnOk, OnErr, map, option_map};
     ghost use Rattle.controllers.specs.Reflectors.{asks, fed, list_of};
     ghost use Rattle.indexer.specs.Shifted.{shift_of};
     ghost use Rattle.reflector.specs.Deltas.{RefusesList};
-    ghost use Rattle.following.specs.Followers.{begun, after_list, after_bytes, after_cut, after_expiry, published, changes_of};
+    ghost use Rattle.following.specs.Followers.{begun_over, after_list, after_bytes, after_cut, after_expiry, published, changes_of};
 
-    /// Returns a follower of a kind that took nothing in yet: it asks for a list, and what it has published is empty, at revision 0.
-    pub fn new(alloc: Global, kind: Kind) -> Follower
-        ensures { result ≡ begun kind }
+    /// Returns a follower of a kind that took nothing in yet, over an informer: it asks for a list.
+    pub fn new(alloc: Global, kind: Kind, informer: I) -> Follower<I>
+        ensures { result ≡ begun_over kind (I.informer_of informer) }
     {
         Follower {
             reflector: Reflector::new(alloc, kind),
-            informer: PlainInformer::new(alloc),
+            informer,
         }
+    }
+
+    /// Returns the informer.
+    pub fn into_informer(self) -> I
+        ensures { I.informer_of result ≡ self.informer }
+    {
+        self.informer
     }
 
     /// Returns what is to be asked of the server next. It takes no memory.
@@ -54,6 +61,7 @@ impl Follower {
     /// memory; it changes nothing.
     pub fn on_listed(&mut self, alloc: Global, body: &[u8]) -> Result<(), ListFault>
         ensures ok { OnOk result (self.new ≡ after_list (list_of self.old.reflector.kind body.now) self.old) }
+        ensures listed { OnOk result (IsSome (list_of self.old.reflector.kind body.now)) }
         ensures refused { IfErr result (RefusesList self.old.reflector.kind body.now) }
         ensures err { OnErr result (self.new ≡ self.old) }
     {
@@ -113,10 +121,10 @@ impl Follower {
         Ok(Some(shifts))
     }
 
-    /// Returns a reference to what is published. It takes no memory.
+    /// Returns a reference to what is published.
     pub fn look(&self) -> &Indexed
         ensures { result.now ≡ self.now.informer.published }
     {
-        self.informer.look()
+        self.informer.published()
     }
 }

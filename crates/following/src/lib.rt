@@ -2,14 +2,16 @@
 //! where a watch was cut, has expired or cannot be read. What each step makes of the copy is proved; the loop that asks and waits is thin.
 #![tactic(auto)]
 
+pub(crate) mod answered;
 pub mod follower;
-pub mod listing;
+pub(crate) mod listing;
+pub(crate) mod owed;
 pub mod pauses;
 pub mod running;
 pub mod sinks;
 pub mod timers;
-pub(crate) mod tries;
-pub mod watching;
+pub mod tries;
+pub(crate) mod watching;
 
 pub use follower::Follower;
 pub use indexer::{Indexed, Shift};

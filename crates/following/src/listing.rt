@@ -1,44 +1,49 @@
 //! A list, asked for and taken in.
 use crate::follower::Follower;
+use crate::owed::Owed;
 use crate::sinks::{Onward, Sink};
 use crate::tries::Tried;
-use client::Answer;
 use definitions::kinds::Kind;
+use informer::Publishing;
 use remote::Api;
-use std::alloc::Global;
+use std::alloc::{AllocError, Global};
 
-/// The status code of a list (RFC 9110, 200 OK).
-const OK: u16 = 200;
+/// Publishes what waits, unless changes are still owed, and gives a sink what is owed.
+fn give<I: Publishing, S: Sink>(
+    follower: &mut Follower<I>,
+    owed: &mut Owed,
+    sink: &mut S,
+) -> Result<(), AllocError> {
+    owed.publish(follower)?;
+    owed.give(follower.look(), sink)
+}
 
-/// Publishes what waits, and tells a sink of each change and then of the whole.
-pub(crate) fn publish<S: Sink>(follower: &mut Follower, sink: &mut S) -> Tried {
-    let shifts = match follower.publish() {
-        Ok(Some(shifts)) => shifts,
-        Ok(None) => return Tried::Done,
-        Err(_) => return Tried::Failed,
-    };
-    for shift in &shifts {
-        sink.shift(shift);
-    }
-    match sink.published(follower.look()) {
-        Onward::GoOn => Tried::Done,
+/// Publishes what waits and gives it to a sink, and asks whether to go on.
+pub(crate) fn publish<I: Publishing, S: Sink>(
+    follower: &mut Follower<I>,
+    owed: &mut Owed,
+    sink: &mut S,
+) -> Tried {
+    let given = give(follower, owed, sink);
+    match sink.goes_on() {
+        Onward::GoOn if given.is_ok() => Tried::Done,
+        Onward::GoOn => Tried::Failed,
         Onward::Stop => Tried::Stopped,
     }
 }
 
 /// Asks for a list, takes it in and publishes it.
-pub(crate) fn list<A: Api, S: Sink>(
+pub(crate) fn list<I: Publishing, A: Api, S: Sink>(
     alloc: Global,
     kind: Kind,
-    follower: &mut Follower,
+    follower: &mut Follower<I>,
+    owed: &mut Owed,
     api: &mut A,
     sink: &mut S,
 ) -> Tried {
-    match api.list(alloc, kind) {
-        Answer::Replied(reply) if reply.code == OK => match follower.on_listed(alloc, &reply.body) {
-            Ok(()) => publish(follower, sink),
-            Err(_) => Tried::Failed,
-        },
-        _ => Tried::Failed,
+    let answer = api.list(alloc, kind);
+    match follower.on_answer(alloc, &answer) {
+        Ok(()) => publish(follower, owed, sink),
+        Err(_) => Tried::Failed,
     }
 }

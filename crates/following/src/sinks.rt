@@ -1,5 +1,11 @@
 //! What is told of what a follower publishes.
+ghost use Rattle.std.specs.Prelude.{List, Bool, OnOk, map};
+ghost use Rattle.server_state.specs.Snapshots.{Snapshot};
+ghost use Rattle.controllers.specs.Shifts as words;
+ghost use Rattle.indexer.specs.Shifted.{shift_of};
+
 use indexer::{Indexed, Shift};
+use std::alloc::AllocError;
 
 /// Whether a follower goes on.
 #[derive(Debug, Clone, Copy, PartialEq, Eq)]
@@ -12,9 +18,19 @@ pub enum Onward {
 
 /// What is told of what a follower publishes.
 pub trait Sink {
-    /// Takes a change that was published.
-    fn shift(&mut self, shift: &Shift);
+    /// What a sink is after it took changes, by what it was before: any relation.
+    ghost takes: { Self → List words.Shift → Snapshot → Bool → Self → Type 0 };
 
-    /// Takes what is now published, after all of its changes, and returns whether the follower goes on.
-    fn published(&mut self, objects: &Indexed) -> Onward;
+    /// Takes the changes of a publish, in order, with what is now published, and whether this is the first publish that it takes. It takes
+    /// them all or none. The error is running out of memory: after a pause it is given the same again, and nothing is published before.
+    fn changed(
+        &mut self,
+        shifts: &[Shift],
+        objects: &Indexed,
+        is_first: bool,
+    ) -> Result<(), AllocError>
+        ensures { OnOk result (takes self.old (map shift_of shifts.now) objects.now is_first self.new) };
+
+    /// Returns whether the follower goes on. It is asked after each list, each piece of a watch, and each try that failed.
+    fn goes_on(&mut self) -> Onward;
 }

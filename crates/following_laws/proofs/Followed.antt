@@ -1,19 +1,19 @@
 -- Followers that take in lists and pieces of watches, and publish after each.
-use Rattle.std.proofs.Common.{◌≡◌, ◌≤◌, ◌++◌, ℕ, List, [], ◌∷◌, flat_map, Option, Some, refl, sym, ap, subst, ◌∙◌}
+use Rattle.std.proofs.Common.{◌≡◌, ◌≤◌, ◌++◌, ℕ, List, [], ◌∷◌, flat_map, Some, refl, sym, ap, subst, ◌∙◌}
 use Rattle.definitions.specs.declared.kinds.Kind.{Kind}
 use Rattle.definitions.specs.History.{History, list}
 use Rattle.definitions.specs.Streams.{Line, text_of_lines}
 use Rattle.server_state.specs.Snapshots.{Snapshot}
 use Rattle.controllers.specs.declared.reflectors.Phase.{Phase}
 use Rattle.controllers.specs.declared.reflectors.Phase.TheVariants.{Listing, Watching}
-use Rattle.controllers.specs.Informers.{Informer, all_applied}
-use Rattle.controllers.specs.Reflectors.{Reflector, Listed, Fed, list_of, list_delta, fed, fed_in, all_fed, apply_deltas}
+use Rattle.controllers.specs.Informers.{all_applied}
+use Rattle.controllers.specs.Reflectors.{Reflector, Fed, list_of, list_delta, fed, fed_in, all_fed, apply_deltas}
 use Rattle.laws.specs.SentLaws.{whole, listed_at}
 use Rattle.laws.proofs.SentLists.{lists_put, lists_read}
 use Rattle.reflector.specs.Laws.{IsAt, IsServed}
 use Rattle.reflector.proofs.Served.{cut_served}
 use Rattle.informer_laws.proofs.Publishing.{applied_both, applied_members, all_fed_names}
-use Rattle.following.specs.Followers.{Follower, after_list, after_bytes, after_cut, published}
+use Rattle.following.specs.Followers.{Follower, after_list, after_cut, published}
 use Rattle.following_laws.specs.FollowerLaws.{Shows, after_pieces, ListsAreShown, PiecesAreShown}
 
 -- ---- a list

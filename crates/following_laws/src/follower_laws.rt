@@ -1,5 +1,6 @@
 //! Laws of what followers publish.
 ghost use Rattle.following_laws.specs.FollowerLaws.{ListsAreShown, PiecesAreShown};
+ghost use Rattle.following_laws.specs.GivenLaws.{ChangesAreGivenOnce};
 
 /// Whoever asked a server: a follower that takes in its list and publishes has the server's list at that revision, whatever it had
 /// before.
@@ -12,4 +13,10 @@ pub fn lists_are_shown()
 /// there.
 pub fn pieces_are_shown()
     ensures { PiecesAreShown }
+{}
+
+/// Whatever lists, bytes, cuts and expiries come, and whenever a sink takes what it is owed: deltas lead from the map that the informer began with
+/// to what is published, and what the sink has taken and then what it is owed are their changes, in order, each once.
+pub fn changes_are_given_once()
+    ensures { ChangesAreGivenOnce }
 {}

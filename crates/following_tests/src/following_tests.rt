@@ -1,7 +1,8 @@
 //! What a follower asks, publishes and waits, of which no contract speaks.
 use crate::scripts::{Script, Seen, Waits, Watch};
 use definitions::kinds::Kind;
-use following::follow;
+use following::{Follower, follow};
+use informer::PlainInformer;
 use remote::Opened;
 use std::alloc::Global;
 use std::test::Fail;
@@ -46,12 +47,24 @@ struct Followed {
     asked: Vec<u64>,
     published: Vec<u64>,
     pauses: Vec<u64>,
-    changes: u64,
+    changes: usize,
+    firsts: usize,
     objects: usize,
 }
 
 /// Follows a script until revision 9.
 fn run_script(alloc: Global, lists: &[&str], watches: &[Watch<'_>]) -> Followed {
+    run_with(alloc, lists, watches, 0, usize::MAX)
+}
+
+/// Follows a script until revision 9, with a sink that refuses so many changes, and a clock that stops it at so many pauses.
+fn run_with(
+    alloc: Global,
+    lists: &[&str],
+    watches: &[Watch<'_>],
+    refusals: u64,
+    most: usize,
+) -> Followed {
     let mut script = Script {
         lists,
         watches,
@@ -62,20 +75,32 @@ fn run_script(alloc: Global, lists: &[&str], watches: &[Watch<'_>]) -> Followed 
     };
     let mut waits = Waits {
         now: 1_000_000,
+        most,
         pauses: Vec::new(alloc),
     };
     let mut seen = Seen {
         until: 9,
+        refusals,
         changes: 0,
+        firsts: 0,
         revisions: Vec::new(alloc),
         objects: 0,
     };
-    follow(alloc, Kind::ConfigMap, &mut script, &mut waits, &mut seen);
+    let mut follower = Follower::new(alloc, Kind::ConfigMap, PlainInformer::new(alloc));
+    follow(
+        alloc,
+        Kind::ConfigMap,
+        &mut follower,
+        &mut script,
+        &mut waits,
+        &mut seen,
+    );
     Followed {
         asked: script.asked,
         published: seen.revisions,
         pauses: waits.pauses,
         changes: seen.changes,
+        firsts: seen.firsts,
         objects: seen.objects,
     }
 }
@@ -129,5 +154,25 @@ fn lists_that_fail_are_asked_for_after_longer_pauses(rt: HostRuntime) -> Result<
         found.pauses.as_slice(),
         [800, 1_600, 3_200, 6_400, 12_800, 25_600, 30_000].as_slice()
     );
+    Ok(())
+}
+
+#[test]
+fn changes_that_were_not_taken_are_given_again(rt: HostRuntime) -> Result<(), Fail> {
+    let watches = [open(&[HALF, REST, HALF]), open(&[NINE])];
+    let found = run_with(rt.alloc(), &[LIST], &watches, 2, usize::MAX);
+    assert_eq!(rt; found.asked.as_slice(), [0, 5, 7].as_slice());
+    assert_eq!(rt; found.published.as_slice(), [5, 7, 9].as_slice());
+    assert_eq!(rt; found.pauses.as_slice(), [800, 1_600].as_slice());
+    assert_eq!(rt; (found.changes, found.firsts, found.objects), (1, 1, 1));
+    Ok(())
+}
+
+#[test]
+fn a_clock_stops_a_follower_that_waits(rt: HostRuntime) -> Result<(), Fail> {
+    let found = run_with(rt.alloc(), &[], &[], 0, 3);
+    assert_eq!(rt; found.asked.as_slice(), [0, 0, 0].as_slice());
+    assert!(rt; found.published.is_empty());
+    assert_eq!(rt; found.pauses.as_slice(), [800, 1_600, 3_200].as_slice());
     Ok(())
 }

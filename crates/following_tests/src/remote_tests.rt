@@ -1,8 +1,11 @@
 //! A server over a table of streams, of whose bytes no contract speaks.
-use client::{Answer, More, Outgoing};
+use client::{Answer, More};
 use definitions::kinds::Kind;
+use keys::Key;
+use lifecycle::DeleteOptions;
 use remote::{Api, Connect, Opened, Remote};
-use std::alloc::Global;
+use requests::Request;
+use std::alloc::{AllocError, Global};
 use std::io;
 use std::io::ErrorKind;
 use std::test::Fail;
@@ -68,6 +71,21 @@ fn word(answer: &Answer) -> &'static str {
     }
 }
 
+/// Returns a delete of a pod of this name.
+fn delete(alloc: Global, name: &str) -> Result<Request, AllocError> {
+    let key = Key {
+        kind: Kind::Pod,
+        namespace: String::from_str(alloc, "a")?,
+        name: String::from_str(alloc, name)?,
+    };
+    let options = DeleteOptions {
+        uid: None,
+        version: None,
+        policy: None,
+    };
+    Ok(Request::Delete(key, options))
+}
+
 #[test]
 fn each_request_has_a_connection_of_its_own(rt: HostRuntime) -> Result<(), Fail> {
     let streams: [&[u8]; 4] = [LIST, &LIST[..LIST.len() - 1], GONE, LIST];
@@ -76,14 +94,10 @@ fn each_request_has_a_connection_of_its_own(rt: HostRuntime) -> Result<(), Fail>
         let answer = server.list(rt.alloc(), Kind::Deployment);
         assert_eq!(rt; word(&answer), expected);
     }
-    let request = Outgoing {
-        method: "DELETE",
-        target: "/api/v1/namespaces/a/pods/b",
-        host: "localhost",
-        media_type: "application/json",
-        body: b"",
-    };
-    assert_eq!(rt; word(&server.call(rt.alloc(), request)), "replied");
+    for (name, expected) in [("a/b", "not sent"), ("b", "replied")] {
+        let request = delete(rt.alloc(), name)?;
+        assert_eq!(rt; word(&server.call(rt.alloc(), &request)), expected);
+    }
     assert_eq!(rt; word(&server.list(rt.alloc(), Kind::Pod)), "not sent");
     Ok(())
 }

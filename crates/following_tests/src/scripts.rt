@@ -1,9 +1,12 @@
 //! A server, a clock and a sink that play a script.
-use client::{Answer, More, Outgoing, Reply};
+ghost use Rattle.std.specs.Prelude.{⊤};
+
+use client::{Answer, More, Reply};
 use definitions::kinds::Kind;
 use following::{Indexed, Onward, Shift, Sink, Timer};
 use remote::{Api, Opened};
-use std::alloc::Global;
+use requests::Request;
+use std::alloc::{AllocError, Global};
 
 /// What is answered to who asks for a watch: what becomes of it, and the pieces that it gives before it is cut.
 #[derive(Clone, Copy)]
@@ -33,7 +36,7 @@ impl<'a> Script<'a> {
 }
 
 impl<'a> Api for Script<'a> {
-    fn call(&mut self, _alloc: Global, _request: Outgoing<'_>) -> Answer {
+    fn call(&mut self, _alloc: Global, _request: &Request) -> Answer {
         Answer::NotSent
     }
 
@@ -78,10 +81,11 @@ impl<'a> Api for Script<'a> {
     }
 }
 
-/// A clock that goes on by the pauses alone, which it records.
+/// A clock that goes on by the pauses alone, which it records, and stops the follower at one of them.
 #[derive(Drop)]
 pub struct Waits {
     pub now: u64,
+    pub most: usize,
     pub pauses: Vec<u64>,
 }
 
@@ -90,33 +94,52 @@ impl Timer for Waits {
         self.now
     }
 
-    fn pause(&mut self, milliseconds: u64) {
+    fn pause(&mut self, milliseconds: u64) -> Onward {
         let _ = self.pauses.push(milliseconds);
         self.now = self.now.saturating_add(milliseconds);
+        if self.pauses.len() < self.most {
+            Onward::GoOn
+        } else {
+            Onward::Stop
+        }
     }
 }
 
-/// Records the revisions that are published and counts the changes, and stops at a revision.
+/// Records the revisions that are published and counts the changes, and stops at a revision. It refuses some changes at first.
 #[derive(Drop)]
 pub struct Seen {
     pub until: u64,
-    pub changes: u64,
+    pub refusals: u64,
+    pub changes: usize,
+    pub firsts: usize,
     pub revisions: Vec<u64>,
     pub objects: usize,
 }
 
 impl Sink for Seen {
-    fn shift(&mut self, _shift: &Shift) {
-        self.changes = self.changes.saturating_add(1);
+    ghost takes = { λ before changes objects is_first after. ⊤ };
+
+    fn changed(
+        &mut self,
+        shifts: &[Shift],
+        objects: &Indexed,
+        is_first: bool,
+    ) -> Result<(), AllocError> {
+        if 0 < self.refusals {
+            self.refusals -= 1;
+            return Err(AllocError);
+        }
+        self.revisions.push(objects.revision())?;
+        self.changes = self.changes.saturating_add(shifts.len());
+        self.firsts = self.firsts.saturating_add(usize::from(is_first));
+        self.objects = objects.len();
+        Ok(())
     }
 
-    fn published(&mut self, objects: &Indexed) -> Onward {
-        let _ = self.revisions.push(objects.revision());
-        self.objects = objects.len();
-        if objects.revision() < self.until {
-            Onward::GoOn
-        } else {
-            Onward::Stop
+    fn goes_on(&mut self) -> Onward {
+        match self.revisions.last() {
+            Some(&revision) if self.until <= revision => Onward::Stop,
+            _ => Onward::GoOn,
         }
     }
 }

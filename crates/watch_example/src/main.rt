@@ -9,6 +9,8 @@ mod timing;
 
 use asked::Asked;
 use connecting::Connector;
+use following::Follower;
+use informer::PlainInformer;
 use printing::Printer;
 use remote::Remote;
 use std::io::BufWriter;
@@ -36,9 +38,12 @@ fn run(rt: &HostRuntime, asked: &Asked) -> io::Result<bool> {
         asked.kind,
         asked.until,
     );
+    let informer = PlainInformer::new(rt.alloc());
+    let mut follower = Follower::new(rt.alloc(), asked.kind, informer);
     following::follow(
         rt.alloc(),
         asked.kind,
+        &mut follower,
         &mut server,
         &mut timer,
         &mut printer,

@@ -1,9 +1,11 @@
 //! What is written of what is published.
+ghost use Rattle.std.specs.Prelude.{⊤};
+
 use definitions::kinds::Kind;
 use following::{Indexed, Onward, Shift, Sink};
 use keys::Key;
 use meta::Object;
-use std::alloc::Global;
+use std::alloc::{AllocError, Global};
 use std::io;
 use std::io::Write;
 
@@ -16,6 +18,8 @@ pub struct Printer<W> {
     until: Option<u64>,
     /// Whether a line could not be written.
     has_failed: bool,
+    /// Whether the last publish was written.
+    is_over: bool,
 }
 
 /// Returns what became of an object.
@@ -55,6 +59,7 @@ impl<W: Write> Printer<W> {
             kind,
             until,
             has_failed: false,
+            is_over: false,
         }
     }
 
@@ -64,7 +69,7 @@ impl<W: Write> Printer<W> {
     }
 
     /// Writes `published KIND REVISION OBJECTS`, and where it is the last publish all that is there, as `NAMESPACE/NAME REVISION`.
-    fn write_published(&mut self, objects: &Indexed, is_last: bool) -> io::Result<()> {
+    fn write_published(&mut self, objects: &Indexed) -> io::Result<()> {
         let revision = objects.revision();
         writeln!(
             self.writer,
@@ -72,7 +77,7 @@ impl<W: Write> Printer<W> {
             self.kind.name(),
             objects.len()
         )?;
-        if is_last {
+        if self.is_over {
             for entry in objects.list(self.alloc)? {
                 let Key {
                     namespace,
@@ -85,6 +90,14 @@ impl<W: Write> Printer<W> {
         self.writer.flush()
     }
 
+    /// Writes a line for each change, and what is then published.
+    fn write_changed(&mut self, shifts: &[Shift], objects: &Indexed) -> io::Result<()> {
+        for shift in shifts {
+            write_shift(&mut self.writer, shift)?;
+        }
+        self.write_published(objects)
+    }
+
     /// Returns whether the program ends at a revision.
     fn ends_at(&self, revision: u64) -> bool {
         match self.until {
@@ -95,18 +108,23 @@ impl<W: Write> Printer<W> {
 }
 
 impl<W: Write> Sink for Printer<W> {
-    fn shift(&mut self, shift: &Shift) {
-        if write_shift(&mut self.writer, shift).is_err() {
+    ghost takes = { λ before changes objects is_first after. ⊤ };
+
+    fn changed(
+        &mut self,
+        shifts: &[Shift],
+        objects: &Indexed,
+        _is_first: bool,
+    ) -> Result<(), AllocError> {
+        self.is_over = self.ends_at(objects.revision());
+        if self.write_changed(shifts, objects).is_err() {
             self.has_failed = true;
         }
+        Ok(())
     }
 
-    fn published(&mut self, objects: &Indexed) -> Onward {
-        let is_last = self.ends_at(objects.revision());
-        if self.write_published(objects, is_last).is_err() {
-            self.has_failed = true;
-        }
-        if is_last || self.has_failed {
+    fn goes_on(&mut self) -> Onward {
+        if self.is_over || self.has_failed {
             Onward::Stop
         } else {
             Onward::GoOn

@@ -1,5 +1,5 @@
 //! The clock of the machine.
-use following::Timer;
+use following::{Onward, Timer};
 use std::thread;
 use std::time::{Clock, Duration, Instant};
 
@@ -33,7 +33,8 @@ impl<R: Clock> Timer for Wall<'_, R> {
         u64::try_from(self.elapsed().as_millis()).unwrap_or(u64::MAX)
     }
 
-    fn pause(&mut self, milliseconds: u64) {
+    fn pause(&mut self, milliseconds: u64) -> Onward {
         thread::sleep(self.rt, Duration::from_millis(milliseconds));
+        Onward::GoOn
     }
 }

@@ -1,0 +1,57 @@
+-- What a follower makes of what a server answers (client-go, tools/cache, Reflector).
+use Rattle.std.specs.Prelude.{◌≡◌, ◌⊎◌, ℕ, List, length, take, nat_eq, nat_lt, nat_le, if◌then◌else◌, Bool, false, Option, Some, None, is_none, option_and_then}
+use Rattle.definitions.specs.declared.kinds.Kind.{Kind}
+use Rattle.controllers.specs.Reflectors.{Listed, list_of, fed}
+use Rattle.reflector.specs.declared.faults.ListFault.{ListFault}
+use Rattle.reflector.specs.declared.faults.ListFault.TheVariants as fault
+use Rattle.client.specs.declared.answer.Answer.{Answer}
+use Rattle.client.specs.declared.answer.Answer.TheVariants as answer
+use Rattle.client.specs.declared.more.More.{More}
+use Rattle.client.specs.declared.more.More.TheVariants as more
+use Rattle.remote.specs.declared.api.Opened.{Opened}
+use Rattle.remote.specs.declared.api.Opened.TheVariants as opened
+use Rattle.following.specs.Followers.{Follower, after_bytes, after_cut, after_expiry}
+use Rattle.following.specs.declared.tries.Tried.{Tried}
+use Rattle.following.specs.declared.tries.Tried.TheVariants as tried
+use Rattle.following.specs.declared.tries.Left.{Left}
+use Rattle.following.specs.declared.tries.Left.TheVariants as left
+
+-- the body of a reply with the status 200
+abbrev pub body_in : Answer → Option (List ℕ)
+body_in (answer.Replied r) = if nat_eq r.code 200 then Some r.body.items else None
+body_in answer.NotSent = None
+body_in answer.Lost = None
+
+-- the list of a kind that was answered
+abbrev pub listed_in : Kind → Answer → Option Listed
+listed_in k a = option_and_then (list_of k) (body_in a)
+
+-- running out of memory, or that no list was answered
+abbrev pub RefusesAnswer : Kind → Answer → ListFault → Type 0
+RefusesAnswer k a e = (e ≡ fault.Want) ⊎ ((e ≡ fault.Unreadable) × (listed_in k a ≡ None))
+
+-- where what a watch was to begin after is no longer known, or it is refused, a list is asked for; where it is lost, or the server asks for
+-- patience by 429, the same watch
+abbrev pub after_opened : Opened → Follower → Follower
+after_opened opened.Open f = f
+after_opened opened.Expired f = after_expiry f
+after_opened (opened.Refused code) f = if nat_eq code 429 then f else after_expiry f
+after_opened opened.Lost f = f
+
+-- the bytes that came, at the front of a buffer
+abbrev pub piece_in : More → List ℕ → Option (List ℕ)
+piece_in (more.Bytes n) buffer = if nat_le n (length buffer) then Some (take n buffer) else None
+piece_in more.End buffer = None
+piece_in more.Cut buffer = None
+
+-- bytes are taken in, and the watch goes on unless they end it; or memory ran out, and the watch is cut
+abbrev pub IsPieceTaken : List ℕ → Follower → Follower → Bool → Type 0
+IsPieceTaken bytes old new goes_on =
+    ((new ≡ after_bytes bytes old) × (goes_on ≡ is_none (fed old.reflector bytes).ended))
+    ⊎ ((new ≡ after_cut old) × (goes_on ≡ false))
+
+-- a watch that ends within a second and gave nothing is a failed try
+abbrev pub tried_after : Left → ℕ → Tried
+tried_after (left.Over gave) milliseconds = if gave then tried.Done else (if nat_lt milliseconds 1000 then tried.Failed else tried.Done)
+tried_after left.Failed milliseconds = tried.Failed
+tried_after left.Stopped milliseconds = tried.Stopped

@@ -1,0 +1,9 @@
+-- What is given to a sink.
+use Rattle.std.specs.Prelude.{◌≡◌, List, Bool, Option, Some, None}
+use Rattle.server_state.specs.Snapshots.{Snapshot}
+use Rattle.controllers.specs.Shifts.{Shift}
+
+-- the changes that are owed are taken, with the copy after them; where none are, the sink is left as it is
+abbrev pub IsGiven : {T : Type 0} → (T → List Shift → Snapshot → Bool → T → Type 0) → Option (List Shift) → Snapshot → Bool → T → T → Type 0
+IsGiven takes None objects is_first before after = after ≡ before
+IsGiven takes (Some changes) objects is_first before after = takes before changes objects is_first after

@@ -1,0 +1,78 @@
+//! What a follower makes of what a server answers.
+ghost use Rattle.std.specs.Prelude.{◌≡◌, OnOk, OnErr, IfErr, IsSome, option_map};
+ghost use Rattle.following.specs.Followers.{after_list};
+ghost use Rattle.following.specs.Answered.{listed_in, RefusesAnswer, after_opened, piece_in, IsPieceTaken};
+
+use crate::follower::Follower;
+use client::{Answer, More};
+use informer::Publishing;
+use reflector::ListFault;
+use remote::Opened;
+use std::alloc::Global;
+
+/// The status code of a list (RFC 9110, 200 OK).
+const OK: u16 = 200;
+
+/// The status code by which a server asks for patience (RFC 6585, 429 Too Many Requests).
+const TOO_MANY_REQUESTS: u16 = 429;
+
+/// Returns the bytes that came, at the front of the buffer, if some did.
+pub(crate) fn piece_in(more: More, buffer: &[u8]) -> Option<&[u8]>
+    ensures { option_map (λ p. p.now) result ≡ piece_in more buffer.entry.now }
+{
+    match more {
+        More::Bytes(n) => buffer.get(..n),
+        More::End | More::Cut => None,
+    }
+}
+
+impl<I: Publishing> Follower<I> {
+    /// Takes in what became of the request for a list. The error is that no list was answered, or running out of memory; it changes nothing.
+    pub(crate) fn on_answer(&mut self, alloc: Global, answer: &Answer) -> Result<(), ListFault>
+        ensures ok { OnOk result (self.new ≡ after_list (listed_in self.old.reflector.kind answer.now) self.old) }
+        ensures listed { OnOk result (IsSome (listed_in self.old.reflector.kind answer.now)) }
+        ensures refused { IfErr result (RefusesAnswer self.old.reflector.kind answer.now) }
+        ensures err { OnErr result (self.new ≡ self.old) }
+    {
+        match answer {
+            Answer::Replied(reply) => {
+                if reply.code == OK {
+                    self.on_listed(alloc, &reply.body)
+                } else {
+                    Err(ListFault::Unreadable)
+                }
+            }
+            Answer::NotSent | Answer::Lost => Err(ListFault::Unreadable),
+        }
+    }
+
+    /// Takes in what became of the request for a watch. Where what it was to begin after is no longer known, or it is refused, a list is asked
+    /// for next; where it is lost, or the server asks for patience, the same watch.
+    pub(crate) fn on_opened(&mut self, opened: Opened)
+        ensures { self.new ≡ after_opened opened self.old }
+    {
+        match opened {
+            Opened::Open | Opened::Lost => {}
+            Opened::Expired => self.on_expired(),
+            Opened::Refused(code) => {
+                if code != TOO_MANY_REQUESTS {
+                    self.on_expired();
+                }
+            }
+        }
+    }
+
+    /// Takes in a piece of a watch, and returns whether the watch goes on: not where it has expired or cannot be read, nor where memory runs out,
+    /// by which it is cut, to be asked for again from the revision that was taken in.
+    pub(crate) fn on_piece(&mut self, alloc: Global, bytes: &[u8]) -> bool
+        ensures { IsPieceTaken bytes.now self.old self.new result }
+    {
+        match self.on_bytes(alloc, bytes) {
+            Ok(end) => end.is_none(),
+            Err(_) => {
+                self.on_cut();
+                false
+            }
+        }
+    }
+}
