@@ -1,25 +1,18 @@
--- What a publish leaves, whether it published or not.
-use Rattle.std.proofs.Common.{◌≡◌, List, [], ◌++◌, fold, sym, ap, ◌∙◌, subst, Result, Ok, Err, OnOk, MatchResult}
+-- What a publish leaves.
+use Rattle.std.proofs.Common.{◌≡◌, List, ◌++◌, fold, sym, ap, ◌∙◌, subst}
+use Rattle.std.specs.declared.sync.Arc.{Arc}
 use Rattle.controllers.specs.Informers.{all_applied}
 use Rattle.reflector.specs.Deltas.{deltas_of}
 use Rattle.reflector.specs.declared.deltas.Delta.{Delta}
 use Rattle.listers.specs.declared.published.Published.{Published}
 use Rattle.listers.specs.declared.views.View.{View}
-use Rattle.listers.specs.Published.{with_delta, IsAfter}
+use Rattle.listers.specs.Published.{with_shared, IsAfter}
 use Rattle.listers.specs.Knowing.{knowing, latest}
-use Rattle.listers.proofs.Keeps.{folded, after_more}
+use Rattle.listers.proofs.Keeps.{Says, folded_as, after_more}
 
-module _ {A E : Type 0} (x y : Published) (v w : View) (ps ws : List Delta) where
-  abbrev Values : Result A E → Type 0
-  Values r = MatchResult r (λ _. (y ≡ fold with_delta x ps) × (ws ≡ [])) (λ _. (y ≡ x) × (ws ≡ ps))
+module _ {A : Type 0} (x y : Published) (v w : View) (ps : List (Arc Delta A)) (ms : List Delta) where
+  pub after_batch : Says ps ms → IsAfter (latest v) x → y ≡ fold with_shared x ps → w ≡ knowing (latest v ++ ms) → IsAfter (latest w) y
+  after_batch says mine is knows = subst (λ (u : View). IsAfter (latest u) y) (sym knows) (subst (IsAfter (latest v ++ ms)) (sym is) (after_more (latest v) ms ps x says mine))
 
-  abbrev Ruled : Result A E → Type 0
-  Ruled r = MatchResult r (λ _. w ≡ knowing (latest v ++ ps)) (λ _. w ≡ v)
-
-  pub after_batch : (r : Result A E) → IsAfter (latest v) x → Values r → Ruled r → IsAfter (latest w) y
-  after_batch (Ok a) mine e knows = subst (λ (u : View). IsAfter (latest u) y) (sym knows) (subst (IsAfter (latest v ++ ps)) (sym e.0) (after_more (latest v) ps x mine))
-  after_batch (Err a) mine e knows = subst (λ (u : View). IsAfter (latest u) y) (sym knows) (subst (IsAfter (latest v)) (sym e.0) mine)
-
-  pub published_batch : (r : Result A E) → Values r → Ruled r → OnOk r ((y.indexed ≡ all_applied x.indexed (deltas_of ps)) × (latest w ≡ latest v ++ ps) × (ws ≡ []))
-  published_batch (Ok a) e knows = (ap (λ (p : Published). p.indexed) e.0 ∙ folded ps x, ap latest knows, e.1)
-  published_batch (Err a) e knows = tt
+  pub published_batch : (ws : List Delta) → Says ps ms → ms ≡ ws → y ≡ fold with_shared x ps → w ≡ knowing (latest v ++ ms) → (y.indexed ≡ all_applied x.indexed (deltas_of ws)) × (latest w ≡ latest v ++ ws)
+  published_batch ws says all is knows = (ap (λ (p : Published). p.indexed) is ∙ folded_as ps ms x says ∙ ap (λ ds. all_applied x.indexed (deltas_of ds)) all, ap latest knows ∙ ap (λ ds. latest v ++ ds) all)

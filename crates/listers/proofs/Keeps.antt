@@ -1,9 +1,11 @@
 -- Each step keeps the rule.
 use Rattle.std.proofs.Common.{◌≡◌, ◌≢◌, ℕ, zero, suc, ◌+◌, List, [], ◌∷◌, ◌++◌, length, fold, set, sym, refl, ap, ◌∙◌, subst, ⊎_elim, append-nil, append_assoc, length-append, arith}
+use Rattle.std.proofs.lemmas.List.{length-map}
 use Rattle.std.proofs.lemmas.List.Elements.{All-append}
 use Rattle.std.specs.Prelude.{All, slice_index_or}
 use mathlib.Core.Option.{some}
 use lib.ListN.{get_elem?}
+use Rattle.std.specs.declared.sync.Arc.{Arc}
 use Rattle.crossbeam_utils.specs.Register.{Admits, TurnsAt, Turns, Forks, Merges}
 use Rattle.atomic_table.proofs.Lists.{at_set, at_snoc}
 use Rattle.server_state.specs.Snapshots.{Snapshot}
@@ -13,7 +15,8 @@ use Rattle.reflector.specs.Deltas.{delta_of, deltas_of}
 use Rattle.reflector.specs.declared.deltas.Delta.{Delta}
 use Rattle.listers.specs.declared.published.Published.{Published}
 use Rattle.listers.specs.declared.views.View.{View}
-use Rattle.listers.specs.Published.{with_delta, IsAfter}
+use Rattle.listers.specs.Published.{with_shared, IsAfter}
+use Rattle.listers.specs.SharedDeltas.{all_in}
 use Rattle.listers.specs.Knowing.{StartsWith, StartsWithAll, knowing_nothing, knowing, knowing_both, first_of, latest, IsKept, HasSeen}
 
 -- ---- deltas applied one after another
@@ -26,18 +29,25 @@ pub deltas_both : (ds es : List Delta) → deltas_of (ds ++ es) ≡ deltas_of ds
 deltas_both [] es = refl
 deltas_both (d ∷ ds) es = ap (λ xs. delta_of d ∷ xs) (deltas_both ds es)
 
-pub folded : (ps : List Delta) (p : Published) → (fold with_delta p ps).indexed ≡ all_applied p.indexed (deltas_of ps)
+-- shared deltas that say what others do
+abbrev pub Says : {A : Type 0} → List (Arc Delta A) → List Delta → Type 0
+Says ps ms = deltas_of (all_in ps) ≡ deltas_of ms
+
+pub folded : {A : Type 0} (ps : List (Arc Delta A)) (p : Published) → (fold with_shared p ps).indexed ≡ all_applied p.indexed (deltas_of (all_in ps))
 folded [] p = refl
-folded (d ∷ ps) p = folded ps (with_delta p d)
+folded (d ∷ ps) p = folded ps (with_shared p d)
 
-counted : (ps : List Delta) (p : Published) → (fold with_delta p ps).count ≡ p.count + length ps
+counted : {A : Type 0} (ps : List (Arc Delta A)) (p : Published) → (fold with_shared p ps).count ≡ p.count + length (deltas_of (all_in ps))
 counted [] p = omega arith
-counted (d ∷ ps) p = let e = counted ps (with_delta p d) in omega (arith, e)
+counted (d ∷ ps) p = let e = counted ps (with_shared p d) in omega (arith, e)
 
-pub after_more : (ds ps : List Delta) (p : Published) → IsAfter ds p → IsAfter (ds ++ ps) (fold with_delta p ps)
-after_more ds ps p after = (
-  folded ps p ∙ ap (λ s. all_applied s (deltas_of ps)) after.0 ∙ sym (applied_both nothing (deltas_of ds) (deltas_of ps)) ∙ ap (all_applied nothing) (sym (deltas_both ds ps)),
-  (let n = counted ps p in let m = after.1 in omega (arith, length-append ds ps, n, m)),
+pub folded_as : {A : Type 0} (ps : List (Arc Delta A)) (ms : List Delta) (p : Published) → Says ps ms → (fold with_shared p ps).indexed ≡ all_applied p.indexed (deltas_of ms)
+folded_as ps ms p says = folded ps p ∙ ap (all_applied p.indexed) says
+
+pub after_more : {A : Type 0} (ds ms : List Delta) (ps : List (Arc Delta A)) (p : Published) → Says ps ms → IsAfter ds p → IsAfter (ds ++ ms) (fold with_shared p ps)
+after_more ds ms ps p says after = (
+  folded_as ps ms p says ∙ ap (λ s. all_applied s (deltas_of ms)) after.0 ∙ sym (applied_both nothing (deltas_of ds) (deltas_of ms)) ∙ ap (all_applied nothing) (sym (deltas_both ds ms)),
+  (let n = counted ps p in let m = after.1 in let same : length (deltas_of (all_in ps)) ≡ length (deltas_of ms) = ap length says in omega (arith, length-append ds ms, n, m, same, length-map ms delta_of)),
 )
 
 -- ---- beginnings
@@ -81,17 +91,17 @@ admits p views k = (k.0, k.1, each_more k.0 views knowing_nothing k.2 (none_know
 pub sees : (seat : ℕ) (v : View) → Turns IsKept seat v (λ p. p) (λ v x y w. HasSeen v y w)
 sees seat v p views k at = (knowing k.0, (k.0, k.1, each_set k.0 views seat (knowing k.0) k.2 (one_known k.0)), (k.0, refl, k.1, k.2 seat v at))
 
-pub publishes : (seat : ℕ) (v : View) (p next : Published) (ps : List Delta) → IsAfter (latest v) p → next ≡ fold with_delta p ps → TurnsAt IsKept seat v p next (λ v x y w. w ≡ knowing (latest v ++ ps))
-publishes seat v p next ps mine is views k at =
+pub publishes : {A : Type 0} (seat : ℕ) (v : View) (p next : Published) (ps : List (Arc Delta A)) (ms : List Delta) → Says ps ms → IsAfter (latest v) p → next ≡ fold with_shared p ps → TurnsAt IsKept seat v p next (λ v x y w. w ≡ knowing (latest v ++ ms))
+publishes seat v p next ps ms says mine is views k at =
     let front = first_known k.0 v.known (k.2 seat v at) in
     let same : k.0 ≡ latest v = whole k.0 (latest v) front.0 front.1 (sym k.1.1 ∙ mine.1) in
     let each : Each (latest v) views = subst (λ ds. Each ds views) same k.2 in
-    let all = latest v ++ ps in (
+    let all = latest v ++ ms in (
       knowing all,
       (
         all,
-        subst (IsAfter all) (sym is) (after_more (latest v) ps p mine),
-        each_set all views seat (knowing all) (λ j u e. still_known (latest v) ps u (each j u e)) (one_known all),
+        subst (IsAfter all) (sym is) (after_more (latest v) ms ps p says mine),
+        each_set all views seat (knowing all) (λ j u e. still_known (latest v) ms u (each j u e)) (one_known all),
       ),
       refl,
     )

@@ -1,2 +1,4 @@
 pub mod Keeps
+pub mod Logs
 pub mod Batches
+pub mod Sent

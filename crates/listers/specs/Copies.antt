@@ -1,11 +1,12 @@
 -- The two copies of a map.
-use Rattle.std.specs.Prelude.{◌≡◌, ◌++◌, List, [], drop}
+use Rattle.std.specs.Prelude.{◌≡◌, ◌++◌, List, []}
 use Rattle.server_state.specs.Snapshots.{Snapshot}
 use Rattle.left_right.specs.Sides.{view}
 use Rattle.controllers.specs.Informers.{all_applied}
 use Rattle.reflector.specs.Deltas.{deltas_of}
 use Rattle.reflector.specs.declared.deltas.Delta.{Delta}
 use Rattle.listers.specs.Knowing.{latest}
+use Rattle.listers.specs.SharedDeltas.{all_in}
 use Rattle.listers.specs.declared.copies.Copies.{Copies}
 
 -- the map that readers see
@@ -18,7 +19,7 @@ deltas_shown c = latest (view c.writer.desk.place)
 
 -- the deltas that wait
 abbrev pub deltas_waiting : Copies → List Delta
-deltas_waiting c = drop c.writer.behind c.writer.log.items
+deltas_waiting c = all_in c.waiting.items
 
 -- nothing that readers see or that waits has changed
 abbrev pub IsSame : Copies → Copies → Type 0

@@ -1,5 +1,7 @@
+pub mod SharedDeltas
 pub mod Published
 pub mod Knowing
 pub mod Copies
 pub mod Listers
 pub mod Informers
+pub mod Shared

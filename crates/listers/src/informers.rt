@@ -2,7 +2,7 @@
 use crate::copies::Copies;
 use crate::listers::Lister;
 use core::mem::replace_with;
-use indexer::Indexed;
+use indexer::{Indexed, Shift};
 use reflector::Delta;
 use std::alloc::{AllocError, Global};
 use std::sync::Wait;
@@ -13,9 +13,12 @@ pub struct Informer {
 }
 
 impl Informer {
-    ghost use Rattle.std.specs.Prelude.{◌≡◌, ◌^◌, ◌<◌, [], ◌∷◌, ◌++◌, IfOk, IfErr, OnOk, OnErr};
+    ghost use Rattle.std.specs.Prelude.{◌≡◌, ◌^◌, ◌<◌, [], ◌∷◌, ◌++◌, IfOk, IfErr, OnOk, OnErr, length, map};
     ghost use Rattle.controllers.specs.Informers.{begun, appended, after_publish};
-    ghost use Rattle.reflector.specs.Deltas.{delta_of};
+    ghost use Rattle.controllers.specs.Shifts.{all_shifts};
+    ghost use Rattle.indexer.specs.Shifted.{shift_of};
+    ghost use Rattle.informer.specs.Appended.{all_appended};
+    ghost use Rattle.reflector.specs.Deltas.{delta_of, deltas_of};
     ghost use Rattle.listers.specs.Informers.{informer_of, published_deltas, pending_deltas, IsSame};
     ghost use Rattle.listers.specs.Listers.{known_last};
 
@@ -54,10 +57,29 @@ impl Informer {
         self.copies.append(delta)
     }
 
-    /// Publishes the deltas that wait, all of them. It costs what they cost, and not the map. It waits for looks at the map
-    /// that was published before the present one. The error is running out of memory: none is published, and all wait.
-    pub fn publish<R: Wait>(&mut self, rt: &R) -> Result<(), AllocError>
+    /// Appends deltas, which wait for the next publish. The error is running out of memory, and changes nothing.
+    pub fn append_all(&mut self, deltas: Vec<Delta>) -> Result<(), AllocError>
+        ensures ok { OnOk result (informer_of self.new ≡ all_appended (informer_of self.old) (deltas_of deltas.items)) }
+        ensures waits { OnOk result (pending_deltas self.new ≡ pending_deltas self.old ++ deltas.items) }
+        ensures deltas { published_deltas self.new ≡ published_deltas self.old }
+        ensures err { OnErr result (IsSame self.old self.new) }
+    {
+        self.copies.append_all(deltas)
+    }
+
+    /// Returns how many deltas wait for the next publish. It takes no memory.
+    pub fn waiting(&self) -> usize
+        ensures { result ≡ length (informer_of self.now).pending }
+    {
+        self.copies.waiting()
+    }
+
+    /// Publishes the deltas that wait, all of them, and returns what they change, delta by delta. It costs what they cost; where
+    /// there are more than one, also a copy of the map. It waits for looks at the map that was published before the present one,
+    /// and for none where no delta waits. The error is running out of memory: none is published, and all wait.
+    pub fn publish<R: Wait>(&mut self, rt: &R) -> Result<Vec<Shift>, AllocError>
         ensures ok { OnOk result (informer_of self.new ≡ after_publish (informer_of self.old)) }
+        ensures shifts { IfOk result (λ v. map shift_of v.items ≡ all_shifts (informer_of self.old).published.members (informer_of self.old).pending) }
         ensures deltas { OnOk result (published_deltas self.new ≡ published_deltas self.old ++ pending_deltas self.old) }
         ensures err { OnErr result (IsSame self.old self.new) }
     {

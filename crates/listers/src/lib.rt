@@ -1,14 +1,18 @@
 //! Informers whose maps are read without waiting: two copies take turns, and every reader sees a map that was published whole.
 #![tactic(auto)]
 
+pub(crate) mod changes;
 pub(crate) mod copies;
 pub mod informers;
 pub mod listers;
 pub(crate) mod published;
 pub(crate) mod rules;
 pub mod seen;
+pub mod shared;
+pub(crate) mod shared_deltas;
 pub(crate) mod views;
 
-pub use indexer::Indexed;
+pub use indexer::{Indexed, Shift};
 pub use informers::Informer;
 pub use listers::{Lister, Look};
+pub use shared::SharedInformer;

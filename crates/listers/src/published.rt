@@ -1,7 +1,7 @@
 //! A copy of the map.
+use crate::shared_deltas::SharedDelta;
 use indexer::Indexed;
 use left_right::Absorb;
-use reflector::Delta;
 use std::alloc::{AllocError, Global};
 
 /// A map, with the count of the deltas that made it.
@@ -26,16 +26,16 @@ impl Published {
     }
 }
 
-impl Absorb<Delta> for Published {
-    ghost use Rattle.listers.specs.Published.{with_delta};
+impl Absorb<SharedDelta> for Published {
+    ghost use Rattle.listers.specs.Published.{with_shared};
 
     type State = Published;
 
     ghost state = { λ p. p };
 
-    ghost applied = { with_delta };
+    ghost applied = { with_shared };
 
-    fn absorb_first(&mut self, delta: &Delta, _other: &Published) -> Result<(), AllocError> {
+    fn absorb_first(&mut self, delta: &SharedDelta, _other: &Published) -> Result<(), AllocError> {
         let count = self.count.checked_add(1).ok_or(AllocError)?;
         self.indexed.apply(delta)?;
         self.count = count;

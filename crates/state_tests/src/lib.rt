@@ -2,8 +2,12 @@
 #![tactic(auto)]
 
 #[cfg(test)]
+mod noted;
+#[cfg(test)]
 mod revisions_tests;
 #[cfg(test)]
 mod store_tests;
 #[cfg(test)]
 mod watch_cache_tests;
+#[cfg(test)]
+mod window_tests;

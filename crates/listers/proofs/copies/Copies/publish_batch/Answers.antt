@@ -1,37 +1,40 @@
-use Rattle.std.proofs.Common.{◌≡◌, List, ◌++◌, fold, sym, ap, ◌∙◌, subst, MatchResult}
+use Rattle.std.proofs.Common.{◌≡◌, [], length, sym, ap, ◌∙◌, arith}
 use Rattle.left_right.specs.Sides.{view}
-use Rattle.reflector.specs.declared.deltas.Delta.{Delta}
+use Rattle.reflector.specs.Deltas.{deltas_of}
 use Rattle.listers.specs.Copies.{deltas_waiting}
-use Rattle.listers.specs.Knowing.{knowing, latest}
-use Rattle.listers.specs.Published.{with_delta}
+use Rattle.listers.specs.SharedDeltas.{all_in}
 use Rattle.listers.proofs.Batches.{after_batch, published_batch}
 use Rattle.listers.proofs.Keeps.{publishes}
+use Rattle.listers.proofs.Logs.{all_logged}
 use Rattle.listers.proofs.copies.Copies.publish_batch.Goals as goal
 
 pub publish_as-writer-requires : goal.publish_as-writer-requires
 publish_as-writer-requires g c next is =
-    let w = c.args.self.writer in publishes _ _ _ next _ c.args.self.after (is ∙ ap (fold with_delta w.desk.shown.value) (sym c.requires))
+    let self = c.args.self in
+    let says = all_logged _ self.waiting.items self.logged self.in_log c.requires.logged ∙ ap deltas_of (sym c.requires.batch) in
+    publishes _ _ _ next _ _ says self.after is
 
-pub invariant_of-result : goal.invariant_of-result
-invariant_of-result g c =
-    let old = c.args.self.writer in
+pub invariant_of-copies : goal.invariant_of-copies
+invariant_of-copies g c =
+    let self = c.args.self in
+    let old = self.writer in
     let new = c.publish_as-writer.result.0 in
-    let done = c.publish_as-writer.ensures in
-    let v = view old.desk.place in
-    let w = view new.desk.place in
-    let r = c.publish_as-writer.result.1 in
+    let values = rw c.in-Ok.is at c.publish_as-writer.ensures.values in
+    let knows = rw c.in-Ok.is at c.publish_as-writer.ensures.rule in
+    let says = all_logged _ self.waiting.items self.logged self.in_log c.requires.logged ∙ ap deltas_of (sym c.requires.batch) in
     record {
-      after = after_batch old.desk.shown.value new.desk.shown.value v w (deltas_waiting c.args.self) _ r c.args.self.after done.values
-          (subst (λ (ps : List Delta). MatchResult r (λ _. w ≡ knowing (latest v ++ ps)) (λ _. w ≡ v)) c.requires done.rule);
+      after = after_batch old.desk.shown.value new.desk.shown.value (view old.desk.place) (view new.desk.place) _ _ says self.after values.0 knows;
+      in_log = ap (λ ps. deltas_of (all_in ps)) values.1;
+      some = omega arith;
     }
 
-pub returns-clause-ok : goal.returns-clause-ok
-returns-clause-ok g c =
-    let old = c.args.self.writer in
+pub returns-in-Ok-clause-ok : goal.returns-in-Ok-clause-ok
+returns-in-Ok-clause-ok g c =
+    let self = c.args.self in
+    let old = self.writer in
     let new = c.publish_as-writer.result.0 in
-    let done = c.publish_as-writer.ensures in
-    let v = view old.desk.place in
-    let w = view new.desk.place in
-    let r = c.publish_as-writer.result.1 in
-    published_batch old.desk.shown.value new.desk.shown.value v w (deltas_waiting c.args.self) _ r done.values
-    (subst (λ (ps : List Delta). MatchResult r (λ _. w ≡ knowing (latest v ++ ps)) (λ _. w ≡ v)) c.requires done.rule)
+    let values = rw c.in-Ok.is at c.publish_as-writer.ensures.values in
+    let knows = rw c.in-Ok.is at c.publish_as-writer.ensures.rule in
+    let says = all_logged _ self.waiting.items self.logged self.in_log c.requires.logged ∙ ap deltas_of (sym c.requires.batch) in
+    let both = published_batch old.desk.shown.value new.desk.shown.value (view old.desk.place) (view new.desk.place) _ _ (deltas_waiting self) says c.requires.batch values.0 knows in
+    (both.0, both.1, ap all_in c.clear.ensures.items)

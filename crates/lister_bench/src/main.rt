@@ -1,0 +1,84 @@
+//! Measures an informer whose map is read without waiting: `lister_bench WHAT NUMBER` takes in 10,000 Pods, and then does WHAT:
+//! `publish` publishes a delta so many times, and `looks` has so many threads look for two seconds, while another publishes a
+//! thousand deltas a second, or as many as it can. It prints how many shifts the publishes had, or how many looks and publishes
+//! there were a second.
+#![tactic(auto)]
+
+mod looks;
+mod pods;
+mod publishes;
+
+use std::alloc::{AllocError, Global};
+use std::process::ExitCode;
+use std::sync::Wait;
+use std::thread::Threads;
+use std::time::Clock;
+use std::{env, io};
+
+/// What is measured.
+#[derive(Clone, Copy)]
+pub enum What {
+    Publish,
+    Looks,
+}
+
+/// Returns what a word asks for.
+fn named(word: &str) -> Option<What> {
+    match word {
+        "publish" => Some(What::Publish),
+        "looks" => Some(What::Looks),
+        _ => None,
+    }
+}
+
+/// Returns what the arguments ask for, and the number.
+fn asked(rt: &HostRuntime) -> io::Result<Option<(What, u32)>> {
+    let mut words = env::args(rt)?;
+    let _program = words.next();
+    let (Some(what), Some(number), None) = (words.next(), words.next(), words.next()) else {
+        return Ok(None);
+    };
+    let (Some(what), Ok(number)) = (named(what.as_str()), number.as_str().parse::<u32>()) else {
+        return Ok(None);
+    };
+    Ok(Some((what, number)))
+}
+
+/// Returns what was measured, as a text.
+fn measured<R: Threads + Wait + Clock + Sync>(
+    rt: &R,
+    alloc: Global,
+    what: What,
+    number: u32,
+) -> Result<String, AllocError> {
+    match what {
+        What::Publish => {
+            let shifts = publishes::run(rt, alloc, number)?;
+            format!(in alloc; "{shifts} shifts")
+        }
+        What::Looks => {
+            let counts = looks::run(rt, alloc, number)?;
+            format!(in alloc;
+                "{} looks and {} publishes a second",
+                counts.looks, counts.publishes
+            )
+        }
+    }
+}
+
+fn main(rt: HostRuntime) -> io::Result<ExitCode> {
+    let Some((what, number)) = asked(&rt)? else {
+        eprintln!(rt; "lister_bench: bad arguments")?;
+        return Ok(ExitCode::from(2));
+    };
+    match measured(&rt, rt.alloc(), what, number) {
+        Ok(text) => {
+            println!(rt; "{text}")?;
+            Ok(ExitCode::SUCCESS)
+        }
+        Err(_) => {
+            eprintln!(rt; "lister_bench: no memory")?;
+            Ok(ExitCode::from(1))
+        }
+    }
+}

@@ -1,0 +1,8 @@
+-- An informer with a runtime.
+use denote.Ref.{Bor}
+use Rattle.listers.specs.declared.informers.Informer.{Informer}
+use Rattle.listers.specs.declared.shared.SharedInformer.{SharedInformer}
+
+-- the informer that is in it
+abbrev pub inner : {R : Type 0} → SharedInformer R → Informer
+inner s = s.informer

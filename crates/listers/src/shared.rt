@@ -1,0 +1,74 @@
+//! An informer with the runtime by which it waits.
+use crate::informers::Informer;
+use indexer::{Indexed, Shift};
+use informer::Publishing;
+use reflector::Delta;
+use std::alloc::AllocError;
+use std::sync::Wait;
+
+/// An informer whose map is read without waiting, where it is to be published with no word of a runtime. It is not dropped: end
+/// the informer that is in it by `close`.
+pub struct SharedInformer<'a, R> {
+    runtime: &'a R,
+    informer: Informer,
+}
+
+impl<'a, R> SharedInformer<'a, R> {
+    ghost use Rattle.std.specs.Prelude.{◌≡◌};
+    ghost use Rattle.listers.specs.Shared.{inner};
+
+    /// Returns an informer, with the runtime by which its publishes wait.
+    pub fn new(runtime: &'a R, informer: Informer) -> SharedInformer<'a, R>
+        ensures { inner result ≡ informer }
+    {
+        SharedInformer { runtime, informer }
+    }
+
+    /// Returns a reference to the informer. It takes no memory.
+    pub fn informer(&self) -> &Informer
+        ensures { result.now ≡ inner self.now }
+    {
+        &self.informer
+    }
+
+    /// Returns the informer, to make listers of, or to close.
+    pub fn into_informer(self) -> Informer
+        ensures { result ≡ inner self.entry }
+    {
+        let SharedInformer {
+            runtime: _,
+            informer,
+        } = self;
+        informer
+    }
+}
+
+impl<'a, R: Wait> Publishing for SharedInformer<'a, R> {
+    ghost use Rattle.listers.specs.Informers as informers;
+    ghost use Rattle.listers.specs.Shared.{inner};
+
+    ghost informer_of = { λ s. informers.informer_of (inner s) };
+
+    fn append(&mut self, delta: Delta) -> Result<(), AllocError> {
+        match self.informer.append(delta) {
+            Ok(()) => Ok(()),
+            Err(_) => Err(AllocError),
+        }
+    }
+
+    fn append_all(&mut self, deltas: Vec<Delta>) -> Result<(), AllocError> {
+        self.informer.append_all(deltas)
+    }
+
+    fn waiting(&self) -> usize {
+        self.informer.waiting()
+    }
+
+    fn publish(&mut self) -> Result<Vec<Shift>, AllocError> {
+        self.informer.publish(self.runtime)
+    }
+
+    fn published(&self) -> &Indexed {
+        self.informer.published()
+    }
+}
