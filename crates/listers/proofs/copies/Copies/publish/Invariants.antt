@@ -1,5 +1,0 @@
-use Rattle.listers.specs.Copies.{deltas_waiting}
-use Rattle.listers.proofs.copies.Copies.publish.Given as goal
-
-abbrev pub ghosts-publish_batch : goal.ghosts-publish_batch
-ghosts-publish_batch g a = record { deltas = deltas_waiting a.self }
