@@ -15,7 +15,7 @@ use std::io::{BufRead, ErrorKind, Write};
 const KEPT_CAPACITY: usize = 1 << 20;
 
 /// Returns the bytes without a newline at their end.
-fn without_newline(line: &[u8]) -> &[u8]
+pub fn without_newline(line: &[u8]) -> &[u8]
     ensures { result.now ≡ strip_last 10 line.now }
 {
     let len = line.len();
@@ -27,7 +27,7 @@ fn without_newline(line: &[u8]) -> &[u8]
 }
 
 /// Returns why a line was not read: there was no memory for it, or the reader failed.
-fn unread(error: &io::Error) -> RunFault
+pub fn unread(error: &io::Error) -> RunFault
     ensures want { error_kind error.now ≡ ErrorKind.OutOfMemory → result ≡ RunFault.Want }
     ensures read { error_kind error.now ≢ ErrorKind.OutOfMemory → result ≡ RunFault.Read }
     ensures reader { result ≢ RunFault.Write }
@@ -40,7 +40,7 @@ fn unread(error: &io::Error) -> RunFault
 }
 
 /// Empties the buffer for the next line, and gives the memory of a very long line back.
-fn make_ready(line: &mut Vec<u8>)
+pub fn make_ready(line: &mut Vec<u8>)
     ensures empty { line.new.items ≡ [] }
     ensures small { vec_capacity line.new ≤ KEPT_CAPACITY }
 {
@@ -75,7 +75,7 @@ fn write_text<W: Write>(writer: &mut W, text: &[u8]) -> Result<(), RunFault>
 }
 
 /// Writes a reply and flushes the writer. An empty reply writes nothing and flushes nothing.
-fn send<W: Write>(writer: &mut W, reply: &[u8]) -> Result<(), RunFault>
+pub fn send<W: Write>(writer: &mut W, reply: &[u8]) -> Result<(), RunFault>
     ensures ok { OnOk result (Appends (W.contents writer.old) (W.contents writer.new) reply.now) }
     ensures err { OnErr result (AppendsBeginning (W.contents writer.old) (W.contents writer.new) reply.now) }
     ensures fault { IfErr result (λ fault. fault ≡ RunFault.Write) }

@@ -1,6 +1,8 @@
 -- What a server says first, and what serving some connections makes of its handlers.
-use Rattle.std.specs.Prelude.{◌≡◌, ◌≤◌, ℕ, zero, suc, ◌+◌, List, ◌∷◌, [], ◌++◌, codes, Option, IfSome}
+use Rattle.std.specs.Prelude.{◌≡◌, ◌≤◌, ◌⊎◌, ℕ, zero, suc, ◌+◌, List, ◌∷◌, [], ◌++◌, codes, Option, IfSome}
 use Rattle.std.specs.Fmt.{decimal}
+use Rattle.serving.specs.declared.fault.ServeFault.{ServeFault}
+use Rattle.serving.specs.declared.fault.ServeFault.TheVariants as fault
 
 -- the line that says where the server listens
 abbrev pub listening : ℕ → List ℕ
@@ -25,3 +27,7 @@ ServesEach step n (first ∷ firsts) [] = ⊥
 -- some connections were handed on to the handlers of a row, over all no more than the limit if there is one
 abbrev pub ServesEachSome : {S : Type 0} → (S → S → Type 0) → Option ℕ → List S → List S → Type 0
 ServesEachSome step limit firsts lasts = (n : ℕ) × IfSome limit (λ most. n ≤ most) × ServesEach step n firsts lasts
+
+-- why no more connections are accepted before the limit: none can be, or all is to stop
+abbrev pub IsUnfinished : ServeFault → Type 0
+IsUnfinished f = (f ≡ fault.Listen) ⊎ (f ≡ fault.Stopped)

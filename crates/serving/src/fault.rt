@@ -1,7 +1,9 @@
 //! Why serving ends.
 ghost use Rattle.std.specs.Prelude.{◌≡◌, ◌≢◌};
 ghost use Rattle.std.specs.IoError.{error_kind};
+ghost use Rattle.serving.specs.Serving.{IsUnfinished};
 
+use bells::Stop;
 use std::io;
 use std::io::ErrorKind;
 
@@ -14,6 +16,8 @@ pub enum ServeFault {
     Write,
     /// Out of memory.
     NoMemory,
+    /// A stop was asked for.
+    Stopped,
 }
 
 /// Returns why a port was not listened on: out of memory, or it could not be.
@@ -23,6 +27,17 @@ pub fn not_listening(error: &io::Error) -> ServeFault
 {
     if error.kind() == ErrorKind::OutOfMemory {
         ServeFault::NoMemory
+    } else {
+        ServeFault::Listen
+    }
+}
+
+/// Returns why no more connections are accepted before the limit: a stop was asked for, or none can be accepted.
+pub(crate) fn unfinished(stop: &Stop) -> ServeFault
+    ensures { IsUnfinished result }
+{
+    if stop.is_stopped() {
+        ServeFault::Stopped
     } else {
         ServeFault::Listen
     }

@@ -17,5 +17,5 @@ pub use alone::{accept_alone, serve_alone};
 pub use ending::Ending;
 pub use fault::ServeFault;
 pub use handler::Handler;
-pub use listening::{announce, listen};
+pub use listening::{announce, listen, wake};
 pub use threads::{accept_connections, serve};

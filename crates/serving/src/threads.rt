@@ -3,12 +3,13 @@ ghost use Rattle.std.specs.Prelude.{◌≡◌, ◌^◌, ◌<◌, ◌≤◌, IfSo
 ghost use Rattle.std.specs.Option.{is_some};
 ghost use Rattle.std.specs.Thread.{IsSync, IsSend};
 ghost use Rattle.std.specs.Io.KnownBytes.{Appends};
-ghost use Rattle.serving.specs.Serving.{listening, Serves, ServesEach, ServesEachSome};
+ghost use Rattle.serving.specs.Serving.{listening, IsUnfinished, Serves, ServesEach, ServesEachSome};
 
-use crate::fault::ServeFault;
+use crate::fault::{ServeFault, unfinished};
 use crate::handler::Handler;
 use crate::listening::{listen, serve_next};
 use crate::turns::{Taken, Turns};
+use bells::Stop;
 use std::io::Write;
 use std::marker::Brand;
 use std::net::{Net, TcpListener, TcpStream};
@@ -23,6 +24,7 @@ fn serve_turns<R: Wait + Clock, H: Handler, L: Ledger>(
     rt: &R,
     listener: &TcpListener,
     turns: &Mutex<Turns<L>>,
+    stop: &Stop,
     handler: &mut H,
 ) -> Taken<L>
     requires { L.parts < 2 ^ 64 }
@@ -30,10 +32,13 @@ fn serve_turns<R: Wait + Clock, H: Handler, L: Ledger>(
 {
     let mut served = turns.lock(rt).take_none();
     for _ in 0..u64::MAX {
+        if stop.is_stopped() {
+            break;
+        }
         let Some(turn) = turns.lock(rt).take() else {
             break;
         };
-        if !serve_next(listener, rt, handler) {
+        if !serve_next(listener, rt, stop, handler) {
             turns.lock(rt).give_back(turn);
             break;
         }
@@ -48,6 +53,7 @@ fn serve_beside<R, H, L>(
     rt: &R,
     listener: &TcpListener,
     turns: &Mutex<Turns<L>>,
+    stop: &Stop,
     first: &mut H,
     rest: &mut [H],
 ) -> (Taken<L>, Taken<L>)
@@ -62,11 +68,11 @@ where
     let mut here = || -> Taken<L>
         requires { L.parts < 2 ^ 64 }
         ensures { Serves H.step result.count first.entry.now first.exit.now }
-    { serve_turns(rt, listener, turns, first) };
+    { serve_turns(rt, listener, turns, stop, first) };
     let mut there = || -> Taken<L>
         requires { IsSync R.row × IsSend H.row × IsSend L.row × IsSync L.row × (L.parts < 2 ^ 64) }
         ensures { ServesEach H.step result.count rest.entry.now rest.exit.now }
-    { serve_row(rt, listener, turns, rest) };
+    { serve_row(rt, listener, turns, stop, rest) };
     join_mut(rt, &mut here, &mut there)
 }
 
@@ -76,6 +82,7 @@ fn serve_row<R, H, L>(
     rt: &R,
     listener: &TcpListener,
     turns: &Mutex<Turns<L>>,
+    stop: &Stop,
     handlers: &mut [H],
 ) -> Taken<L>
 where
@@ -89,9 +96,9 @@ where
         return turns.lock(rt).take_none();
     };
     if rest.is_empty() {
-        return serve_turns(rt, listener, turns, first);
+        return serve_turns(rt, listener, turns, stop, first);
     }
-    let (mut served, others) = serve_beside(rt, listener, turns, first, rest);
+    let (mut served, others) = serve_beside(rt, listener, turns, stop, first, rest);
     served.add(others);
     served
 }
@@ -102,6 +109,7 @@ fn serve_most<R, H, L>(
     listener: &TcpListener,
     most: u64,
     blank: Blank,
+    stop: &Stop,
     handlers: &mut [H],
 ) -> u64
 where
@@ -115,11 +123,12 @@ where
     ensures served { ServesEach H.step result handlers.old handlers.new }
 {
     let turns = Mutex::new(Turns::<L>::new(most, blank));
-    serve_row(rt, listener, &turns, handlers).total()
+    serve_row(rt, listener, &turns, stop, handlers).total()
 }
 
 /// Accepts connections with as many threads as there are handlers, each with a handler of its own, until as many were handed
-/// on over all threads as the limit says, and joins the threads; with no limit it does not end. The caller's thread is one
+/// on over all threads as the limit says, and joins the threads; with no limit it does not end. It ends early after a stop, once those who
+/// wait for a connection were woken (`wake`). The caller's thread is one
 /// of them, and no thread is made for a connection. A connection that cannot be accepted is passed over, after a pause, and
 /// does not count. With no handler nothing is served, and a handler for which the system makes no thread serves once the
 /// others have ended.
@@ -129,6 +138,7 @@ pub fn accept_connections<R, H>(
     rt: &R,
     listener: &TcpListener,
     limit: Option<u64>,
+    stop: &Stop,
     handlers: &mut [H],
 ) -> Result<(), ServeFault>
 where
@@ -137,14 +147,14 @@ where
     ensures ended { OnOk result (is_some limit ≡ true) }
     ensures ok { OnOk result (IfSome limit (λ most. ServesEach H.step most handlers.old handlers.new)) }
     ensures err { OnErr result (ServesEachSome H.step limit handlers.old handlers.new) }
-    ensures fault { IfErr result (λ fault. fault ≡ ServeFault.Listen) }
+    ensures fault { IfErr result IsUnfinished }
 {
     let most = limit.unwrap_or(u64::MAX);
-    let served = serve_most::<R, H, Brand>(rt, listener, most, Blank::new(most), handlers);
+    let served = serve_most::<R, H, Brand>(rt, listener, most, Blank::new(most), stop, handlers);
     if limit == Some(served) {
         Ok(())
     } else {
-        Err(ServeFault::Listen)
+        Err(unfinished(stop))
     }
 }
 
@@ -154,6 +164,7 @@ pub fn serve<R, W, H>(
     rt: &R,
     port: u16,
     limit: Option<u64>,
+    stop: &Stop,
     writer: &mut W,
     handlers: &mut [H],
 ) -> Result<(), ServeFault>
@@ -166,6 +177,6 @@ where
     ensures ok { OnOk result (IfSome limit (λ most. ServesEach H.step most handlers.old handlers.new)) }
     ensures err { OnErr result (ServesEachSome H.step limit handlers.old handlers.new) }
 {
-    let listener = listen(rt, port, writer)?;
-    accept_connections(rt, &listener, limit, handlers)
+    let (listener, _) = listen(rt, port, writer)?;
+    accept_connections(rt, &listener, limit, stop, handlers)
 }

@@ -1,5 +1,6 @@
 ghost use Rattle.std.specs.Prelude.{⊤};
 
+use bells::Stop;
 use serving::{Ending, Handler, ServeFault, accept_alone, serve_alone};
 use stamps::moments::Moment;
 use std::io;
@@ -47,7 +48,10 @@ fn a_reply_comes_though_bytes_are_left_unread(rt: HostRuntime) -> Result<(), Fai
     let mut handler = Twice {
         moment: Moment::start(),
     };
-    assert_eq!(rt; accept_alone(&listener, &rt, Some(1), &mut handler), Ok(()));
+    assert_eq!(rt;
+        accept_alone(&listener, &rt, Some(1), &Stop::new(), &mut handler),
+        Ok(())
+    );
     let reply = io::read_to_string(rt.alloc(), stream)?;
     assert_eq!(rt; reply.as_str(), "aa");
     assert!(rt; handler.moment.as_str() > "2026-01-01T00:00:00Z");
@@ -65,7 +69,10 @@ fn each_connection_is_handed_on(rt: HostRuntime) -> Result<(), Fail> {
     let mut handler = Twice {
         moment: Moment::start(),
     };
-    assert_eq!(rt; accept_alone(&listener, &rt, Some(2), &mut handler), Ok(()));
+    assert_eq!(rt;
+        accept_alone(&listener, &rt, Some(2), &Stop::new(), &mut handler),
+        Ok(())
+    );
     assert_eq!(rt; io::read_to_string(rt.alloc(), first)?.as_str(), "aa");
     assert_eq!(rt; io::read_to_string(rt.alloc(), second)?.as_str(), "bb");
     Ok(())

@@ -1,4 +1,5 @@
 //! Threads that serve connections side by side.
+use bells::Stop;
 use serving::{Ending, Handler, accept_connections, serve};
 use stamps::moments::Moment;
 use std::alloc::Global;
@@ -84,7 +85,7 @@ fn a_connection_is_answered_beside_an_unfinished_one(rt: HostRuntime) -> Result<
     let mut handlers = [Lines::new(&rt), Lines::new(&rt)];
     let (served, answers) = thread::join(
         &rt,
-        || accept_connections(&rt, &listener, Some(2), &mut handlers),
+        || accept_connections(&rt, &listener, Some(2), &Stop::new(), &mut handlers),
         || ask_beside(&rt, rt.alloc(), address),
     );
     let (first, second) = answers?;
@@ -129,7 +130,7 @@ fn the_limit_counts_over_all_threads_and_all_are_joined(rt: HostRuntime) -> Resu
     let streams = ask_all(&rt, rt.alloc(), listener.local_addr()?, 9)?;
     let mut handlers = [Lines::new(&rt), Lines::new(&rt), Lines::new(&rt)];
     assert_eq!(rt;
-        accept_connections(&rt, &listener, Some(7), &mut handlers),
+        accept_connections(&rt, &listener, Some(7), &Stop::new(), &mut handlers),
         Ok(())
     );
     let [a, b, c] = &handlers;
@@ -148,7 +149,7 @@ fn more_threads_than_connections_end(rt: HostRuntime) -> Result<(), Fail> {
     let streams = ask_all(&rt, rt.alloc(), listener.local_addr()?, 1)?;
     let mut handlers = [Lines::new(&rt), Lines::new(&rt), Lines::new(&rt)];
     assert_eq!(rt;
-        accept_connections(&rt, &listener, Some(1), &mut handlers),
+        accept_connections(&rt, &listener, Some(1), &Stop::new(), &mut handlers),
         Ok(())
     );
     assert_eq!(rt; answers(&streams), 1);
@@ -159,7 +160,10 @@ fn more_threads_than_connections_end(rt: HostRuntime) -> Result<(), Fail> {
 fn the_port_is_said_before_any_thread_serves(rt: HostRuntime) -> Result<(), Fail> {
     let mut handlers = [Lines::new(&rt), Lines::new(&rt)];
     let mut said = Vec::new(rt.alloc());
-    assert_eq!(rt; serve(&rt, 0, Some(0), &mut said, &mut handlers), Ok(()));
+    assert_eq!(rt;
+        serve(&rt, 0, Some(0), &Stop::new(), &mut said, &mut handlers),
+        Ok(())
+    );
     assert!(rt; said.as_slice().starts_with(b"listening 127.0.0.1:"));
     Ok(())
 }
