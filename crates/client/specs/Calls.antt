@@ -1,7 +1,7 @@
 -- What becomes of a request.
-use Rattle.std.specs.Prelude.{◌≡◌, ℕ, List, Option}
+use Rattle.std.specs.Prelude.{◌≡◌, ◌⊎◌, ℕ, List, Option, true, false}
 use Rattle.std.specs.Io.KnownBytes.{Appends}
-use Rattle.chunked.specs.Devices.{AppendsBeginning, device_of}
+use Rattle.chunked.specs.Devices.{AppendsBeginning, device_of, has_failed}
 use Rattle.chunked.specs.declared.watched.Watched.{Watched}
 use Rattle.exchanges.specs.Requests.{request_text}
 use Rattle.client.specs.Reading.{IfKnown}
@@ -14,14 +14,21 @@ use Rattle.client.specs.declared.outgoing.Outgoing.{Outgoing}
 abbrev pub text_of : Outgoing → List ℕ
 text_of o = request_text o.method.now o.target.now o.host.now o.media_type.now o.body.now
 
--- the whole text was written, and the bytes that came then say this reply; or a beginning of the text was written
-abbrev pub IsExchanged : List ℕ → Option (List ℕ) → Option (List ℕ) → Option (List ℕ) → Answer → Type 0
-IsExchanged text unread old new (answer.Replied r) = Appends old new text × IfKnown unread (λ bytes. SaysWhole bytes (replied r))
-IsExchanged text unread old new answer.NotSent = ⊥
-IsExchanged text unread old new answer.Lost = AppendsBeginning old new text
+-- the whole text was written to a writer that has not failed; or it has failed, and a beginning of the text was
+abbrev pub IsWritten : {W : Type 0} → (W → Option (List ℕ)) → List ℕ → Watched W → Watched W → Type 0
+IsWritten contents text old new = (has_failed new ≡ false) × Appends (contents (device_of old)) (contents (device_of new)) text
+
+abbrev pub IsBegun : {W : Type 0} → (W → Option (List ℕ)) → List ℕ → Watched W → Watched W → Type 0
+IsBegun contents text old new = (has_failed new ≡ true) × AppendsBeginning (contents (device_of old)) (contents (device_of new)) text
+
+-- the whole text was written, and the bytes that came then say this reply; or the reply is lost, after the whole text was written or as the writer failed
+abbrev pub IsExchanged : {W : Type 0} → (W → Option (List ℕ)) → List ℕ → Option (List ℕ) → Watched W → Watched W → Answer → Type 0
+IsExchanged contents text unread old new (answer.Replied r) = IsWritten contents text old new × IfKnown unread (λ bytes. SaysWhole bytes (replied r))
+IsExchanged contents text unread old new answer.NotSent = ⊥
+IsExchanged contents text unread old new answer.Lost = IsWritten contents text old new ⊎ IsBegun contents text old new
 
 -- the same, or nothing was written
 abbrev pub IsAnswered : {W : Type 0} → (W → Option (List ℕ)) → List ℕ → Option (List ℕ) → Watched W → Watched W → Answer → Type 0
 IsAnswered contents text unread old new answer.NotSent = new ≡ old
-IsAnswered contents text unread old new (answer.Replied r) = IsExchanged text unread (contents (device_of old)) (contents (device_of new)) (answer.Replied r)
-IsAnswered contents text unread old new answer.Lost = IsExchanged text unread (contents (device_of old)) (contents (device_of new)) answer.Lost
+IsAnswered contents text unread old new (answer.Replied r) = IsExchanged contents text unread old new (answer.Replied r)
+IsAnswered contents text unread old new answer.Lost = IsExchanged contents text unread old new answer.Lost

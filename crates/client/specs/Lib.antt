@@ -5,3 +5,4 @@ pub mod Replies
 pub mod Bodies
 pub mod Calls
 pub mod Watches
+pub mod Laws

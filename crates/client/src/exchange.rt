@@ -1,7 +1,8 @@
 //! A request written, and its reply read.
-ghost use Rattle.std.specs.Prelude.{◌≡◌, false};
+ghost use Rattle.std.specs.Prelude.{◌≡◌, true, false};
 ghost use Rattle.chunked.specs.Devices.{device_of, has_failed};
 ghost use Rattle.client.specs.Calls.{IsAnswered, IsExchanged, text_of};
+ghost use Rattle.client.specs.declared.answer.Answer.TheVariants.{NotSent};
 
 use crate::answer::Answer;
 use crate::outgoing::{Outgoing, text_of};
@@ -18,7 +19,7 @@ fn send_and_read<R: Read + Drop, W: Write + Drop>(
     writer: &mut Watched<W>,
 ) -> Answer
     requires { has_failed writer.old ≡ false }
-    ensures { IsExchanged text.now (R.remaining (device_of reader)) (W.contents (device_of writer.old)) (W.contents (device_of writer.new)) result }
+    ensures { IsExchanged W.contents text.now (R.remaining (device_of reader)) writer.old writer.new result }
 {
     match writer.send(text) {
         Ok(()) => {}
@@ -33,15 +34,17 @@ fn send_and_read<R: Read + Drop, W: Write + Drop>(
 /// Writes a request and reads its reply, whose body has a stated length or comes in chunks.
 ///
 /// It is not sent where the stream had failed before, or memory runs out before the first byte is written: then nothing was written.
-/// It is lost where the writer fails, no whole reply comes, or memory runs out later: then a beginning of the request was written, or
-/// all of it.
+/// It is lost where the writer fails, which has written a beginning of the request then; or all of it was written, and no whole reply
+/// comes, or memory runs out.
 pub fn call<R: Read + Drop, W: Write + Drop>(
     alloc: Global,
     request: Outgoing<'_>,
     reader: Watched<R>,
     writer: &mut Watched<W>,
 ) -> Answer
-    ensures { IsAnswered W.contents (text_of request.entry) (R.remaining (device_of reader)) writer.old writer.new result }
+    ensures answered { IsAnswered W.contents (text_of request.entry) (R.remaining (device_of reader)) writer.old writer.new result }
+    ensures reader { has_failed reader ≡ true → result ≡ NotSent }
+    ensures writer { has_failed writer.old ≡ true → result ≡ NotSent }
 {
     if reader.has_failed() || writer.has_failed() {
         return Answer::NotSent;

@@ -8,6 +8,7 @@ pub mod chunks;
 pub mod exchange;
 pub mod fault;
 pub mod framing;
+pub mod laws;
 pub mod more;
 pub mod opening;
 pub mod outgoing;

@@ -133,7 +133,7 @@ watch_well = record {
   fields = fields_well (field (codes "Transfer-Encoding") (codes " chunked")) (literal (codes "Transfer-Encoding") (codes " chunked") refl refl refl);
 }
 
-opens : (body : List ℕ) → OpensWatch (watch_head ++ body) body
+pub opens : (body : List ℕ) → OpensWatch (watch_head ++ body) body
 unfolding http_on_literals
 opens body = (watch_with, (watch_well, refl), (omega arith, omega arith), (codes "chunked", refl, refl), refl)
 

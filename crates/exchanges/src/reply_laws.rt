@@ -1,5 +1,5 @@
 //! What follows for a client and a server that speak with one another.
-ghost use Rattle.exchanges.specs.Laws.{OneReplyIsSaid, RepliesOpenNoWatch, WholeRepliesStay, WrittenRepliesAreRead, CutRepliesAreLost, WrittenWatchesAreRead};
+ghost use Rattle.exchanges.specs.Laws.{OneReplyIsSaid, RepliesOpenNoWatch, WholeRepliesStay, WrittenRepliesAreRead, CutRepliesAreLost, WrittenWatchesAreRead, WatchesAreReadInPieces};
 
 /// The bytes of an answer say at most one reply.
 pub fn one_reply_is_said()
@@ -29,4 +29,10 @@ pub fn cut_replies_are_lost()
 /// What a server writes for a watch is read as a watch of its frames.
 pub fn written_watches_are_read()
     ensures { WrittenWatchesAreRead }
+{}
+
+/// What a server writes for a watch, whole or cut anywhere, is read in any pieces as a beginning of the bytes of its chunks, and as all of
+/// them where its end is read.
+pub fn watches_are_read_in_pieces()
+    ensures { WatchesAreReadInPieces }
 {}

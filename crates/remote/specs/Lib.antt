@@ -2,3 +2,4 @@
 pub mod Targets
 pub mod Outgoing
 pub mod Begun
+pub mod Laws

@@ -17,8 +17,8 @@ pub fn begin_watch<R: Read + Drop, W: Write + Drop>(
     writer: &mut Watched<W>,
 ) -> Opened
     requires { has_failed writer.old ≡ false }
-    ensures { IsBegun text.now (R.remaining (device_of reader.old)) (R.remaining (device_of reader.new))
-        (W.contents (device_of writer.old)) (W.contents (device_of writer.new)) result }
+    ensures { IsBegun W.contents text.now (R.remaining (device_of reader.old)) (R.remaining (device_of reader.new))
+        writer.old writer.new result }
 {
     match writer.send(text) {
         Ok(()) => {}

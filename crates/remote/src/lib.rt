@@ -6,6 +6,7 @@ pub mod api;
 pub mod asking;
 pub mod beginning;
 pub mod connect;
+pub mod laws;
 pub mod outgoing;
 pub mod targets;
 

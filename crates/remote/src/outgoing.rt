@@ -8,7 +8,7 @@ use definitions::methods::Method;
 use request_texts::RequestText;
 
 /// Returns the name of a method.
-fn method_text(method: Method) -> &'static str
+pub fn method_text(method: Method) -> &'static str
     ensures { result.now ≡ method_text method }
 {
     match method {
@@ -21,7 +21,7 @@ fn method_text(method: Method) -> &'static str
 }
 
 /// Returns the media type of the bodies of a method.
-fn media_type(method: Method) -> &'static str
+pub fn media_type(method: Method) -> &'static str
     ensures { result.now ≡ media_type method }
 {
     match method {

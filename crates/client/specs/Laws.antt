@@ -1,0 +1,20 @@
+-- What follows for a client and a server that speak with one another.
+use Rattle.std.specs.Prelude.{◌≡◌, ◌<◌, ℕ, List, ◌++◌, length}
+use Rattle.connections.specs.Replies.{response_text}
+use Rattle.exchanges.specs.Answers.{Replied}
+use Rattle.exchanges.specs.Laws.{IsReply}
+use Rattle.client.specs.Replies.{SaysWhole, SaysNoReply}
+
+-- bytes begin with at most one whole reply, however the end of its body is known
+abbrev pub OneWholeReplyIsSaid : Type 0
+OneWholeReplyIsSaid = (bytes : List ℕ) (r s : Replied) → SaysWhole bytes r → SaysWhole bytes s → r ≡ s
+
+-- what a server writes for a reply begins with that reply and with no other, whatever follows it
+abbrev pub WrittenRepliesAreWhole : Type 0
+WrittenRepliesAreWhole =
+    (r : Replied) (rest : List ℕ) → IsReply r
+    → SaysWhole (response_text r.code r.body ++ rest) r × ((s : Replied) → SaysWhole (response_text r.code r.body ++ rest) s → s ≡ r)
+
+-- cut anywhere, it begins with none
+abbrev pub CutRepliesAreNotWhole : Type 0
+CutRepliesAreNotWhole = (r : Replied) (bytes more : List ℕ) → IsReply r → response_text r.code r.body ≡ bytes ++ more → 0 < length more → SaysNoReply bytes

@@ -1,0 +1,17 @@
+//! What follows for a client and a server that speak with one another.
+ghost use Rattle.client.specs.Laws.{CutRepliesAreNotWhole, OneWholeReplyIsSaid, WrittenRepliesAreWhole};
+
+/// The bytes of an answer begin with at most one whole reply, however the end of its body is known.
+pub fn one_whole_reply_is_said()
+    ensures { OneWholeReplyIsSaid }
+{}
+
+/// What a server writes for a reply is read whole as that reply and as no other, whatever follows it.
+pub fn written_replies_are_whole()
+    ensures { WrittenRepliesAreWhole }
+{}
+
+/// A reply that is cut anywhere is read as none.
+pub fn cut_replies_are_not_whole()
+    ensures { CutRepliesAreNotWhole }
+{}

@@ -1,0 +1,5 @@
+use Rattle.remote.proofs.Written.{long_targets}
+use Rattle.remote.proofs.laws.long_targets_are_refused.Goals as goal
+
+pub returns : goal.returns
+returns c = long_targets

@@ -1,0 +1,13 @@
+//! What follows for a server that is asked over connections.
+ghost use Rattle.remote.specs.Laws.{LongTargetsAreRefused, RequestsAreAsked};
+
+/// What is written for a request of one object asks a server for that request, or is refused as its body is too large, and nothing else,
+/// whatever follows it.
+pub fn requests_are_asked()
+    ensures { RequestsAreAsked }
+{}
+
+/// A request whose head is longer than a server reads, as by its name, is refused as too large.
+pub fn long_targets_are_refused()
+    ensures { LongTargetsAreRefused }
+{}
