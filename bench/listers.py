@@ -2,19 +2,21 @@
 """Measures an informer of 10,000 Pods whose map is read without waiting.
 
 First publishes of one delta: microseconds each, of the processor's time, less the time of a run that takes in the Pods and
-publishes nothing more; the best of several runs. Then looks a second by 1, 4 and 16 threads, each look a look-up of one Pod,
-while another thread publishes a delta each millisecond, or as often as it can, for two seconds. What a run writes is checked.
+publishes nothing more. Then looks a second by 1, 4 and 16 threads, each look a look-up of one Pod, while another thread publishes a
+delta each millisecond, or as often as it can, for two seconds. Each figure is the median of several runs, and beside it stand the least
+and the greatest. What a run writes is checked.
 
 Usage: listers.py [--program PATH] [--thousands N] [--runs N] [--seconds N]
   --program PATH   an executable that is built; without it `rt run -- publish 1` in crates/lister_bench proves and builds one first
   --thousands N    how many thousand deltas are published, 20 if left out
-  --runs N         runs of each kind, of which the best counts, 5 if left out
+  --runs N         runs of each kind, 5 if left out
   --seconds N      the longest that one run may take, 120 if left out
 It uses no network, and writes no files but those of the build.
 """
 import os
 import re
 import resource
+import statistics
 import subprocess
 import sys
 
@@ -65,14 +67,16 @@ def main():
     asked = shared.arguments(__doc__, "thousands", most=4_000_000, default=20, runs=5)
     program = shared.built(asked.program, "lister_bench", ["publish", "1"])
     times = asked.thousands * 1000
-    best = {count: min(publishes(program, count, asked.seconds) for _ in range(asked.runs)) for count in (0, times)}
-    print(f"{PODS} Pods, best of {asked.runs} runs, {os.cpu_count()} processors, load {os.getloadavg()[0]:.1f}")
-    print(f"A publish of one delta: {(best[times] - best[0]) * 1e6 / times:,.1f} microseconds")
-    print("| Threads that look | Looks a second | Publishes a second |")
-    print("|---|---|---|")
+    print(f"{PODS:,} Pods, {asked.runs} runs of each kind, {os.cpu_count()} processors, load {os.getloadavg()[0]:.1f}")
+    taken_in = statistics.median(publishes(program, 0, asked.seconds) for _ in range(asked.runs))
+    each = [(publishes(program, times, asked.seconds) - taken_in) * 1e6 / times for _ in range(asked.runs)]
+    print(f"A publish of one delta: {statistics.median(each):.1f} microseconds, {min(each):.1f} to {max(each):.1f}")
+    print("| Threads that look | Looks a second, median | least | greatest | Publishes a second, median |")
+    print("|---|---|---|---|---|")
     for threads in THREADS:
-        found = max(looks(program, threads, asked.seconds) for _ in range(asked.runs))
-        print(f"| {threads} | {found[0]:,} | {found[1]:,} |")
+        seen, published = zip(*(looks(program, threads, asked.seconds) for _ in range(asked.runs)))
+        print(f"| {threads} | {statistics.median(seen):,.0f} | {min(seen):,} | {max(seen):,} | {statistics.median(published):,.0f} |")
+    print(f"Load in the end: {os.getloadavg()[0]:.1f}")
 
 
 if __name__ == "__main__":

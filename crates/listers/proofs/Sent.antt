@@ -146,7 +146,7 @@ indexed_inside_send = search (objects_send, heap.send, sendable, declared_send) 
 indexed_inside_sync : IsSync IndexedInside.the_row
 indexed_inside_sync = search (objects_sync, heap.sync, sendable, declared_sync) depth 40
 
-indexed_send : IsSend Indexed.the_row
+pub indexed_send : IsSend Indexed.the_row
 indexed_send = search (indexed_inside_send, view_send)
 
 indexed_sync : IsSync Indexed.the_row

@@ -1,4 +1,4 @@
--- What readers know of what was published.
+-- What readers know of what was published: a list of batches, the deltas of each of which were published at once.
 use Rattle.std.specs.Prelude.{◌≡◌, ℕ, List, [], ◌∷◌, ◌++◌, All}
 use mathlib.Core.Option.{some}
 use lib.ListN.{get_elem?}
@@ -8,36 +8,36 @@ use Rattle.listers.specs.declared.views.View.{View}
 use Rattle.listers.specs.Published.{IsAfter}
 
 -- the whole begins with the front
-abbrev pub StartsWith : List Delta → List Delta → Type 0
-StartsWith whole front = (rest : List Delta) × (whole ≡ front ++ rest)
+abbrev pub StartsWith : List (List Delta) → List (List Delta) → Type 0
+StartsWith whole front = (rest : List (List Delta)) × (whole ≡ front ++ rest)
 
--- the deltas begin with each list that is known
-abbrev pub StartsWithAll : List Delta → View → Type 0
-StartsWithAll ds v = All (λ front. StartsWith ds front) v.known
+-- the batches begin with each list that is known
+abbrev pub StartsWithAll : List (List Delta) → View → Type 0
+StartsWithAll bs v = All (λ front. StartsWith bs front) v.known
 
 abbrev pub knowing_nothing : View
 knowing_nothing = record { known = [] }
 
 -- one list is known
-abbrev pub knowing : List Delta → View
-knowing ds = record { known = ds ∷ [] }
+abbrev pub knowing : List (List Delta) → View
+knowing bs = record { known = bs ∷ [] }
 
 -- what either knows, the first one's first
 abbrev pub knowing_both : View → View → View
 knowing_both v w = record { known = v.known ++ w.known }
 
 -- the list that was known last
-abbrev pub first_of : List (List Delta) → List Delta
+abbrev pub first_of : List (List (List Delta)) → List (List Delta)
 first_of [] = []
-first_of (ds ∷ rest) = ds
+first_of (bs ∷ rest) = bs
 
-abbrev pub latest : View → List Delta
+abbrev pub latest : View → List (List Delta)
 latest v = first_of v.known
 
--- the rule: deltas made the map, and begin with whatever anyone knows
+-- the rule: whole batches made the map, and begin with whatever anyone knows
 abbrev pub IsKept : Published → List View → Type 0
-IsKept p views = (ds : List Delta) × IsAfter ds p × ((seat : ℕ) (v : View) → get_elem? views seat ≡ some v → StartsWithAll ds v)
+IsKept p views = (bs : List (List Delta)) × IsAfter bs p × ((seat : ℕ) (v : View) → get_elem? views seat ≡ some v → StartsWithAll bs v)
 
--- the map that is seen is after deltas that begin with all that was known, and now these are known
+-- the map that is seen is after batches that begin with all that was known, and now these are known
 abbrev pub HasSeen : View → Published → View → Type 0
-HasSeen v p w = (ds : List Delta) × (w ≡ knowing ds) × IsAfter ds p × StartsWithAll ds v
+HasSeen v p w = (bs : List (List Delta)) × (w ≡ knowing bs) × IsAfter bs p × StartsWithAll bs v

@@ -8,20 +8,20 @@ use Rattle.listers.specs.declared.listers.Lister.{Lister}
 use Rattle.listers.specs.declared.listers.Look.{Look}
 use Rattle.listers.specs.declared.views.View.{View}
 
--- the lists of published deltas that a lister has seen or was told of
+-- what a lister has seen or was told of: lists of batches, the deltas of each of which were published at once
 abbrev pub known : Lister → View
 known l = view l.reader.place
 
 -- and the one that it was told of or saw last
-abbrev pub known_last : Lister → List Delta
+abbrev pub known_last : Lister → List (List Delta)
 known_last l = latest (known l)
 
 -- what a lister knows while it looks, and once it has looked
 abbrev pub known_then : Look → View
 known_then l = view l.reading.place
 
--- the deltas that made the map which is seen
-abbrev pub seen : Look → List Delta
+-- the batches of deltas that made the map which is seen
+abbrev pub seen : Look → List (List Delta)
 seen l = latest (known_then l)
 
 -- the map with its revision

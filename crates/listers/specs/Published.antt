@@ -1,5 +1,5 @@
 -- What is published, and after which deltas.
-use Rattle.std.specs.Prelude.{◌≡◌, ◌+◌, List, length}
+use Rattle.std.specs.Prelude.{◌≡◌, ◌+◌, ◌<◌, List, [], ◌∷◌, ◌++◌, length, All}
 use Rattle.controllers.specs.Informers.{nothing, applied, all_applied}
 use Rattle.std.specs.Arc.{arc_value}
 use Rattle.std.specs.declared.sync.Arc.{Arc}
@@ -15,6 +15,16 @@ with_delta p d = record { indexed = applied p.indexed (delta_of d); count = p.co
 abbrev pub with_shared : {A : Type 0} → Published → Arc Delta A → Published
 with_shared p d = with_delta p (arc_value d)
 
--- the map is what these deltas make of nothing, and they are counted
-abbrev pub IsAfter : List Delta → Published → Type 0
-IsAfter ds p = (p.indexed ≡ all_applied nothing (deltas_of ds)) × (p.count ≡ length ds)
+-- the deltas of batches, each of which is published at once
+abbrev pub all_of : List (List Delta) → List Delta
+all_of [] = []
+all_of (batch ∷ batches) = batch ++ all_of batches
+
+-- one more batch, where there is any delta
+abbrev pub with_batch : List (List Delta) → List Delta → List (List Delta)
+with_batch batches [] = batches
+with_batch batches (d ∷ ds) = batches ++ (d ∷ ds) ∷ []
+
+-- the map is what the deltas of these batches make of nothing; they are counted, and no batch is empty
+abbrev pub IsAfter : List (List Delta) → Published → Type 0
+IsAfter bs p = (p.indexed ≡ all_applied nothing (deltas_of (all_of bs))) × (p.count ≡ length (all_of bs)) × All (λ b. 0 < length b) bs

@@ -1,5 +1,4 @@
 -- An informer with a runtime.
-use denote.Ref.{Bor}
 use Rattle.listers.specs.declared.informers.Informer.{Informer}
 use Rattle.listers.specs.declared.shared.SharedInformer.{SharedInformer}
 

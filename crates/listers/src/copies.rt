@@ -44,12 +44,12 @@ impl Copies {
     ghost use Rattle.controllers.specs.Informers.{nothing};
     ghost use Rattle.controllers.specs.Shifts.{all_shifts};
     ghost use Rattle.indexer.specs.Shifted.{shift_of};
-    ghost use Rattle.listers.specs.Copies.{shown, deltas_shown, deltas_waiting, IsSame, IsPublished};
+    ghost use Rattle.listers.specs.Copies.{shown, batches_shown, deltas_waiting, IsSame, IsPublished};
 
     /// Returns two copies of an empty map, with room for so many readers. The error is running out of memory.
     pub fn open(alloc: Global, readers: usize) -> Result<Copies, AllocError>
         requires { (0 < readers) × (readers < 2 ^ 32) }
-        ensures { IfOk result (λ c. (shown c ≡ nothing) × (deltas_shown c ≡ []) × (deltas_waiting c ≡ [])) }
+        ensures { IfOk result (λ c. (shown c ≡ nothing) × (batches_shown c ≡ []) × (deltas_waiting c ≡ [])) }
     {
         let writer = Writer::new(alloc, Published::new(alloc), Published::new(alloc), readers)?;
         Ok(Copies {
@@ -64,7 +64,7 @@ impl Copies {
     /// memory runs out.
     pub fn reader(&mut self) -> Result<MapReader, AllocError>
         ensures same { IsSame self.old self.new }
-        ensures knows { IfOk result (λ r. latest (view r.place) ≡ deltas_shown self.old) }
+        ensures knows { IfOk result (λ r. latest (view r.place) ≡ batches_shown self.old) }
     {
         let mut reader = self.writer.factory().reader()?;
         reader.learn::<Learns>(self.writer.tell::<Tells>());
@@ -73,7 +73,7 @@ impl Copies {
 
     /// Appends a delta, which waits for the next publish. At an error it comes back.
     pub fn append(&mut self, delta: Delta) -> Result<(), Delta>
-        ensures shown { (shown self.new ≡ shown self.old) × (deltas_shown self.new ≡ deltas_shown self.old) }
+        ensures shown { (shown self.new ≡ shown self.old) × (batches_shown self.new ≡ batches_shown self.old) }
         ensures ok { OnOk result (deltas_waiting self.new ≡ deltas_waiting self.old ++ delta ∷ []) }
         ensures err { OnErr result (deltas_waiting self.new ≡ deltas_waiting self.old) }
         ensures returned { IfErr result (λ d. d ≡ delta) }
@@ -83,7 +83,7 @@ impl Copies {
 
     /// Appends deltas, which wait for the next publish. The error is running out of memory, and changes nothing.
     pub fn append_all(&mut self, deltas: Vec<Delta>) -> Result<(), AllocError>
-        ensures shown { (shown self.new ≡ shown self.old) × (deltas_shown self.new ≡ deltas_shown self.old) }
+        ensures shown { (shown self.new ≡ shown self.old) × (batches_shown self.new ≡ batches_shown self.old) }
         ensures ok { OnOk result (deltas_waiting self.new ≡ deltas_waiting self.old ++ deltas.items) }
         ensures err { OnErr result (deltas_waiting self.new ≡ deltas_waiting self.old) }
     {
@@ -161,6 +161,7 @@ impl Copies {
         rt: &R,
         shifts: Vec<Shift>,
     ) -> (Copies, Result<Vec<Shift>, AllocError>)
+        requires some { 0 < length (deltas_waiting self) }
         requires logged { self.logged ≡ length (deltas_waiting self) }
         ensures ok { OnOk result.1 (IsPublished self result.0) }
         ensures shifts { IfOk result.1 (λ v. v ≡ shifts) }
@@ -175,6 +176,7 @@ impl Copies {
 
     /// Publishes a batch, which is all that waits, and is in the log.
     fn publish_batch<M: Batch, R: Wait>(self, rt: &R) -> (Copies, Result<(), AllocError>)
+        requires some { 0 < length (deltas_waiting self) }
         requires batch { M.deltas ≡ deltas_waiting self }
         requires logged { self.logged ≡ length (deltas_waiting self) }
         ensures ok { OnOk result.1 (IsPublished self result.0) }

@@ -19,15 +19,16 @@ impl Informer {
     ghost use Rattle.indexer.specs.Shifted.{shift_of};
     ghost use Rattle.informer.specs.Appended.{all_appended};
     ghost use Rattle.reflector.specs.Deltas.{delta_of, deltas_of};
-    ghost use Rattle.listers.specs.Informers.{informer_of, published_deltas, pending_deltas, IsSame};
+    ghost use Rattle.listers.specs.Informers.{informer_of, published_batches, published_deltas, pending_deltas, IsSame};
     ghost use Rattle.listers.specs.Listers.{known_last};
+    ghost use Rattle.listers.specs.Published.{with_batch};
 
     /// Returns an informer that has published nothing yet, an empty map at revision 0, with room for so many listers. The
     /// error is running out of memory.
     pub fn open(alloc: Global, listers: usize) -> Result<Informer, AllocError>
         requires { (0 < listers) × (listers < 2 ^ 32) }
         ensures begun { IfOk result (λ i. informer_of i ≡ begun) }
-        ensures deltas { IfOk result (λ i. published_deltas i ≡ []) }
+        ensures batches { IfOk result (λ i. published_batches i ≡ []) }
     {
         Ok(Informer {
             copies: Copies::open(alloc, listers)?,
@@ -38,7 +39,7 @@ impl Informer {
     /// out of memory.
     pub fn lister(&mut self) -> Result<Lister, AllocError>
         ensures same { IsSame self.old self.new }
-        ensures told { IfOk result (λ l. known_last l ≡ published_deltas self.old) }
+        ensures told { IfOk result (λ l. known_last l ≡ published_batches self.old) }
     {
         Ok(Lister {
             reader: self.copies.reader()?,
@@ -50,7 +51,7 @@ impl Informer {
     pub fn append(&mut self, delta: Delta) -> Result<(), Delta>
         ensures ok { OnOk result (informer_of self.new ≡ appended (informer_of self.old) (delta_of delta)) }
         ensures waits { OnOk result (pending_deltas self.new ≡ pending_deltas self.old ++ delta ∷ []) }
-        ensures deltas { published_deltas self.new ≡ published_deltas self.old }
+        ensures batches { published_batches self.new ≡ published_batches self.old }
         ensures err { OnErr result (IsSame self.old self.new) }
         ensures returned { IfErr result (λ d. d ≡ delta) }
     {
@@ -61,7 +62,7 @@ impl Informer {
     pub fn append_all(&mut self, deltas: Vec<Delta>) -> Result<(), AllocError>
         ensures ok { OnOk result (informer_of self.new ≡ all_appended (informer_of self.old) (deltas_of deltas.items)) }
         ensures waits { OnOk result (pending_deltas self.new ≡ pending_deltas self.old ++ deltas.items) }
-        ensures deltas { published_deltas self.new ≡ published_deltas self.old }
+        ensures batches { published_batches self.new ≡ published_batches self.old }
         ensures err { OnErr result (IsSame self.old self.new) }
     {
         self.copies.append_all(deltas)
@@ -74,12 +75,14 @@ impl Informer {
         self.copies.waiting()
     }
 
-    /// Publishes the deltas that wait, all of them, and returns what they change, delta by delta. It costs what they cost; where
+    /// Publishes the deltas that wait, all of them at once, and returns what they change, delta by delta. It costs what they cost; where
     /// there are more than one, also a copy of the map. It waits for looks at the map that was published before the present one,
     /// and for none where no delta waits. The error is running out of memory: none is published, and all wait.
+    #[tactic(auto, using(crate::proofs::Keeps::all_with))]
     pub fn publish<R: Wait>(&mut self, rt: &R) -> Result<Vec<Shift>, AllocError>
         ensures ok { OnOk result (informer_of self.new ≡ after_publish (informer_of self.old)) }
         ensures shifts { IfOk result (λ v. map shift_of v.items ≡ all_shifts (informer_of self.old).published.members (informer_of self.old).pending) }
+        ensures batches { OnOk result (published_batches self.new ≡ with_batch (published_batches self.old) (pending_deltas self.old)) }
         ensures deltas { OnOk result (published_deltas self.new ≡ published_deltas self.old ++ pending_deltas self.old) }
         ensures err { OnErr result (IsSame self.old self.new) }
     {

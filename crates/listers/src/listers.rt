@@ -18,11 +18,12 @@ impl Lister {
     ghost use Rattle.reflector.specs.Deltas.{deltas_of};
     ghost use Rattle.listers.specs.Knowing.{StartsWithAll};
     ghost use Rattle.listers.specs.Listers.{known, seen, shown};
+    ghost use Rattle.listers.specs.Published.{all_of};
 
     /// Returns a look at the map that is published. It waits for nobody and takes no memory. The error is that the informer is
     /// closed, and gives the lister back.
     pub fn look(self) -> Result<Look, Lister>
-        ensures shown { IfOk result (λ l. shown l ≡ all_applied nothing (deltas_of (seen l))) }
+        ensures shown { IfOk result (λ l. shown l ≡ all_applied nothing (deltas_of (all_of (seen l)))) }
         ensures later { IfOk result (λ l. StartsWithAll (seen l) (known self)) }
         ensures err { IfErr result (λ l. known l ≡ known self) }
     {

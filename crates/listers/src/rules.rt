@@ -1,5 +1,5 @@
 //! The rule of what is known of the published map.
-ghost use Rattle.std.specs.Prelude.{◌≡◌, ◌++◌, List, []};
+ghost use Rattle.std.specs.Prelude.{◌≡◌, ◌++◌, ◌∷◌, List, []};
 
 use crate::published::Published;
 use crate::views::View;
@@ -7,7 +7,7 @@ use atomic_table::{Join, Split};
 use crossbeam_utils::rule::{Outcome, Protocol};
 use std::marker::{Brand, PhantomData};
 
-/// Whatever is known is a beginning of the deltas that made the map.
+/// Whatever is known is a beginning of the batches of deltas that made the map.
 pub struct Rule;
 
 impl Protocol<Published, View> for Rule {
@@ -46,7 +46,7 @@ pub struct Publishes<M> {
 impl<M: Batch> Outcome<Published, View> for Publishes<M> {
     ghost use Rattle.listers.specs.Knowing.{knowing, latest};
 
-    ghost then = { λ v x y w. w ≡ knowing (latest v ++ M.deltas) };
+    ghost then = { λ v x y w. w ≡ knowing (latest v ++ M.deltas ∷ []) };
 }
 
 /// The writer tells what it knows.

@@ -1,20 +1,23 @@
 //! An informer with the runtime by which it waits.
 use crate::informers::Informer;
+use crate::listers::Lister;
 use indexer::{Indexed, Shift};
 use informer::Publishing;
 use reflector::Delta;
 use std::alloc::AllocError;
 use std::sync::Wait;
 
-/// An informer whose map is read without waiting, where it is to be published with no word of a runtime. It is not dropped: end
-/// the informer that is in it by `close`.
-pub struct SharedInformer<'a, R> {
+/// An informer whose map is read without waiting, where it is to be published with no word of a runtime. Dropping it closes it,
+/// once all looks have ended.
+pub struct SharedInformer<'a, R: Wait> {
     runtime: &'a R,
     informer: Informer,
 }
 
-impl<'a, R> SharedInformer<'a, R> {
-    ghost use Rattle.std.specs.Prelude.{◌≡◌};
+impl<'a, R: Wait> SharedInformer<'a, R> {
+    ghost use Rattle.std.specs.Prelude.{◌≡◌, IfOk};
+    ghost use Rattle.listers.specs.Informers.{published_batches, IsSame};
+    ghost use Rattle.listers.specs.Listers.{known_last};
     ghost use Rattle.listers.specs.Shared.{inner};
 
     /// Returns an informer, with the runtime by which its publishes wait.
@@ -31,7 +34,16 @@ impl<'a, R> SharedInformer<'a, R> {
         &self.informer
     }
 
-    /// Returns the informer, to make listers of, or to close.
+    /// Returns a lister that was told of all that is published. The error is that there is no room for one more, or running
+    /// out of memory.
+    pub fn lister(&mut self) -> Result<Lister, AllocError>
+        ensures same { IsSame (inner self.old) (inner self.new) }
+        ensures told { IfOk result (λ l. known_last l ≡ published_batches (inner self.old)) }
+    {
+        self.informer.lister()
+    }
+
+    /// Returns the informer, which is then to be closed by its own call.
     pub fn into_informer(self) -> Informer
         ensures { result ≡ inner self.entry }
     {
@@ -70,5 +82,12 @@ impl<'a, R: Wait> Publishing for SharedInformer<'a, R> {
 
     fn published(&self) -> &Indexed {
         self.informer.published()
+    }
+}
+
+impl<R: Wait> Drop for SharedInformer<'_, R> {
+    fn drop(self) {
+        let SharedInformer { runtime, informer } = self;
+        informer.close(runtime);
     }
 }

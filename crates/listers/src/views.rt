@@ -2,7 +2,7 @@
 use reflector::Delta;
 use std::collections::LinkedList;
 
-/// The lists of published deltas that a reader, or the writer, has seen or was told of.
+/// What a reader, or the writer, has seen or was told of: lists of batches, the deltas of each of which were published at once.
 pub struct View {
-    pub known: LinkedList<LinkedList<Delta>>,
+    pub known: LinkedList<LinkedList<LinkedList<Delta>>>,
 }

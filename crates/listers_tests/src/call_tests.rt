@@ -74,6 +74,22 @@ fn each_call_once(rt: HostRuntime) -> Result<(), Fail> {
     Ok(())
 }
 
+/// Returns what a lister of a shared informer looks at, and whether a lister may look once the informer is dropped.
+fn looked_and_dropped<R: Wait>(rt: &R, alloc: Global) -> Result<((u64, bool), bool), AllocError> {
+    let mut shared = SharedInformer::new(rt, Informer::open(alloc, 2)?);
+    let seen = looked(alloc, shared.lister()?)?;
+    let second = shared.lister()?;
+    drop(shared);
+    Ok((seen, second.look().is_ok()))
+}
+
+#[test]
+fn a_shared_informer_closes_as_it_is_dropped(rt: HostRuntime) -> Result<(), Fail> {
+    let looked = looked_and_dropped(&rt, rt.alloc())?;
+    assert_eq!(rt; looked, ((0, false), false));
+    Ok(())
+}
+
 /// Publishes one delta, and returns how many shifts there were and the revision that is published then.
 fn publish_one<R: Wait>(
     rt: &R,

@@ -1,4 +1,4 @@
-use Rattle.std.proofs.Common.{◌≡◌, ◌+◌, take, sym, subst, arith}
+use Rattle.std.proofs.Common.{◌+◌, take, sym, subst, arith}
 use Rattle.left_right.specs.Sides.{view}
 use Rattle.listers.specs.Knowing.{latest}
 use Rattle.listers.specs.Published.{IsAfter}

@@ -10,4 +10,4 @@ enter_as-requires c = sees _ _
 
 -- the list that is seen is the one that the step names
 pub returns-in-Ok-clause-later : goal.returns-in-Ok-clause-later
-returns-in-Ok-clause-later c = let s = c.in-Ok.ensures.1 in subst (λ (ds : List Delta). StartsWithAll ds (known c.args.self)) (sym (ap latest s.1)) s.3
+returns-in-Ok-clause-later c = let s = c.in-Ok.ensures.1 in subst (λ (bs : List (List Delta)). StartsWithAll bs (known c.args.self)) (sym (ap latest s.1)) s.3
