@@ -1,7 +1,7 @@
 -- Words, and the commands that they ask, computed from the definitions.
 use Rattle.std.specs.Prelude.{◌≡◌, ℕ, List, [], ◌∷◌, codes, Option, Some, None}
 use Rattle.options.specs.declared.command.Command.{Command}
-use Rattle.options.specs.declared.command.Command.TheVariants.{Replay, Simulate, Serve}
+use Rattle.options.specs.declared.command.Command.TheVariants.{Replay, Simulate, Serve, Control, All}
 use Rattle.options.specs.Options.{command}
 
 -- what `serve` is asked by an option and its value
@@ -59,3 +59,30 @@ NumbersAreDigits =
     × (with_one (codes "--port") (codes " 1") ≡ None)
     × (with_one (codes "--port") (codes "1a") ≡ None)
     × (with_one (codes "--port") (codes "--window") ≡ None)
+
+-- `control` needs a server, on the loopback address alone and with a port; the rest has defaults
+abbrev pub ServersAreNamed : Type 0
+ServersAreNamed =
+    (command (codes "control" ∷ codes "--server" ∷ codes "127.0.0.1:8080" ∷ []) ≡ Some (Control (record { port = 8080; workers = 4; turns = None })))
+    × (command (codes "control" ∷ codes "--turns" ∷ codes "9" ∷ codes "--server" ∷ codes "127.0.0.1:1" ∷ codes "--workers" ∷ codes "64" ∷ [])
+    ≡ Some (Control (record { port = 1; workers = 64; turns = Some 9 })))
+    × (command (codes "control" ∷ []) ≡ None)
+    × (command (codes "control" ∷ codes "--workers" ∷ codes "4" ∷ []) ≡ None)
+    × (command (codes "control" ∷ codes "--server" ∷ codes "127.0.0.1" ∷ []) ≡ None)
+    × (command (codes "control" ∷ codes "--server" ∷ codes "127.0.0.1:" ∷ []) ≡ None)
+    × (command (codes "control" ∷ codes "--server" ∷ codes "127.0.0.1:0" ∷ []) ≡ None)
+    × (command (codes "control" ∷ codes "--server" ∷ codes "127.0.0.1:65536" ∷ []) ≡ None)
+    × (command (codes "control" ∷ codes "--server" ∷ codes "127.0.0.2:8080" ∷ []) ≡ None)
+    × (command (codes "control" ∷ codes "--server" ∷ codes "8080" ∷ []) ≡ None)
+    × (command (codes "control" ∷ codes "--server" ∷ codes "127.0.0.1:8080" ∷ codes "--port" ∷ codes "1" ∷ []) ≡ None)
+
+-- `all` serves and has workers, 64 at most
+abbrev pub WorkersAreCounted : Type 0
+WorkersAreCounted =
+    (command (codes "all" ∷ []) ≡ Some (All (record { port = 8080; window = 1024; threads = 16; workers = 4 })))
+    × (command (codes "all" ∷ codes "--workers" ∷ codes "64" ∷ codes "--port" ∷ codes "0" ∷ codes "--threads" ∷ codes "2" ∷ codes "--window" ∷ codes "9" ∷ [])
+    ≡ Some (All (record { port = 0; window = 9; threads = 2; workers = 64 })))
+    × (command (codes "all" ∷ codes "--workers" ∷ codes "65" ∷ []) ≡ None)
+    × (command (codes "all" ∷ codes "--workers" ∷ codes "0" ∷ []) ≡ None)
+    × (command (codes "all" ∷ codes "--requests" ∷ codes "1" ∷ []) ≡ None)
+    × (command (codes "all" ∷ codes "--server" ∷ codes "127.0.0.1:8080" ∷ []) ≡ None)

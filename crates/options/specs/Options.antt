@@ -1,35 +1,53 @@
 -- What the words after the program's name ask: a command, and its options.
-use Rattle.std.specs.Prelude.{ℕ, List, [], ◌∷◌, length, codes, Bool, true, false, not, ◌==◌, ◌&&◌, nat_le, Option, Some, None, if◌then◌else◌}
+use Rattle.std.specs.Prelude.{ℕ, List, [], ◌∷◌, length, take, drop, codes, Bool, true, false, not, ◌==◌, ◌&&◌, nat_le, Option, Some, None, option_map, if◌then◌else◌}
 use Rattle.std.specs.List.{list_all, list_any}
 use Rattle.std.specs.Option.{unwrap_or, is_some, option_and_then}
 use Rattle.std.specs.Char.{is_ascii_digit}
 use Rattle.std.specs.Str.{bytes_eq}
 use Rattle.std.specs.Str.Parse.{digits_value}
 use Rattle.options.specs.declared.setting.Setting.{Setting}
-use Rattle.options.specs.declared.setting.Setting.TheVariants.{Port, Window, Threads, Requests}
+use Rattle.options.specs.declared.setting.Setting.TheVariants.{Port, Window, Threads, Requests, Server, Workers, Turns}
 use Rattle.options.specs.declared.command.ServeOptions.{ServeOptions}
+use Rattle.options.specs.declared.control_options.ControlOptions.{ControlOptions}
+use Rattle.options.specs.declared.all_options.AllOptions.{AllOptions}
 use Rattle.options.specs.declared.command.Command.{Command}
-use Rattle.options.specs.declared.command.Command.TheVariants.{Replay, Simulate, Serve}
+use Rattle.options.specs.declared.command.Command.TheVariants.{Replay, Simulate, Serve, Control, All}
 
--- what an option is called, and the least and the greatest number that it takes
+-- what an option is called, what stands before its number, and the least and the greatest number that it takes
 pub record Row : Type 0 where
   pub name : List ℕ
+  pub before : List ℕ
   pub least : ℕ
   pub greatest : ℕ
 
 -- the table of all options
 abbrev pub row : Setting → Row
-row Port = record { name = codes "--port"; least = 0; greatest = 65535 }
-row Window = record { name = codes "--window"; least = 1; greatest = 65536 }
-row Threads = record { name = codes "--threads"; least = 1; greatest = 64 }
-row Requests = record { name = codes "--requests"; least = 1; greatest = 999999999 }
+row Port = record { name = codes "--port"; before = []; least = 0; greatest = 65535 }
+row Window = record { name = codes "--window"; before = []; least = 1; greatest = 65536 }
+row Threads = record { name = codes "--threads"; before = []; least = 1; greatest = 64 }
+row Requests = record { name = codes "--requests"; before = []; least = 1; greatest = 999999999 }
+row Server = record { name = codes "--server"; before = codes "127.0.0.1:"; least = 1; greatest = 65535 }
+row Workers = record { name = codes "--workers"; before = []; least = 1; greatest = 64 }
+row Turns = record { name = codes "--turns"; before = []; least = 1; greatest = 999999999 }
 
--- the options that `serve` takes, and the default of each
+-- the options that each command takes, and the default of each
 abbrev pub serve_settings : List Setting
 serve_settings = Port ∷ Window ∷ Threads ∷ Requests ∷ []
 
 abbrev pub serve_defaults : ServeOptions
 serve_defaults = record { port = 8080; window = 1024; threads = 16; requests = None }
+
+abbrev pub control_settings : List Setting
+control_settings = Server ∷ Workers ∷ Turns ∷ []
+
+abbrev pub default_workers : ℕ
+default_workers = 4
+
+abbrev pub all_settings : List Setting
+all_settings = Port ∷ Window ∷ Threads ∷ Workers ∷ []
+
+abbrev pub all_defaults : AllOptions
+all_defaults = record { port = 8080; window = 1024; threads = 16; workers = default_workers }
 
 -- a number is one to nine decimal digits
 abbrev pub is_number : List ℕ → Bool
@@ -39,9 +57,18 @@ is_number text = nat_le 1 (length text) && nat_le (length text) 9 && list_all is
 abbrev pub is_in_bounds : Setting → ℕ → Bool
 is_in_bounds setting number = nat_le (row setting).least number && nat_le number (row setting).greatest
 
+-- what follows the beginning of a text, if the text begins so
+abbrev pub after_prefix : List ℕ → List ℕ → Option (List ℕ)
+after_prefix beginning text = if bytes_eq beginning (take (length beginning) text) then Some (drop (length beginning) text) else None
+
+-- the number that digits spell, where it is within the bounds of an option
+abbrev pub number_within : Setting → List ℕ → Option ℕ
+number_within setting digits =
+    if is_number digits && is_in_bounds setting (digits_value 10 digits) then Some (digits_value 10 digits) else None
+
 -- the number that an option takes from a text
 abbrev pub taken : Setting → List ℕ → Option ℕ
-taken setting text = if is_number text && is_in_bounds setting (digits_value 10 text) then Some (digits_value 10 text) else None
+taken setting text = option_and_then (number_within setting) (after_prefix (row setting).before text)
 
 -- the word after a name, where every other word is a name, from the first on
 abbrev pub value_after : List ℕ → List (List ℕ) → Option (List ℕ)
@@ -76,11 +103,27 @@ serve_options words = record {
   requests = said Requests words;
 }
 
--- the command that words ask: `replay` or `simulate` alone, or `serve` with its options; anything else is bad arguments
+-- the options that words give `control`, which has no default for the server
+abbrev pub control_options : List (List ℕ) → Option ControlOptions
+control_options words =
+    option_map (λ port. record { port = port; workers = unwrap_or (said Workers words) default_workers; turns = said Turns words }) (said Server words)
+
+-- the options that words give `all`
+abbrev pub all_options : List (List ℕ) → AllOptions
+all_options words = record {
+  port = unwrap_or (said Port words) all_defaults.port;
+  window = unwrap_or (said Window words) all_defaults.window;
+  threads = unwrap_or (said Threads words) all_defaults.threads;
+  workers = unwrap_or (said Workers words) all_defaults.workers;
+}
+
+-- the command that words ask: `replay` or `simulate` alone, or another with its options; anything else is bad arguments
 abbrev pub command : List (List ℕ) → Option Command
 command [] = None
 command (word ∷ rest) =
     if bytes_eq word (codes "replay") && (length rest == 0) then Some Replay
     else if bytes_eq word (codes "simulate") && (length rest == 0) then Some Simulate
     else if bytes_eq word (codes "serve") && are_options serve_settings rest then Some (Serve (serve_options rest))
+    else if bytes_eq word (codes "control") && are_options control_settings rest then option_map Control (control_options rest)
+    else if bytes_eq word (codes "all") && are_options all_settings rest then Some (All (all_options rest))
     else None

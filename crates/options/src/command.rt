@@ -1,6 +1,8 @@
 //! The commands of the program.
 ghost use Rattle.std.specs.Prelude.{◌≡◌, map, string_bytes};
 
+use crate::all_options::AllOptions;
+use crate::control_options::ControlOptions;
 use crate::setting::Setting;
 use crate::words::{are_options, said};
 
@@ -26,6 +28,10 @@ pub enum Command {
     Simulate,
     /// Connections are served.
     Serve(ServeOptions),
+    /// The controllers work at a server.
+    Control(ControlOptions),
+    /// Connections are served, and the controllers work at what they ask.
+    All(AllOptions),
 }
 
 /// The options of `kcp serve`.
@@ -34,6 +40,17 @@ const SERVE_SETTINGS: [Setting; 4] = [
     Setting::Window,
     Setting::Threads,
     Setting::Requests,
+];
+
+/// The options of `kcp control`.
+const CONTROL_SETTINGS: [Setting; 3] = [Setting::Server, Setting::Workers, Setting::Turns];
+
+/// The options of `kcp all`.
+const ALL_SETTINGS: [Setting; 4] = [
+    Setting::Port,
+    Setting::Window,
+    Setting::Threads,
+    Setting::Workers,
 ];
 
 impl Default for ServeOptions {
@@ -93,6 +110,12 @@ impl Command {
         }
         if word.as_str() == "serve" && are_options(&SERVE_SETTINGS, rest) {
             return Some(Command::Serve(ServeOptions::of_words(rest)));
+        }
+        if word.as_str() == "control" && are_options(&CONTROL_SETTINGS, rest) {
+            return Some(Command::Control(ControlOptions::of_words(rest)?));
+        }
+        if word.as_str() == "all" && are_options(&ALL_SETTINGS, rest) {
+            return Some(Command::All(AllOptions::of_words(rest)));
         }
         None
     }

@@ -1,5 +1,5 @@
 //! Words, and the commands that they ask, computed by the checker.
-ghost use Rattle.options.specs.Examples.{CommandsAreNamed, OptionsAreSaid, OptionsStandOnce, NumbersHaveBounds, NumbersAreDigits};
+ghost use Rattle.options.specs.Examples.{CommandsAreNamed, OptionsAreSaid, OptionsStandOnce, NumbersHaveBounds, NumbersAreDigits, ServersAreNamed, WorkersAreCounted};
 
 /// What the words after the program's name ask.
 pub fn words_ask()
@@ -13,4 +13,8 @@ pub fn words_ask()
     ensures numbers_have_bounds { NumbersHaveBounds }
     // A number is one to nine digits.
     ensures numbers_are_digits { NumbersAreDigits }
+    // What works at a server says which.
+    ensures servers_are_named { ServersAreNamed }
+    // Workers are counted from 1 to 64.
+    ensures workers_are_counted { WorkersAreCounted }
 {}

@@ -1,10 +1,14 @@
 //! What the words after the program's name ask: a command, with its options.
 #![tactic(auto)]
 
+pub mod all_options;
 pub mod command;
+pub mod control_options;
 pub mod examples;
 pub mod setting;
 pub mod words;
 
+pub use all_options::AllOptions;
 pub use command::{Command, ServeOptions};
+pub use control_options::ControlOptions;
 pub use setting::Setting;

@@ -1,9 +1,9 @@
 //! The options, and the numbers that they take.
-ghost use Rattle.std.specs.Prelude.{◌≡◌, if◌then◌else◌};
+ghost use Rattle.std.specs.Prelude.{◌≡◌, option_map, if◌then◌else◌};
 ghost use Rattle.std.specs.List.{list_all};
 ghost use Rattle.std.specs.Char.{is_ascii_digit};
 ghost use Rattle.std.specs.Str.Parse.{digits_value};
-ghost use Rattle.options.specs.Options.{is_number};
+ghost use Rattle.options.specs.Options.{after_prefix, is_number};
 
 /// The most digits of a number.
 const MOST_DIGITS: usize = 9;
@@ -19,12 +19,19 @@ pub enum Setting {
     Threads,
     /// After how many connections the program ends.
     Requests,
+    /// The server that is asked: the loopback address, and a port of it.
+    Server,
+    /// How many workers there are.
+    Workers,
+    /// After how many turns of workers the program ends.
+    Turns,
 }
 
-/// What an option is called, and the least and the greatest number that it takes.
+/// What an option is called, what stands before its number, and the least and the greatest number that it takes.
 #[derive(Clone, Copy)]
 struct Row {
     name: &'static str,
+    before: &'static str,
     least: u64,
     greatest: u64,
 }
@@ -59,6 +66,13 @@ fn number(text: &str) -> Option<u64>
     }
 }
 
+/// Returns what follows the beginning of a text, if the text begins so.
+fn after_prefix<'a>(beginning: &str, text: &'a str) -> Option<&'a str>
+    ensures { option_map (λ rest. rest.now) result ≡ after_prefix beginning.now text.now }
+{
+    text.strip_prefix(beginning)
+}
+
 impl Setting {
     ghost use Rattle.std.specs.Prelude.{◌≡◌, ◌≤◌, IfSome};
     ghost use Rattle.options.specs.Options.{row, taken};
@@ -66,17 +80,22 @@ impl Setting {
     /// Returns the row of the table that is the option's.
     fn row(self) -> Row
         ensures name { result.name.now ≡ (row self).name }
+        ensures before { result.before.now ≡ (row self).before }
         ensures least { result.least ≡ (row self).least }
         ensures greatest { result.greatest ≡ (row self).greatest }
     {
-        let (name, least, greatest) = match self {
-            Setting::Port => ("--port", 0, 65_535),
-            Setting::Window => ("--window", 1, 65_536),
-            Setting::Threads => ("--threads", 1, 64),
-            Setting::Requests => ("--requests", 1, 999_999_999),
+        let (name, before, least, greatest) = match self {
+            Setting::Port => ("--port", "", 0, 65_535),
+            Setting::Window => ("--window", "", 1, 65_536),
+            Setting::Threads => ("--threads", "", 1, 64),
+            Setting::Requests => ("--requests", "", 1, 999_999_999),
+            Setting::Server => ("--server", "127.0.0.1:", 1, 65_535),
+            Setting::Workers => ("--workers", "", 1, 64),
+            Setting::Turns => ("--turns", "", 1, 999_999_999),
         };
         Row {
             name,
+            before,
             least,
             greatest,
         }
@@ -95,7 +114,7 @@ impl Setting {
         ensures greatest { IfSome result (λ number. number ≤ (row self).greatest) }
     {
         let row = self.row();
-        let number = number(text)?;
+        let number = number(after_prefix(row.before, text)?)?;
         if row.least <= number && number <= row.greatest {
             Some(number)
         } else {

@@ -8,4 +8,6 @@ returns c = record {
   options_stand_once = (refl, refl, refl, refl, refl, refl);
   numbers_have_bounds = (refl, refl, refl, refl, refl, refl, refl, refl, refl);
   numbers_are_digits = (refl, refl, refl, refl, refl, refl);
+  servers_are_named = (refl, refl, refl, refl, refl, refl, refl, refl, refl, refl, refl);
+  workers_are_counted = (refl, refl, refl, refl, refl, refl);
 }
