@@ -18,6 +18,7 @@ abbrev pub serve_fault_text : ServeFault → List ℕ
 serve_fault_text serve.Listen = codes "listen"
 serve_fault_text serve.Write = codes "write"
 serve_fault_text serve.NoMemory = codes "no memory"
+serve_fault_text serve.Stopped = codes "stopped"
 
 -- a session with windows of this size has answered some lines of the input, from the start and the first on, and no others; their replies
 -- were appended: all of them, unless writing failed, and then all but the last one's and a beginning of that

@@ -1,5 +1,6 @@
 //! The control plane's program: `kcp replay` answers the request lines of its standard input, `kcp simulate` takes the steps of a
-//! simulated control plane that lines ask for, and `kcp serve` answers the requests that come over HTTP/1.1.
+//! simulated control plane that lines ask for, `kcp serve` answers the requests that come over HTTP/1.1, and `kcp control` runs the
+//! controllers at such a server.
 #![tactic(auto)]
 
 ghost use Rattle.std.specs.Prelude.{◌≡◌, OnOk, OnErr, IfErr, IfSome};
@@ -11,14 +12,14 @@ ghost use Rattle.kcp.specs.Replays.{fault_text, serve_fault_text, AnswersSome};
 ghost use Rattle.reconciling.specs.StepLines.{simulate};
 ghost use Rattle.simulations.specs.Laws as simulated;
 
-mod handling;
+mod controlling;
 mod serving_threads;
 
 use line_service::RunFault;
 use options::Command;
 use serving::ServeFault;
 use session::Session;
-use std::alloc::Global;
+use std::alloc::{AllocError, Global};
 use std::io::{BufRead, BufReader, BufWriter, Write};
 use std::process::ExitCode;
 use std::{env, io};
@@ -134,6 +135,7 @@ fn serve_fault_name(fault: ServeFault) -> &'static str
         ServeFault::Listen => "listen",
         ServeFault::Write => "write",
         ServeFault::NoMemory => "no memory",
+        ServeFault::Stopped => "stopped",
     }
 }
 
@@ -153,6 +155,14 @@ fn served(outcome: Result<(), ServeFault>) -> Result<(), &'static str> {
     }
 }
 
+/// Returns what an outcome of the controllers is called where it is a fault.
+fn controlled(outcome: Result<(), AllocError>) -> Result<(), &'static str> {
+    match outcome {
+        Ok(()) => Ok(()),
+        Err(_) => Err(fault_name(RunFault::Want)),
+    }
+}
+
 fn main(rt: HostRuntime) -> io::Result<ExitCode> {
     let outcome = match command(&rt) {
         Ok(Some(Command::Replay)) => ran(replay_standard_input(&rt)),
@@ -160,6 +170,13 @@ fn main(rt: HostRuntime) -> io::Result<ExitCode> {
         Ok(Some(Command::Serve(options))) => {
             let mut writer = io::writer(&rt);
             served(serving_threads::serve(&rt, rt.alloc(), options, &mut writer))
+        }
+        Ok(Some(Command::Control(options))) => {
+            controlled(controlling::control(&rt, rt.alloc(), options))
+        }
+        Ok(Some(Command::All(_))) => {
+            eprintln!(rt; "kcp: all is not there yet")?;
+            return Ok(ExitCode::from(2));
         }
         Ok(None) => {
             eprintln!(rt; "kcp: bad arguments")?;

@@ -1,5 +1,5 @@
 //! A worker's turn at a desk, and how its passes meet.
-ghost use Rattle.std.specs.Prelude.{◌≡◌, ◌≢◌, ◌<◌, None, Some, IfOk, OnOk, OnErr, All, length, map, option_map};
+ghost use Rattle.std.specs.Prelude.{◌≡◌, ◌≢◌, ◌<◌, None, Some, IfOk, OnOk, OnErr, All, is_some, length, map, option_map};
 ghost use Rattle.baton.specs.Batons.{AreNumbered};
 ghost use Rattle.baton.specs.Passes.{Met};
 ghost use Rattle.control_desk.specs.Seen.{observation_of};
@@ -50,6 +50,19 @@ impl ControlDesk {
     {
         let held = self.take(rt, pass);
         self.take_key_held::<Brand, R>(rt, pass, held)
+    }
+
+    /// Returns whether a key waits. The pass has then seen all that had happened.
+    pub fn has_waiting<R: Wait>(&self, rt: &R, pass: &mut WorkPass) -> bool
+        requires { IsPassAt self.now pass.old }
+        ensures pass { IsPassAt self.now pass.new }
+        ensures step { IsCall (known pass.old) (λ b. None) (λ b. result ≡ is_some (handed b.work)) (known pass.new) }
+        ensures key { key_in_hand pass.new ≡ key_in_hand pass.old }
+    {
+        let held = self.take(rt, pass);
+        let waits = held.get().first().is_some();
+        self.give_back(rt, pass, held);
+        waits
     }
 
     /// Gives back the key in the hands of the pass, and forgets its failures.

@@ -1,7 +1,7 @@
 use denote.Exit.{no}
 use denote.Param.{param}
 use denote.Param.Send.{IsSync, sendable, param_send, arg_send}
-use Rattle.kcp.proofs.Sent.{connection}
+use Rattle.loopback.proofs.Sent.{connection}
 use Rattle.kcp.proofs.serving_threads.serve.Goals as goal
 
 pub serve-requires-send-H : goal.serve-requires-send-H

@@ -1,6 +1,6 @@
 use Rattle.std.proofs.Common.{All, length}
 use Rattle.shared_desk.specs.Desks.{IsNewAt}
-use Rattle.kcp.proofs.serving_threads.connections.Given as goal
+use Rattle.loopback.proofs.answering.connections.Given as goal
 
 abbrev pub invariant-loop-pass : goal.invariant-loop-pass
 invariant-loop-pass g l = All (IsNewAt l.desk) l.left.items

@@ -1,16 +1,7 @@
-//! What answers the connections of a thread of `kcp serve`.
-ghost use Rattle.shared_desk.specs.Desks.{IsPassAt};
+//! The pauses of a watch.
 ghost use Rattle.std.specs.Prelude.{◌≡◌, ◌*◌, min};
 
-use api::{Served, serve_one};
-use bells::Bell;
-use chunked::Watched;
-use routes::table::Routes;
-use serving::{Ending, Handler};
-use shared_desk::{Anything, Desk, Listener, Seat, StorePass};
-use stamps::moments::Moment;
-use std::alloc::{AllocError, Global};
-use std::io::{Read, Write};
+use bells::{Bell, Stop};
 use std::sync::Wait;
 use std::thread;
 use std::time::{Clock, Duration, Instant};
@@ -29,26 +20,13 @@ const QUIET_TIME: u64 = 20_000;
 /// that sees nothing lives for ten seconds at least, however much is written that it does not ask for.
 const MOST_CUT_SHORT: u64 = 512;
 
-/// Wakes the watches of all threads at each write.
-#[derive(Drop)]
-struct Ringer<'a> {
-    bell: &'a Bell,
-}
-
-impl Listener for Ringer<'_> {
-    ghost Hears = { λ before after. Unit {0} };
-
-    fn wrote<R: Wait>(&mut self, _rt: &R) {
-        self.bell.ring();
-    }
-}
-
 /// Waits between two looks of a watch, until something is written or the pause is over. While nothing is written each pause is twice as
 /// long as the one before, up to the longest; a write makes the next one the shortest again.
 #[derive(Drop)]
-struct Pause<'a, R> {
+pub(crate) struct Pause<'a, R> {
     rt: &'a R,
     bell: &'a Bell,
+    stop: &'a Stop,
     /// The bell's count before the last look.
     seen: u64,
     /// How many milliseconds the next pause has, unless fewer are left.
@@ -59,10 +37,11 @@ struct Pause<'a, R> {
 
 impl<'a, R: Wait + Clock> Pause<'a, R> {
     /// Returns what waits between the looks of a watch that has not looked yet.
-    fn new(rt: &'a R, bell: &'a Bell) -> Pause<'a, R> {
+    pub(crate) fn new(rt: &'a R, bell: &'a Bell, stop: &'a Stop) -> Pause<'a, R> {
         Pause {
             rt,
             bell,
+            stop,
             seen: bell.count(),
             next: SHORTEST_PAUSE,
             left: QUIET_TIME,
@@ -124,7 +103,7 @@ impl<R: Wait + Clock> Pace for Pause<'_, R> {
             self.next = SHORTEST_PAUSE;
             self.left = QUIET_TIME;
         }
-        if self.left == 0 {
+        if self.left == 0 || self.stop.is_stopped() {
             return;
         }
         if idle < MOST_CUT_SHORT {
@@ -133,64 +112,5 @@ impl<R: Wait + Clock> Pace for Pause<'_, R> {
             self.sleep();
         }
         self.seen = self.bell.count();
-    }
-}
-
-/// What a thread needs to answer its connections: its seat at the desk that all threads share, and the bell that its watches wait for.
-#[derive(Drop)]
-pub struct Connection<'a, R> {
-    alloc: Global,
-    routes: Routes,
-    seat: Seat<'a, Anything, Ringer<'a>, R>,
-    rt: &'a R,
-    bell: &'a Bell,
-}
-
-impl<'a, R: Wait + Clock> Connection<'a, R> {
-    /// Returns what answers connections with a pass of a desk, whose writes ring a bell.
-    pub fn new(
-        rt: &'a R,
-        alloc: Global,
-        desk: &'a Desk<Anything>,
-        pass: StorePass,
-        bell: &'a Bell,
-    ) -> Result<Connection<'a, R>, AllocError>
-        requires { IsPassAt desk.now pass }
-    {
-        Ok(Connection {
-            alloc,
-            routes: Routes::new(alloc)?,
-            seat: Seat::new(desk, pass, rt, Ringer { bell }),
-            rt,
-            bell,
-        })
-    }
-}
-
-impl<R: Wait + Clock> Handler for Connection<'_, R> {
-    ghost step = { λ old new. Unit {0} };
-
-    /// Serves the one request of a connection. A connection that fails is left, and the thread goes on.
-    fn handle<I: Read, W: Write>(
-        &mut self,
-        reader: &mut I,
-        writer: &mut W,
-        moment: Moment,
-    ) -> Ending {
-        let mut reader = Watched::new(reader);
-        let mut writer = Watched::new(writer);
-        let mut pause = Pause::new(self.rt, self.bell);
-        match serve_one(
-            self.alloc,
-            &self.routes,
-            &mut reader,
-            &mut writer,
-            &mut self.seat,
-            moment,
-            &mut pause,
-        ) {
-            Ok(Served::Asked) => Ending::Whole,
-            Ok(Served::NotAsked) | Err(_) => Ending::Unread,
-        }
     }
 }

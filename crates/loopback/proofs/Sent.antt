@@ -1,4 +1,4 @@
--- What answers connections may be sent to a thread.
+-- What answers connections, and what opens them, may be sent to a thread.
 use denote.Hole.{as_row}
 use denote.Param.Send.{IsSend, IsSync, sendable}
 use denote.Param.SendFields.{declared_send}
@@ -14,16 +14,20 @@ use Rattle.std.proofs.MapsCrossing as maps
 use Rattle.std.specs.contracts.alloc.Global as Global
 use Rattle.bells.proofs.bell.Bell.TheSendSync as bell
 use Rattle.bells.specs.contracts.bell.Bell as Bell
-use Rattle.definitions.proofs.kinds.Group.TheSendSync as group
+use Rattle.bells.proofs.stop.Stop.TheSendSync as stop
+use Rattle.bells.specs.contracts.stop.Stop as Stop
 use Rattle.routes.below.matchit.proofs.route.Route.TheSendSync as route
 use Rattle.routes.below.matchit.proofs.tree.Node.TheLaws.TheKnot as knot
 use Rattle.routes.below.slab.proofs.Entry.TheSendSync as place
 use Rattle.routes.below.slab.proofs.Slab.TheSendSync as slab
 use Rattle.routes.proofs.entries.Entry.TheSendSync as entry
-use Rattle.routes.proofs.entries.Layout.TheSendSync as layout
 use Rattle.routes.specs.contracts.table.Routes as Routes
-use Rattle.kcp.specs.contracts.handling.Ringer as Ringer
-use Rattle.kcp.specs.contracts.handling.Connection as Connection
+use Rattle.loopback.specs.contracts.answering.Ringer as Ringer
+use Rattle.loopback.specs.contracts.answering.Connection as Connection
+use Rattle.loopback.specs.contracts.connecting.Connector as Connector
+use Rattle.loopback.specs.contracts.connecting.Reach as Reach
+use Rattle.loopback.specs.contracts.own_server.OwnServer as OwnServer
+use Rattle.remote.proofs.asking.Remote.TheSendSync as remote_of
 use Rattle.shared_desk.proofs.Sent.{desk, pass_field}
 
 -- a seat, where its listener may be sent, and its runtime lent
@@ -44,7 +48,7 @@ alloc : IsSend (as_row Global.the_field)
 alloc = search (heap.send, sendable)
 
 routes : IsSend (as_row Routes.the_field)
-routes = search (knot.crosses, route.the_send, route.the_field_send, place.the_send, place.the_field_send, slab.the_send, entry.the_send, entry.the_field_send, layout.the_send, layout.the_field_send, group.the_send, group.the_field_send, heap.crosses, maps.crosses, sendable) depth 60 fits 20000
+routes = search (knot.crosses, route.the_send, place.the_send, place.the_field_send, slab.the_send, entry.the_send, heap.crosses, maps.crosses, sendable) depth 60 fits 20000
 
 module _ (a : NamedLft) (R : RattleType) (r : IsSync R) where
   ringer : IsSend (Ringer.the_row a)
@@ -56,5 +60,21 @@ module _ (a : NamedLft) (R : RattleType) (r : IsSync R) where
   lent_bell : IsSend (as_row (Field.shr_ref_field a Bell.the_row tt))
   lent_bell = search (bell.the_sync, heap.crosses, sendable) depth 20
 
+  lent_stop : IsSend (as_row (Field.shr_ref_field a Stop.the_row tt))
+  lent_stop = search (stop.the_sync, heap.crosses, sendable) depth 20
+
   pub connection : IsSend (Connection.the_row a R)
-  connection = declared_send (Connection.the_type a R) (alloc, (routes, (seat a (Ringer.the_row a) R ringer r, (runtime, (lent_bell, tt)))))
+  connection = declared_send (Connection.the_type a R) (alloc, (routes, (seat a (Ringer.the_row a) R ringer r, (runtime, (lent_bell, (lent_stop, tt))))))
+
+  port : IsSend (as_row Field.u16-field)
+  port = search (sendable)
+
+  lent_reach : IsSend (as_row (Field.shr_ref_field a Reach.the_row tt))
+  lent_reach = search (heap.crosses, sendable) depth 20
+
+  pub connector : IsSend (Connector.the_row a R)
+  connector = declared_send (Connector.the_type a R) (runtime, (alloc, (port, (lent_stop, (lent_reach, tt)))))
+
+  module _ (C I O : RattleType) (c : IsSend C) (i : IsSend I) where
+    pub own_server : IsSend (OwnServer.the_row a R C I O)
+    own_server = declared_send (OwnServer.the_type a R C I O) (runtime, (routes, (seat a (Ringer.the_row a) R ringer r, (remote_of.the_send C I O c i, tt))))

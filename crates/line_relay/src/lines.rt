@@ -1,0 +1,74 @@
+//! Reply lines.
+ghost use Rattle.std.specs.Prelude.{◌≡◌, ◌==◌, IfOk, count_by};
+ghost use Rattle.keys.specs.Faults.{refusal_of};
+ghost use Rattle.definitions.specs.Refusals.{code, status_body};
+ghost use Rattle.serde_json.specs.Written.{compact_text};
+ghost use Rattle.line_relay.specs.Replies.{line_text, is_of_lines, watch_text, reply_text};
+
+use client::Reply;
+use keys::Fault;
+use std::alloc::{AllocError, Global};
+
+/// The status code of what is there, and of a watch (RFC 9110, 200 OK).
+const OK: u16 = 200;
+
+/// Returns a code, a space, a text and the end of the line.
+fn line(alloc: Global, code: u16, text: &[u8]) -> Result<Vec<u8>, AllocError>
+    ensures { IfOk result (λ l. l.items ≡ line_text code text.now) }
+{
+    let digits = code.to_string(alloc)?;
+    let mut line = Vec::new(alloc);
+    line.extend_from_slice(digits.as_bytes())?;
+    line.push(b' ')?;
+    line.extend_from_slice(text)?;
+    line.push(b'\n')?;
+    Ok(line)
+}
+
+/// Returns the line of a refusal. The error is running out of memory.
+pub fn refusal_line(alloc: Global, fault: &Fault) -> Result<Vec<u8>, AllocError>
+    ensures { IfOk result (λ l. l.items ≡ line_text (code (refusal_of fault.now)) (compact_text (status_body (refusal_of fault.now)))) }
+{
+    let reply = reply::Reply::refusal(alloc, fault)?;
+    line(alloc, reply.code, reply.text.as_bytes())
+}
+
+/// Returns whether a body is one of a watch: each frame ends its line, and no other body does.
+fn is_of_watch(body: &[u8]) -> bool
+    ensures { result ≡ is_of_lines body.now }
+{
+    let len = body.len();
+    len == 0 || body[len - 1] == b'\n'
+}
+
+/// Returns how many lines a text ends.
+fn count_lines(text: &[u8]) -> usize
+    ensures { result ≡ count_by (λ byte. byte == 10) text.now }
+{
+    text.iter().filter(|byte| **byte == b'\n').count()
+}
+
+/// Returns the lines of the reply to a watch: how many frames it gave, and these. The error is running out of memory.
+fn watch_lines(alloc: Global, body: &[u8]) -> Result<Vec<u8>, AllocError>
+    ensures { IfOk result (λ l. l.items ≡ watch_text body.now) }
+{
+    let count = count_lines(body);
+    let head = format!(in alloc; "200 watch {count}\n")?;
+    let mut lines = Vec::new(alloc);
+    lines.extend_from_slice(head.as_bytes())?;
+    lines.extend_from_slice(body)?;
+    Ok(lines)
+}
+
+/// Returns the lines of a reply: its code and its body; of a watch first how many frames it gave, and then these. The error is running out
+/// of memory.
+pub fn reply_lines(alloc: Global, reply: &Reply) -> Result<Vec<u8>, AllocError>
+    ensures { IfOk result (λ l. l.items ≡ reply_text reply.now.code reply.now.body.items) }
+{
+    let body = reply.body.as_slice();
+    if reply.code == OK && is_of_watch(body) {
+        watch_lines(alloc, body)
+    } else {
+        line(alloc, reply.code, body)
+    }
+}

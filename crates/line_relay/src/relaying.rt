@@ -1,0 +1,99 @@
+//! The loop that relays lines.
+use crate::lines::{refusal_line, reply_lines};
+use chunked::Watched;
+use client::{Answer, Outgoing, call};
+use definitions::methods::Method;
+use definitions::refusals::Part;
+use keys::Fault;
+use line_service::RunFault;
+use line_service::run_loop::{make_ready, send, unread, without_newline};
+use remote::Connect;
+use remote::outgoing::{media_type, method_text};
+use requests::line::{Line, read_line};
+use std::alloc::{AllocError, Global};
+use std::io::{BufRead, Write};
+
+/// Returns the fault of running out of memory.
+fn want(_: AllocError) -> RunFault {
+    RunFault::Want
+}
+
+/// Returns the reply lines of a request that is asked over a connection of its own. The error is that no whole reply came, or running out of
+/// memory.
+fn ask<C: Connect>(
+    alloc: Global,
+    connector: &mut C,
+    method: Method,
+    target: &str,
+    body: &[u8],
+) -> Result<Vec<u8>, RunFault> {
+    let request = Outgoing {
+        method: method_text(method),
+        target,
+        host: "localhost",
+        media_type: media_type(method),
+        body,
+    };
+    let Ok((reader, writer)) = connector.connect() else {
+        return Err(RunFault::Read);
+    };
+    match call(
+        alloc,
+        request,
+        Watched::new(reader),
+        &mut Watched::new(writer),
+    ) {
+        Answer::Replied(reply) => reply_lines(alloc, &reply).map_err(want),
+        Answer::NotSent | Answer::Lost => Err(RunFault::Read),
+    }
+}
+
+/// Returns the line by which a line is refused that is no request, as a head is that cannot be read.
+fn unreadable(alloc: Global) -> Result<Vec<u8>, RunFault> {
+    refusal_line(alloc, &Fault::BadRequest(Part::Head)).map_err(want)
+}
+
+/// Returns what is written for a line: the reply to its request. An empty line is skipped, as in a replay.
+fn reply_to<C: Connect>(
+    alloc: Global,
+    connector: &mut C,
+    line: &[u8],
+) -> Result<Vec<u8>, RunFault> {
+    if line.is_empty() {
+        return Ok(Vec::new(alloc));
+    }
+    match read_line(line) {
+        Line::Ask {
+            method,
+            target,
+            body,
+        } => match str::from_utf8(target) {
+            Ok(target) => ask(alloc, connector, method, target, body),
+            Err(_) => unreadable(alloc),
+        },
+        Line::At(_) | Line::Compact(_) | Line::Unreadable => unreadable(alloc),
+    }
+}
+
+/// Sends the request of each line that is read to a server, each over a connection of its own, and writes the reply lines, in the form of a
+/// replay. A watch ends where the server ends it. Each reply is flushed before the next line is waited for. The error is that a line could
+/// not be read, or its reply not be had or written, or running out of memory; it ends the run.
+pub fn relay<C: Connect, R: BufRead, W: Write>(
+    alloc: Global,
+    connector: &mut C,
+    reader: &mut R,
+    writer: &mut W,
+) -> Result<(), RunFault> {
+    let mut line = Vec::new(alloc);
+    for _ in 0..u64::MAX {
+        make_ready(&mut line);
+        match reader.read_until(b'\n', &mut line) {
+            Ok(0) => return Ok(()),
+            Ok(_) => {}
+            Err(error) => return Err(unread(&error)),
+        }
+        let reply = reply_to(alloc, connector, without_newline(line.as_slice()))?;
+        send(writer, reply.as_slice())?;
+    }
+    Err(RunFault::Read)
+}

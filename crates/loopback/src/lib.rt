@@ -1,0 +1,11 @@
+//! Connections of the loopback address: what answers them with a pass of a desk that threads share, and what opens them to a server.
+#![tactic(auto)]
+
+pub mod answering;
+pub mod connecting;
+pub mod own_server;
+mod pausing;
+
+pub use answering::{Connection, connections};
+pub use connecting::{Connector, Reach};
+pub use own_server::OwnServer;

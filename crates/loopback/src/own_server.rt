@@ -1,0 +1,107 @@
+//! The server of the same process, asked without connections.
+ghost use Rattle.shared_desk.specs.Desks.{IsNewAt, IsPassAt};
+ghost use Rattle.std.specs.Prelude.{All};
+
+use crate::answering::Ringer;
+use asked::{Asked, read_request};
+use bells::Bell;
+use client::{Answer, More};
+use clocks::moment;
+use definitions::kinds::Kind;
+use keys::Fault;
+use remote::{Api, Connect, Opened, Remote};
+use request_texts::{can_be_told, request_text};
+use requests::Request;
+use routes::table::Routes;
+use shared_desk::{Anything, Desk, Seat, StorePass};
+use sites::Site;
+use std::alloc::{AllocError, Global};
+use std::sync::Wait;
+use std::time::Clock;
+
+/// The server of the same process. What is asked of one object it answers at a seat of its desk, as it would answer a connection, and
+/// without one; lists and watches go over connections.
+#[derive(Drop)]
+pub struct OwnServer<'a, R, C: Connect + Drop> {
+    rt: &'a R,
+    routes: Routes,
+    seat: Seat<'a, Anything, Ringer<'a>, R>,
+    remote: Remote<C>,
+}
+
+/// Returns what a client is answered. The server has done nothing where it had no memory: the request is as good as not sent.
+fn answer_of(alloc: Global, outcome: Result<reply::Reply, Fault>) -> Answer {
+    let reply = match outcome {
+        Ok(reply) => reply,
+        Err(Fault::NoMemory) => return Answer::NotSent,
+        Err(fault) => match reply::Reply::refusal(alloc, &fault) {
+            Ok(reply) => reply,
+            Err(_) => return Answer::NotSent,
+        },
+    };
+    Answer::Replied(client::Reply {
+        code: reply.code,
+        body: reply.text.into_bytes(),
+    })
+}
+
+impl<'a, R: Wait + Clock, C: Connect + Drop> OwnServer<'a, R, C> {
+    ghost use Rattle.shared_desk.specs.Desks.{IsPassAt};
+
+    /// Returns the server of a desk, whose writes ring a bell, and to which this connects.
+    pub fn new(
+        rt: &'a R,
+        alloc: Global,
+        desk: &'a Desk<Anything>,
+        pass: StorePass,
+        bell: &'a Bell,
+        connector: C,
+    ) -> Result<OwnServer<'a, R, C>, AllocError>
+        requires { IsPassAt desk.now pass }
+    {
+        Ok(OwnServer {
+            rt,
+            routes: Routes::new(alloc)?,
+            seat: Seat::new(desk, pass, rt, Ringer { bell }),
+            remote: Remote::new(connector),
+        })
+    }
+
+    /// Returns what a request is answered now.
+    fn answer(&mut self, alloc: Global, request: Request) -> Answer {
+        match moment(self.rt) {
+            Some(moment) => answer_of(alloc, self.seat.call(alloc, request, moment)),
+            None => Answer::NotSent,
+        }
+    }
+}
+
+impl<R: Wait + Clock, C: Connect + Drop> Api for OwnServer<'_, R, C> {
+    /// Answers a request as its text is read, so that it is answered as over a connection.
+    fn call(&mut self, alloc: Global, request: &Request) -> Answer {
+        if !can_be_told(request) {
+            return Answer::NotSent;
+        }
+        let Ok(text) = request_text(alloc, request) else {
+            return Answer::NotSent;
+        };
+        let (target, body) = (text.target.as_bytes(), text.body.as_bytes());
+        match read_request(alloc, &self.routes, text.method, target, body) {
+            Ok(Asked::Request(request)) => self.answer(alloc, request),
+            Ok(_) => Answer::NotSent,
+            Err(fault) => answer_of(alloc, Err(fault)),
+        }
+    }
+
+    fn list(&mut self, alloc: Global, kind: Kind) -> Answer {
+        self.remote.list(alloc, kind)
+    }
+
+    fn open_watch(&mut self, alloc: Global, kind: Kind, revision: u64) -> Opened {
+        self.remote.open_watch(alloc, kind, revision)
+    }
+
+    fn more(&mut self, buf: &mut [u8]) -> More {
+        self.remote.more(buf)
+    }
+}

@@ -1,0 +1,30 @@
+-- Where nothing could be looked at, no change is handled.
+use Rattle.std.proofs.Common.{◌≡◌, ℕ, Bool, List, [], drop, Result, Ok, Err, OnErr, ap, ◌∙◌, refl, sym}
+use Rattle.std.proofs.lemmas.List.{append-nil}
+use Rattle.baton.specs.declared.views.Known.{Known}
+use Rattle.control.specs.Boards.{Board}
+use Rattle.controllers.specs.Informers.{nothing}
+use Rattle.controllers.specs.Shifts.{Shift}
+use Rattle.server_state.specs.Snapshots.{Snapshot}
+use Rattle.shared_board.specs.Steps.{Step}
+use Rattle.turns.specs.declared.looks.Looks.{Looks}
+use Rattle.manager.specs.Handled.{HandlesSome}
+
+empty : Looks Snapshot
+empty = record { config_maps = nothing; pods = nothing; replica_sets = nothing; deployments = nothing }
+
+pub none_handled : (is_first : Bool) (ss : List Shift) (i j : ℕ) (v w : Known Board Step) → j ≡ i → w ≡ v → HandlesSome is_first (drop i ss) (drop j ss) v w
+none_handled is_first ss i j v w same knows = (
+  empty,
+  record {
+    handled = [];
+    whole = ap (λ k. drop k ss) (sym same);
+    between = v;
+    handles = refl;
+    waited = (([], ap (λ k. k.seen) knows ∙ sym (append-nil v.seen)), ap (λ k. k.made) knows);
+  },
+)
+
+pub on_err : {X Y : Type 0} → (r : Result X Y) (P : Type 0) → P → OnErr r P
+on_err (Ok x) P p = tt
+on_err (Err e) P p = p

@@ -1,0 +1,101 @@
+-- What the threads of a manager do may be sent to them.
+use mathlib.Core.List.{[], ◌∷◌}
+use denote.RattleType.{RattleType}
+use denote.Hole.{as_row}
+use denote.Ref.{NamedLft, ShrRef}
+use denote.Struct.Field as Field
+use denote.Struct.Field.{usize-field, u64-field}
+use denote.Param.Send.{IsSend, IsSync, sendable}
+use denote.Param.SendFields.{VariantsHave, declared_send, variants_send, as_row_send}
+use Rattle.core.specs.declared.sync.Wait as Wait
+use Rattle.std.proofs.Crossing as heap
+use Rattle.std.proofs.option.Option.TheSendSync as option
+use Rattle.std.specs.contracts.alloc.Global as Global
+use Rattle.std.specs.contracts.option.Option as Option
+use Rattle.crossbeam_queue.below.atomic_table.proofs.shared.Seat.TheSendSync as pass_of
+use Rattle.crossbeam_queue.below.atomic_table.specs.contracts.shared.Seat as Pass
+use Rattle.crossbeam_queue.specs.contracts.array_queue.Doing as Doing
+use Rattle.baton.specs.contracts.views.View as View
+use Rattle.control_desk.proofs.board.Board.TheSendSync as board
+use Rattle.control_desk.specs.contracts.board.Board as Board
+use Rattle.definitions.proofs.kinds.Kind.TheSendSync as kind
+use Rattle.definitions.specs.contracts.kinds.Kind as Kind
+use Rattle.following.proofs.follower.Follower.TheSendSync as follower_of
+use Rattle.indexer.specs.contracts.indexed.Indexed as Indexed
+use Rattle.listers.proofs.Sent.{lister, indexed_send, shared_informer}
+use Rattle.listers.specs.contracts.listers.Lister as Lister
+use Rattle.listers.specs.contracts.shared.SharedInformer as SharedInformer
+use Rattle.shared_board.proofs.desks.ControlDesk.TheSendSync as desk
+use Rattle.shared_board.specs.contracts.desks.ControlDesk as ControlDesk
+use Rattle.shared_board.specs.contracts.entries.Entry as Entry
+use Rattle.turns.proofs.looks.Looks.TheSendSync as looks_of
+use Rattle.turns.specs.contracts.looks.Looks as Looks
+use Rattle.worker_turns.proofs.signals.Signals.TheSendSync as signals
+use Rattle.worker_turns.proofs.working.Worker.TheSendSync as worker_of
+use Rattle.worker_turns.specs.contracts.signals.Signals as Signals
+use Rattle.worker_turns.specs.contracts.working.Worker as Worker
+use Rattle.manager.proofs.ticking.Ticker.TheSendSync as ticker_of
+use Rattle.manager.specs.contracts.handling.Handler as Handler
+use Rattle.manager.specs.contracts.looking.Listers as Listers
+use Rattle.manager.specs.contracts.members.Member as Member
+use Rattle.manager.specs.contracts.reflecting.Reflecting as Reflecting
+use Rattle.manager.specs.contracts.ticking.Ticker as Ticker
+
+listers : IsSend Listers.the_row
+listers = declared_send Listers.the_type (looks_of.the_send Lister.the_row lister, tt)
+
+taken : IsSend (Option.the_row Board.the_row)
+taken = search (option.the_send, board.the_send, sendable) depth 20
+
+pass : IsSend (as_row (Pass.the_field (Option.the_row Board.the_row) (Doing.the_row Board.the_row (View.the_row Board.the_row Entry.the_row))))
+pass = as_row_send (Pass.the_field (Option.the_row Board.the_row) (Doing.the_row Board.the_row (View.the_row Board.the_row Entry.the_row)))
+    (pass_of.the_send (Option.the_row Board.the_row) (Doing.the_row Board.the_row (View.the_row Board.the_row Entry.the_row)) taken)
+
+maps : IsSend (Option.the_row (Looks.the_row Indexed.the_row))
+maps = option.the_send (Looks.the_row Indexed.the_row) (looks_of.the_send Indexed.the_row indexed_send)
+
+alloc : IsSend (as_row Global.the_field)
+alloc = search (heap.send, sendable)
+
+kind_sent : IsSend (as_row Kind.the_field)
+kind_sent = search (kind.the_field_send, sendable)
+
+size : IsSend (as_row usize-field)
+size = search sendable
+
+revision : IsSend (as_row u64-field)
+revision = search sendable
+
+module _ (a : NamedLft) (R : RattleType) (r : IsSync R) where
+  runtime : IsSend (as_row (Field.row_field (ShrRef a.mir a.lft R)))
+  runtime = search (r, sendable)
+
+  lent_desk : IsSend (as_row (Field.shr_ref_field a ControlDesk.the_row tt))
+  lent_desk = search (desk.the_sync, heap.crosses, sendable) depth 20
+
+  lent_signals : IsSend (as_row (Field.shr_ref_field a Signals.the_row tt))
+  lent_signals = search (signals.the_sync, heap.crosses, sendable) depth 20
+
+  handler : IsSend (Handler.the_row a R)
+  handler = declared_send (Handler.the_type a R) (runtime, (alloc, (lent_desk, (pass, (lent_signals, (listers, (maps, (size, (revision, tt)))))))))
+
+  module _ (A : RattleType) (s : IsSend A) (w : Wait.Ghosts R.Denot) where
+    api : IsSend (as_row (Field.row_field A))
+    api = search (s, sendable)
+
+    reflecting : IsSend (Reflecting.the_row a R A w)
+    reflecting = declared_send (Reflecting.the_type a R A w)
+        (runtime, (alloc, (kind_sent, (lent_signals, (follower_of.the_send _ _ (shared_informer a R r), (api, (handler, tt)))))))
+
+    module _ (G : RattleType) (g : IsSync G) where
+      works : IsSend (Worker.the_row a R Listers.the_row A G)
+      works = worker_of.the_send a R Listers.the_row A G listers s r g
+
+      ticks : IsSend (Ticker.the_row a R)
+      ticks = ticker_of.the_send a R r
+
+      does : VariantsHave IsSend ((Reflecting.the_field a R A w ∷ []) ∷ ((Worker.the_field a R Listers.the_row A G ∷ []) ∷ ((Ticker.the_field a R ∷ []) ∷ [])))
+      does = ((reflecting, tt), ((works, tt), ((ticks, tt), tt)))
+
+      pub member : IsSend (Member.the_row a R A G w)
+      member = variants_send (Member.enum a R A G w) does

@@ -1,0 +1,19 @@
+use Rattle.std.proofs.Common.{map, ap, ◌∙◌}
+use Rattle.control_desk.specs.Seen.{observation_of}
+use Rattle.controllers.specs.OwedKeys.{keys_of}
+use Rattle.indexer.specs.Shifted.{shift_of}
+use Rattle.reconciling.specs.ControlPlanes.{change_of}
+use Rattle.reconciling.specs.PodObservations.{observations}
+use Rattle.shared_board.specs.Desks.{known}
+use Rattle.turns.specs.Hands.{looks_of}
+use Rattle.work_keys.specs.WorkKeys.{work_key_of}
+use Rattle.manager.proofs.Calls.{called_as}
+use Rattle.manager.proofs.changes.Handling.handle.Goals as goal
+
+pub returns-clause-ok : goal.returns-clause-ok
+returns-clause-ok g c =
+    let s = shift_of c.args.shift.now in
+    let shown = observations (record { shift = s; is_in_initial_list = c.args.self.now.is_first }) in
+    let owed = keys_of (change_of s) (looks_of (λ m. m) c.args.self.now.looks.now) in
+    called_as c.observe.result (map observation_of c.as_slice.result.now) shown (map work_key_of c.as_slice-2.result.now) owed (known c.args.pass.now) (known c.observe.new.pass)
+    (ap (map observation_of) c.as_slice.ensures.value ∙ c.in_ok-seen.ensures) (ap (map work_key_of) c.as_slice-2.ensures.value ∙ c.in_ok-keys.ensures) c.observe.ensures.step

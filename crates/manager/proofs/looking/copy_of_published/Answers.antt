@@ -1,0 +1,12 @@
+use Rattle.std.proofs.Common.{subst, sym}
+use Rattle.listers.specs.Knowing.{StartsWithAll, latest}
+use Rattle.listers.specs.Listers.{known}
+use Rattle.manager.specs.Looked.{has_seen, as_before}
+use Rattle.manager.proofs.looking.copy_of_published.Goals as goal
+
+-- what a look has seen the lister knows then
+pub returns-in-Ok-clause-knows : goal.returns-in-Ok-clause-knows
+returns-in-Ok-clause-knows c = has_seen (subst (λ v. StartsWithAll (latest v) (known c.args.lister)) (sym c.leave.ensures) c.in-Ok.ensures.later)
+
+pub returns-in-Err-clause-knows : goal.returns-in-Err-clause-knows
+returns-in-Err-clause-knows c = as_before c.in-Err.ensures.err

@@ -1,0 +1,4 @@
+-- The definitions, in reading order.
+pub mod Looked
+pub mod Handled
+pub mod Passed

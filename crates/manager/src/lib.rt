@@ -1,0 +1,15 @@
+//! The controllers in threads: what follows a server, one thread for each kind; workers, each of which takes one key after another and
+//! commands what its controller plans; and what lets time pass.
+#![tactic(auto)]
+
+pub(crate) mod changes;
+pub mod handling;
+pub mod looking;
+pub mod members;
+pub mod reflecting;
+pub mod running;
+pub mod ticking;
+pub mod timing;
+
+pub use running::{Apis, run};
+pub use worker_turns::{Gate, Open, Signals};

@@ -1,0 +1,107 @@
+//! What a thread looks at.
+ghost use Rattle.std.specs.Prelude.{◌≡◌, IfOk, IfSome};
+ghost use Rattle.manager.specs.Looked.{map_known, KnowsMore};
+
+use core::mem::replace_with;
+use definitions::kinds::Kind;
+use indexer::Indexed;
+use listers::Lister;
+use std::alloc::AllocError;
+use turns::Looks;
+use worker_turns::Looking;
+
+/// The listers of a thread, one for each kind.
+#[derive(Drop)]
+pub struct Listers {
+    listers: Looks<Lister>,
+}
+
+/// Returns the lister, and a copy of what is published, which shares the objects. None where the informer is closed. The error is running
+/// out of memory.
+fn copy_of_published(lister: Lister) -> (Lister, Result<Option<Indexed>, AllocError>)
+    ensures found { IfOk result.1 (λ found. IfSome found (λ map. map ≡ map_known result.0)) }
+    ensures knows { KnowsMore lister result.0 }
+{
+    match lister.look() {
+        Ok(look) => {
+            let copy = look.indexed().try_copy();
+            (look.leave(), copy.map(Some))
+        }
+        Err(lister) => (lister, Ok(None)),
+    }
+}
+
+/// Returns a copy of what is published, as a lister sees it. It waits for nobody. None where the informer is closed. The error is running
+/// out of memory.
+fn copy(lister: &mut Lister) -> Result<Option<Indexed>, AllocError>
+    ensures found { IfOk result (λ found. IfSome found (λ map. map ≡ map_known lister.new)) }
+    ensures knows { KnowsMore lister.old lister.new }
+{
+    replace_with(lister, (), |lister, ()| copy_of_published(lister))
+}
+
+impl Listers {
+    ghost use Rattle.std.specs.Prelude.{◌≡◌, IfOk, IfSome};
+    ghost use Rattle.manager.specs.Looked.{of_kind, with_kind, map_known, KnowsMore, AreKnown};
+
+    /// Returns the listers of a thread.
+    pub fn new(
+        config_maps: Lister,
+        pods: Lister,
+        replica_sets: Lister,
+        deployments: Lister,
+    ) -> Listers
+        ensures { result.listers ≡ record { config_maps = config_maps; pods = pods; replica_sets = replica_sets; deployments = deployments } }
+    {
+        Listers {
+            listers: Looks {
+                config_maps,
+                pods,
+                replica_sets,
+                deployments,
+            },
+        }
+    }
+
+    /// Returns a copy of what is published of a kind. It waits for nobody. None where its informer is closed. The error is running out of
+    /// memory.
+    fn copy(&mut self, kind: Kind) -> Result<Option<Indexed>, AllocError>
+        ensures found { IfOk result (λ found. IfSome found (λ map. map ≡ map_known (of_kind kind self.new.listers))) }
+        ensures knows { KnowsMore (of_kind kind self.old.listers) (of_kind kind self.new.listers) }
+        ensures others { self.new.listers ≡ with_kind kind (of_kind kind self.new.listers) self.old.listers }
+    {
+        match kind {
+            Kind::ConfigMap => copy(&mut self.listers.config_maps),
+            Kind::Pod => copy(&mut self.listers.pods),
+            Kind::ReplicaSet => copy(&mut self.listers.replica_sets),
+            Kind::Deployment => copy(&mut self.listers.deployments),
+        }
+    }
+
+    /// Returns copies of what is published of all kinds. None where an informer is closed. The error is running out of memory.
+    pub fn all_published(&mut self) -> Result<Option<Looks<Indexed>>, AllocError>
+        ensures { IfOk result (λ found. IfSome found (λ maps. AreKnown self.new.listers maps)) }
+    {
+        let config_maps = self.copy(Kind::ConfigMap)?;
+        let pods = self.copy(Kind::Pod)?;
+        let replica_sets = self.copy(Kind::ReplicaSet)?;
+        let deployments = self.copy(Kind::Deployment)?;
+        match (config_maps, pods, replica_sets, deployments) {
+            (Some(config_maps), Some(pods), Some(replica_sets), Some(deployments)) => Ok(Some(
+                Looks {
+                    config_maps,
+                    pods,
+                    replica_sets,
+                    deployments,
+                },
+            )),
+            _ => Ok(None),
+        }
+    }
+}
+
+impl Looking for Listers {
+    fn published(&mut self, kind: Kind) -> Result<Option<Indexed>, AllocError> {
+        self.copy(kind)
+    }
+}

@@ -1,0 +1,242 @@
+//! All threads of a manager.
+ghost use Rattle.std.specs.Prelude.{◌≡◌, ◌<◌, ◌^◌, ◌+◌, IfOk, OnOk, All, vec_len};
+ghost use Rattle.shared_board.specs.Desks.{IsNewAt};
+
+use crate::handling::Handler;
+use crate::looking::Listers;
+use crate::members::Member;
+use crate::reflecting::Reflecting;
+use crate::ticking::Ticker;
+use definitions::kinds::Kind;
+use following::Follower;
+use listers::{Informer, SharedInformer};
+use remote::Api;
+use shared_board::{ControlDesk, WorkPass};
+use std::alloc::{AllocError, Global};
+use std::sync::Wait;
+use std::thread::{Threads, for_each_mut};
+use std::time::Clock;
+use turns::Looks;
+use worker_turns::{Gate, Signals, Tools, Worker};
+
+/// How many threads look at what is published beside the workers: each that follows a kind.
+const FOLLOWERS: usize = 4;
+
+/// How the threads of a manager ask its server: each asks for itself.
+#[derive(Drop)]
+pub struct Apis<A> {
+    /// Those that follow the kinds.
+    pub followers: Looks<A>,
+    /// The workers.
+    pub workers: Vec<A>,
+}
+
+/// What all threads share.
+#[derive(Drop)]
+struct Floor<'a, R, G> {
+    rt: &'a R,
+    alloc: Global,
+    desk: &'a ControlDesk,
+    signals: &'a Signals,
+    gate: &'a G,
+}
+
+/// Returns an informer of each kind, with room for so many listers. The error is running out of memory.
+fn informers<R: Wait>(
+    rt: &R,
+    alloc: Global,
+    listers: usize,
+) -> Result<Looks<SharedInformer<'_, R>>, AllocError>
+    requires { (0 < listers) × (listers < 2 ^ 32) }
+{
+    Ok(Looks {
+        config_maps: SharedInformer::new(rt, Informer::open(alloc, listers)?),
+        pods: SharedInformer::new(rt, Informer::open(alloc, listers)?),
+        replica_sets: SharedInformer::new(rt, Informer::open(alloc, listers)?),
+        deployments: SharedInformer::new(rt, Informer::open(alloc, listers)?),
+    })
+}
+
+/// Returns the listers of one more thread. The error is running out of memory.
+fn listers<R: Wait>(informers: &mut Looks<SharedInformer<'_, R>>) -> Result<Listers, AllocError> {
+    Ok(Listers::new(
+        informers.config_maps.lister()?,
+        informers.pods.lister()?,
+        informers.replica_sets.lister()?,
+        informers.deployments.lister()?,
+    ))
+}
+
+impl<'a, R: Threads + Wait + Clock + Sync, G: Gate> Floor<'a, R, G> {
+    /// Returns the last of the passes.
+    fn next_pass(&self, passes: &mut Vec<WorkPass>) -> WorkPass
+        requires new { All (IsNewAt self.now.desk.now) passes.old.items }
+        requires some { 0 < vec_len passes.old }
+        ensures pass { IsNewAt self.now.desk.now result }
+        ensures left { All (IsNewAt self.now.desk.now) passes.new.items }
+        ensures count { vec_len passes.new + 1 ≡ vec_len passes.old }
+    {
+        let Some(pass) = passes.pop() else {
+            unreachable!()
+        };
+        pass
+    }
+
+    /// Returns what follows a kind.
+    fn follows<A: Api + Drop>(
+        &self,
+        kind: Kind,
+        pass: WorkPass,
+        informer: SharedInformer<'a, R>,
+        listers: Listers,
+        api: A,
+    ) -> Member<'a, R, A, G>
+        requires { IsNewAt self.now.desk.now pass }
+    {
+        Member::Follows(Reflecting {
+            rt: self.rt,
+            alloc: self.alloc,
+            kind,
+            signals: self.signals,
+            follower: Follower::new(self.alloc, kind, informer),
+            api,
+            handler: Handler::new(self.rt, self.alloc, self.desk, pass, self.signals, listers),
+        })
+    }
+
+    /// Returns a worker.
+    fn works<A: Api + Drop>(&self, pass: WorkPass, listers: Listers, api: A) -> Member<'a, R, A, G>
+        requires { IsNewAt self.now.desk.now pass }
+    {
+        let tools = Tools {
+            rt: self.rt,
+            alloc: self.alloc,
+            signals: self.signals,
+            gate: self.gate,
+            listers,
+            api,
+        };
+        Member::Works(Worker::new(self.desk, pass, tools))
+    }
+}
+
+/// Returns the workers, one for each way to ask. The error is running out of memory.
+fn workers<'a, R: Threads + Wait + Clock + Sync, A: Api + Drop, G: Gate>(
+    floor: &Floor<'a, R, G>,
+    passes: &mut Vec<WorkPass>,
+    informers: &mut Looks<SharedInformer<'a, R>>,
+    apis: Vec<A>,
+) -> Result<Vec<Member<'a, R, A, G>>, AllocError>
+    requires passes { All (IsNewAt floor.now.desk.now) passes.old.items }
+    requires enough { vec_len passes.old ≡ vec_len apis + 5 }
+    ensures passes { All (IsNewAt floor.now.desk.now) passes.new.items }
+    ensures left { OnOk result (vec_len passes.new ≡ 5) }
+    ensures made { IfOk result (λ made. vec_len made ≡ vec_len apis) }
+{
+    let mut made = Vec::with_capacity(floor.alloc, apis.len())?;
+    let mut left = apis;
+    while let Some(api) = left.pop() {
+        let pass = floor.next_pass(passes);
+        made.push(floor.works(pass, listers(informers)?, api))?;
+    }
+    Ok(made)
+}
+
+/// Returns what each thread does. The error is running out of memory.
+fn members<'a, R: Threads + Wait + Clock + Sync, A: Api + Drop, G: Gate>(
+    floor: &Floor<'a, R, G>,
+    passes: Vec<WorkPass>,
+    informers: Looks<SharedInformer<'a, R>>,
+    apis: Apis<A>,
+) -> Result<Vec<Member<'a, R, A, G>>, AllocError>
+    requires passes { All (IsNewAt floor.now.desk.now) passes.items }
+    requires enough { vec_len passes ≡ vec_len apis.workers + 5 }
+    ensures { IfOk result (λ made. vec_len made ≡ vec_len apis.workers + 5) }
+{
+    let (mut passes, mut informers) = (passes, informers);
+    let mut made = workers(floor, &mut passes, &mut informers, apis.workers)?;
+    let own = Looks {
+        config_maps: listers(&mut informers)?,
+        pods: listers(&mut informers)?,
+        replica_sets: listers(&mut informers)?,
+        deployments: listers(&mut informers)?,
+    };
+    let asking = apis.followers;
+    made.push(floor.follows(
+        Kind::ConfigMap,
+        floor.next_pass(&mut passes),
+        informers.config_maps,
+        own.config_maps,
+        asking.config_maps,
+    ))?;
+    made.push(floor.follows(
+        Kind::Pod,
+        floor.next_pass(&mut passes),
+        informers.pods,
+        own.pods,
+        asking.pods,
+    ))?;
+    made.push(floor.follows(
+        Kind::ReplicaSet,
+        floor.next_pass(&mut passes),
+        informers.replica_sets,
+        own.replica_sets,
+        asking.replica_sets,
+    ))?;
+    made.push(floor.follows(
+        Kind::Deployment,
+        floor.next_pass(&mut passes),
+        informers.deployments,
+        own.deployments,
+        asking.deployments,
+    ))?;
+    made.push(Member::Ticks(Ticker::new(
+        floor.rt,
+        floor.desk,
+        floor.next_pass(&mut passes),
+        floor.signals,
+    )))?;
+    Ok(made)
+}
+
+/// Runs the controllers until all is to stop, and joins all threads: one that follows each kind and handles its changes, one that lets time
+/// pass, and the workers. Before each plan a worker passes the gate, and after it. The error is running out of memory before a thread
+/// was started.
+///
+/// No clause says that a thread starts or gets on. What a thread does at the board, each call of the board says, and what a worker
+/// commands its turn.
+pub fn run<R, A, G>(
+    rt: &R,
+    alloc: Global,
+    apis: Apis<A>,
+    signals: &Signals,
+    gate: &G,
+) -> Result<(), AllocError>
+where
+    R: Threads + Wait + Clock + Sync,
+    A: Api + Send + Drop,
+    G: Gate + Sync,
+    requires { vec_len apis.workers < 2 ^ 16 }
+{
+    let count = apis.workers.len();
+    let (desk, passes) = ControlDesk::open(alloc, count + FOLLOWERS + 1)?;
+    let floor = Floor {
+        rt,
+        alloc,
+        desk: &desk,
+        signals,
+        gate,
+    };
+    let informers = informers(rt, alloc, count + FOLLOWERS)?;
+    let mut members = members(&floor, passes, informers, apis)?;
+    let threads = members.len().max(1);
+    for_each_mut(
+        rt,
+        members.as_mut_slice(),
+        threads,
+        &|_, member| {
+            member.run();
+        },
+    );
+    Ok(())
+}

@@ -1,0 +1,15 @@
+use Rattle.std.specs.Prelude.{◌≡◌, refl, Bool, Option, Some, None, is_some, option_map}
+use Rattle.std.proofs.Common.{◌∙◌, ap, sym}
+use Rattle.controllers.specs.WorkQueues.{handed}
+use Rattle.shared_board.proofs.Turns.{calls}
+use Rattle.shared_board.proofs.desks.ControlDesk.has_waiting.Goals as goal
+
+some_mapped : {X Y : Type 0} (f : X → Y) (o : Option X) → is_some o ≡ is_some (option_map f o)
+some_mapped f None = refl
+some_mapped f (Some x) = refl
+
+pub returns-clause-step : goal.returns-clause-step
+returns-clause-step g c =
+    calls _ _ _ _ _ c.take-held.ensures.taken
+    (c.is_some-waits.ensures ∙ (some_mapped _ c.first.result ∙ (ap is_some c.first.ensures ∙ ap (λ b. is_some (handed b.work)) (c.get.ensures ∙ c.take-held.ensures.holding.board))))
+    c.give_back.ensures.known

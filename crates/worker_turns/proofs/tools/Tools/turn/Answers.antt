@@ -1,0 +1,16 @@
+-- Each round goes on by a step that comes next, and has the same key until the turn is over.
+use Rattle.std.proofs.Common.{◌∙◌, Bool, refl, subst}
+use Rattle.worker_turns.proofs.Ways.{goes-on}
+use Rattle.worker_turns.specs.Stepping.{Advances, none}
+use Rattle.worker_turns.proofs.tools.Tools.turn.Goals as goal
+
+pub loop-init : goal.loop-init
+loop-init g c = (tt, tt, c.requires.pass, refl, none)
+
+pub loop-preserved : goal.loop-preserved
+loop-preserved g c =
+    let stays = c.loop.invariant in
+    let step = c.advance_or_rest.ensures in
+    let is_on = c.if-advance_or_rest.false in
+    let goes : Bool → Type 0 = λ b. Advances c.loop.turn c.advance_or_rest.new.turn b in
+    (tt, tt, step.pass, step.mine is_on ∙ stays.3, goes-on c.args.turn c.loop.turn c.advance_or_rest.new.turn stays.4 (subst goes is_on step.turn))

@@ -1,0 +1,36 @@
+-- What a worker learns of its command (RFC 9110, Status Codes).
+use Rattle.std.specs.Prelude.{◌≡◌, ◌≤◌, ◌<◌, ℕ, List}
+use Rattle.std.specs.Str.{IsUtf8}
+use Rattle.client.specs.declared.answer.Answer as client
+use Rattle.client.specs.declared.answer.Answer.TheVariants as outcome
+use Rattle.reconciling.specs.Turns as turns
+use Rattle.workers.specs.Seen.{answer_of, data_of}
+use Rattle.workers.specs.declared.answers.Answer.{Answer}
+use Rattle.workers.specs.declared.answers.Answer.TheVariants as answer
+use Rattle.worker_turns.specs.declared.answers.Learnt.{Learnt}
+use Rattle.worker_turns.specs.declared.answers.Learnt.TheVariants as learnt
+
+-- a code by which a server accepts a request
+abbrev pub Accepts : ℕ → Type 0
+Accepts code = (200 ≤ code) × (code < 300)
+
+-- an accepted command is answered with the code and the text of the body; a body that is no text is as good as lost
+pub record IsAccepted (code : ℕ) (body : List ℕ) (a : Answer) : Type 0 where
+  pub text : IsUtf8 body → answer_of a ≡ turns.accepted code (data_of body)
+  pub none : ¬ (IsUtf8 body) → answer_of a ≡ turns.lost
+
+-- what became of a command that a server replied to, and had memory for
+pub record IsAnswer (code : ℕ) (body : List ℕ) (a : Answer) : Type 0 where
+  pub accepted : Accepts code → IsAccepted code body a
+  pub refused : ¬ (Accepts code) → answer_of a ≡ turns.refused code
+
+-- where the server had no memory nothing was done
+abbrev pub Learns : ℕ → List ℕ → Learnt → Type 0
+Learns code body learnt.Again = code ≡ 503
+Learns code body (learnt.Known a) = ¬ (code ≡ 503) × IsAnswer code body a
+
+-- a command that was not sent is to be made again; of one that was, and has no reply, nothing is known
+abbrev pub LearnsOf : client.Answer → Learnt → Type 0
+LearnsOf (outcome.Replied r) l = Learns r.code r.body.items l
+LearnsOf outcome.NotSent l = l ≡ learnt.Again
+LearnsOf outcome.Lost l = l ≡ learnt.Known answer.Lost

@@ -1,0 +1,5 @@
+-- The definitions, in reading order.
+pub mod Learning
+pub mod Finding
+pub mod Stepping
+pub mod Telling

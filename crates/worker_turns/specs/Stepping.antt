@@ -1,0 +1,68 @@
+-- What a worker's steps make of its turn: each is the one that comes next in it.
+use Rattle.std.specs.Prelude.{◌≡◌, ◌⊎◌, Option, Bool, true, false}
+use Rattle.definitions.specs.Keys.{Key}
+use Rattle.definitions.specs.declared.kinds.Kind.{Kind}
+use Rattle.reconciling.specs.NextSteps.{NextStep, next, look, ask_satisfied, read, expect, issue, finish}
+use Rattle.reconciling.specs.Turns.{Turn, Answer, looked, satisfied, with_sight, with_read, with_expected}
+use Rattle.serde_json.specs.Data.{Data}
+use Rattle.server_state.specs.Snapshots.{Snapshot}
+use Rattle.workers.specs.Seen.{answered_to, command_issued}
+use Rattle.worker_turns.specs.declared.steps.Progress.{Progress}
+use Rattle.worker_turns.specs.declared.steps.Progress.TheVariants as progress
+
+-- a look adds what some map shows
+abbrev pub Looks : Kind → Turn → Turn → Progress → Type 0
+Looks k t u progress.Went = (s : Snapshot) × (u ≡ with_sight (looked k s) t)
+Looks k t u progress.Again = u ≡ t
+Looks k t u progress.AtEnd = ⊥
+
+-- it is answered whether all pods that were expected have been seen
+abbrev pub Asks : Turn → Turn → Progress → Type 0
+Asks t u progress.Went = (b : Bool) × (u ≡ with_sight (satisfied b) t)
+Asks t u progress.Again = ⊥
+Asks t u progress.AtEnd = ⊥
+
+-- a live read adds what was found
+abbrev pub Reads : Key → Turn → Turn → Progress → Type 0
+Reads k t u progress.Went = (found : Option Data) × (u ≡ with_read (record { key = k; found = found }) t)
+Reads k t u progress.Again = u ≡ t
+Reads k t u progress.AtEnd = ⊥
+
+-- what the plan makes of pods is expected
+abbrev pub Expects : Turn → Turn → Progress → Type 0
+Expects t u progress.Went = u ≡ with_expected t
+Expects t u progress.Again = ⊥
+Expects t u progress.AtEnd = ⊥
+
+-- a command is issued and answered once; it is issued again only where it was not carried out, or where all is to stop
+abbrev pub Issues : NextStep → Turn → Turn → Progress → Type 0
+Issues s t u progress.Went = (a : Answer) × (u ≡ answered_to (command_issued s) a t)
+Issues s t u progress.Again = u ≡ t
+Issues s t u progress.AtEnd = ⊥
+
+-- a step is taken as it is told; the end of a turn changes nothing
+abbrev pub Takes : NextStep → Turn → Turn → Progress → Type 0
+Takes (look k) t u p = Looks k t u p
+Takes ask_satisfied t u p = Asks t u p
+Takes (read k) t u p = Reads k t u p
+Takes (expect e) t u p = Expects t u p
+Takes (issue x) t u p = Issues (issue x) t u p
+Takes finish t u p = (p ≡ progress.AtEnd) × (u ≡ t)
+
+-- the step that comes next is taken
+abbrev pub Steps : Turn → Turn → Progress → Type 0
+Steps t u p = Takes (next t) t u p
+
+-- one turn comes of another by steps, each of which comes next
+pub data Reaches (t : Turn) : Turn → Type 0 where
+  none : Reaches t t
+  more : (u v : Turn) (p : Progress) → Reaches t u → Steps u v p → Reaches t v
+
+-- a turn that is over is at its end; in one that is not, the step that comes next was taken, or nothing has changed
+abbrev pub Advances : Turn → Turn → Bool → Type 0
+Advances t u true = (next t ≡ finish) × (u ≡ t)
+Advances t u false = ((p : Progress) × Steps t u p) ⊎ (u ≡ t)
+
+-- the turn was taken to its end
+abbrev pub GoesToEnd : Turn → Type 0
+GoesToEnd t = (u : Turn) × Reaches t u × (next u ≡ finish)

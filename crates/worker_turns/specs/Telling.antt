@@ -1,0 +1,8 @@
+-- What a worker tells the board of its turn.
+use Rattle.std.specs.Prelude.{◌==◌, if◌then◌else◌}
+use Rattle.reconciling.specs.Turns.{Expected}
+use Rattle.shared_board.specs.Steps.{Step, expect_creations, expect_deletions}
+
+-- what is expected of pods: no plan both creates some and deletes some
+abbrev pub expecting : Expected → Step
+expecting e = if e.creations == 0 then expect_deletions e.owner e.deletions else expect_creations e.owner e.creations

@@ -1,0 +1,235 @@
+//! The steps of a turn.
+ghost use Rattle.std.specs.Prelude.{◌≡◌, ◌⊎◌, Bool, None, Some, IfOk, IfSome, OnOk, OnErr, is_some, true, false};
+ghost use Rattle.keys.specs.Keys.{key_of};
+ghost use Rattle.reconciling.specs.Managers.{is_satisfied_for};
+ghost use Rattle.reconciling.specs.NextSteps as steps;
+ghost use Rattle.reconciling.specs.NextSteps.{next, look, ask_satisfied};
+ghost use Rattle.reconciling.specs.Turns.{lost, owner, satisfied, with_sight};
+ghost use Rattle.shared_board.specs.Calls.{IsCall, Nothing};
+ghost use Rattle.shared_board.specs.Desks.{known, key_in_hand, IsPassAt};
+ghost use Rattle.shared_board.specs.Steps.{changing, forget};
+ghost use Rattle.workers.specs.Seen.{answer_of, answered_to, command_issued, expectation};
+ghost use Rattle.worker_turns.specs.Stepping.{Looks, Asks, Reads, Expects, Issues, Steps};
+ghost use Rattle.worker_turns.specs.Telling.{expecting};
+
+use crate::answers::{Learnt, learnt_of};
+use crate::live_reads::{Found, can_be, found_in};
+use crate::looking::Looking;
+use crate::tools::Tools;
+use definitions::kinds::Kind;
+use keys::Key;
+use remote::Api;
+use request_texts::can_be_told;
+use requests::Request;
+use shared_board::{ControlDesk, WorkPass};
+use std::alloc::AllocError;
+use std::sync::Wait;
+use std::time::Clock;
+use workers::{Answer, Expected, NextStep, Sight, Turn};
+
+/// What came of a step.
+#[derive(Debug, Clone, Copy, PartialEq, Eq)]
+pub enum Progress {
+    /// It was taken.
+    Went,
+    /// It was not, and is to be tried again.
+    Again,
+    /// It is the end of the turn.
+    AtEnd,
+}
+
+/// The status code of a request that cannot be read (RFC 9110, 400 Bad Request).
+const BAD_REQUEST: u16 = 400;
+
+/// How many milliseconds a worker that lacks memory waits before it notes an answer.
+const PAUSE_MILLISECONDS: u64 = 10;
+
+impl<R: Wait + Clock, L: Looking + Drop, A: Api + Drop, G> Tools<'_, R, L, A, G> {
+    /// Looks at what is published of a kind.
+    fn look(&mut self, turn: &mut Turn, kind: Kind) -> Result<Progress, AllocError>
+        requires { next turn.old ≡ look kind }
+        ensures ok { IfOk result (λ p. Looks kind turn.old turn.new p) }
+        ensures err { OnErr result (turn.new ≡ turn.old) }
+    {
+        match self.listers.published(kind)? {
+            Some(published) => {
+                turn.see(Sight::Looked(kind, published))?;
+                Ok(Progress::Went)
+            }
+            None => Ok(Progress::Again),
+        }
+    }
+
+    /// Asks whether all pods that are expected have been seen; of a ReplicaSet that is no longer there nothing is expected.
+    fn ask_satisfied(
+        &self,
+        desk: &ControlDesk,
+        pass: &mut WorkPass,
+        turn: &mut Turn,
+    ) -> Result<Progress, AllocError>
+        requires pass { IsPassAt desk.now pass.old }
+        requires next { next turn.old ≡ ask_satisfied }
+        ensures pass { IsPassAt desk.now pass.new }
+        ensures key { key_in_hand pass.new ≡ key_in_hand pass.old }
+        ensures ok { IfOk result (λ p. Asks turn.old turn.new p) }
+        ensures asked { OnOk result (IfSome (owner turn.old) (λ o. (b : Bool) × (turn.new ≡ with_sight (satisfied b) turn.old)
+            × IsCall (known pass.old) (λ d. None) (λ d. b ≡ is_satisfied_for (Some o) d) (known pass.new))) }
+        ensures gone { OnOk result (owner turn.old ≡ None
+            → (turn.new ≡ with_sight (satisfied true) turn.old)
+            × IsCall (known pass.old) (changing (forget turn.old.work_key.key)) Nothing (known pass.new)) }
+        ensures err { OnErr result (turn.new ≡ turn.old) }
+    {
+        let key = turn.key().key.try_copy()?;
+        match turn.owner(self.alloc)? {
+            Some(owner) => {
+                let is_satisfied = desk.satisfied(self.rt, pass, &owner);
+                turn.see(Sight::Satisfied(is_satisfied))?;
+            }
+            None => {
+                turn.see(Sight::Satisfied(true))?;
+                desk.forget(self.rt, pass, &key);
+            }
+        }
+        Ok(Progress::Went)
+    }
+
+    /// Returns what is there under a key: an object that cannot be is absent without being asked for.
+    fn find(&mut self, key: &Key) -> Result<Found, AllocError> {
+        if !can_be(key) {
+            return Ok(Found::Absent);
+        }
+        let request = Request::Get(key.try_copy()?);
+        let answer = self.api.call(self.alloc, &request);
+        found_in(self.alloc, key.kind, &answer)
+    }
+
+    /// Reads what is there under the key that is read live next.
+    fn read_live(&mut self, turn: &mut Turn, key: &Key) -> Result<Progress, AllocError>
+        requires { next turn.old ≡ steps.read (key_of key.now) }
+        ensures ok { IfOk result (λ p. Reads (key_of key.now) turn.old turn.new p) }
+        ensures err { OnErr result (turn.new ≡ turn.old) }
+    {
+        match self.find(key)? {
+            Found::Present(object) => {
+                turn.add_read(Some(object))?;
+                Ok(Progress::Went)
+            }
+            Found::Absent => {
+                turn.add_read(None)?;
+                Ok(Progress::Went)
+            }
+            Found::Unknown => Ok(Progress::Again),
+        }
+    }
+
+    /// Expects what the plan makes of pods.
+    fn expect(
+        &self,
+        desk: &ControlDesk,
+        pass: &mut WorkPass,
+        turn: &mut Turn,
+    ) -> Result<Progress, AllocError>
+        requires pass { IsPassAt desk.now pass.old }
+        requires next { is_some (expectation (next turn.old)) ≡ true }
+        ensures pass { IsPassAt desk.now pass.new }
+        ensures key { key_in_hand pass.new ≡ key_in_hand pass.old }
+        ensures ok { IfOk result (λ p. Expects turn.old turn.new p) }
+        ensures told { OnOk result (IfSome (expectation (next turn.old)) (λ e.
+            IsCall (known pass.old) (changing (expecting e)) Nothing (known pass.new))) }
+        ensures err { OnErr result (turn.new ≡ turn.old) }
+    {
+        let Some(expected) = turn.expected(self.alloc)? else {
+            unreachable!()
+        };
+        let Expected {
+            owner,
+            creations,
+            deletions,
+        } = expected;
+        if creations == 0 {
+            desk.expect_deletions(self.rt, pass, &owner, deletions)?;
+        } else {
+            desk.expect_creations(self.rt, pass, &owner, creations)?;
+        }
+        turn.expect();
+        Ok(Progress::Went)
+    }
+
+    /// Notes the answer to the command that is issued next. Where there is no memory for it, it is noted as lost, as soon as there is
+    /// memory for that: so no command is issued twice. Returns whether it was noted: not where all is to stop.
+    fn note(&self, turn: &mut Turn, answer: Answer) -> bool
+        requires { is_some (command_issued (next turn.old)) ≡ true }
+        ensures noted { result ≡ true
+            → (turn.new ≡ answered_to (command_issued (next turn.old)) (answer_of answer) turn.old)
+            ⊎ (turn.new ≡ answered_to (command_issued (next turn.old)) lost turn.old) }
+        ensures not_noted { result ≡ false → turn.new ≡ turn.old }
+    {
+        if turn.answer(answer).is_ok() {
+            return true;
+        }
+        for _ in self.rt.forever() {
+            if turn.answer(Answer::Lost).is_ok() {
+                return true;
+            }
+            if self.signals.stop.rest(self.rt, PAUSE_MILLISECONDS) {
+                return false;
+            }
+        }
+        unreachable!()
+    }
+
+    /// Returns what a worker learns of the request of its command. One that cannot be told over HTTP is as good as refused.
+    fn ask(&mut self, request: &Request) -> Learnt {
+        if !can_be_told(request) {
+            return Learnt::Known(Answer::Refused { code: BAD_REQUEST });
+        }
+        learnt_of(self.api.call(self.alloc, request))
+    }
+
+    /// Issues the next command of the plan. One that was not sent, or for which the server had no memory, is to be issued again.
+    fn issue(&mut self, turn: &mut Turn) -> Result<Progress, AllocError>
+        requires { is_some (command_issued (next turn.old)) ≡ true }
+        ensures ok { IfOk result (λ p. Issues (next turn.old) turn.old turn.new p) }
+        ensures err { OnErr result (turn.new ≡ turn.old) }
+    {
+        let Some(request) = turn.request(self.alloc)? else {
+            unreachable!()
+        };
+        match self.ask(&request) {
+            Learnt::Known(answer) => {
+                if self.note(turn, answer) {
+                    Ok(Progress::Went)
+                } else {
+                    Ok(Progress::Again)
+                }
+            }
+            Learnt::Again => Ok(Progress::Again),
+        }
+    }
+
+    /// Takes the next step of a turn, but its end.
+    pub fn step(
+        &mut self,
+        desk: &ControlDesk,
+        pass: &mut WorkPass,
+        turn: &mut Turn,
+    ) -> Result<Progress, AllocError>
+        requires pass { IsPassAt desk.now pass.old }
+        ensures pass { IsPassAt desk.now pass.new }
+        ensures key { key_in_hand pass.new ≡ key_in_hand pass.old }
+        ensures ok { IfOk result (λ p. Steps turn.old turn.new p) }
+        ensures err { OnErr result (turn.new ≡ turn.old) }
+    {
+        match turn.next() {
+            NextStep::Look(kind) => self.look(turn, kind),
+            NextStep::AskSatisfied => self.ask_satisfied(desk, pass, turn),
+            NextStep::Read(key) => {
+                let key = key.try_copy()?;
+                self.read_live(turn, &key)
+            }
+            NextStep::Expect => self.expect(desk, pass, turn),
+            NextStep::Issue(_) => self.issue(turn),
+            NextStep::Finish => Ok(Progress::AtEnd),
+        }
+    }
+}

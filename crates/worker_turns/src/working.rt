@@ -1,0 +1,115 @@
+//! A worker.
+ghost use Rattle.std.specs.Prelude.{◌≡◌, option_map};
+ghost use Rattle.shared_board.specs.Desks.{IsPassAt, key_in_hand};
+ghost use Rattle.work_keys.specs.WorkKeys.{work_key_of};
+
+use crate::gates::Gate;
+use crate::looking::Looking;
+use crate::tools::Tools;
+use remote::Api;
+use shared_board::{ControlDesk, WorkPass};
+use std::sync::Wait;
+use std::time::Clock;
+use work_keys::WorkKey;
+use workers::Turn;
+
+/// How many milliseconds a worker waits for memory.
+const PAUSE_MILLISECONDS: u64 = 50;
+
+/// A worker at the board that all share. The key in its hands is the one that its pass took last and has not given back.
+#[derive(Drop)]
+pub struct Worker<'a, R, L: Drop, A: Drop, G> {
+    desk: &'a ControlDesk,
+    pass: WorkPass,
+    hand: Option<WorkKey>,
+    tools: Tools<'a, R, L, A, G>,
+    ghost sits: { IsPassAt desk.now pass },
+    ghost mine: { key_in_hand pass ≡ option_map work_key_of hand },
+}
+
+impl<'a, R: Wait + Clock, L: Looking + Drop, A: Api + Drop, G: Gate> Worker<'a, R, L, A, G> {
+    ghost use Rattle.std.specs.Prelude.{◌≡◌, ◌⊎◌, None, is_some};
+    ghost use Rattle.shared_board.specs.Desks.{IsPassAt, key_in_hand};
+
+    /// Returns a worker that has no key.
+    pub fn new(
+        desk: &'a ControlDesk,
+        pass: WorkPass,
+        tools: Tools<'a, R, L, A, G>,
+    ) -> Worker<'a, R, L, A, G>
+        requires sits { IsPassAt desk.now pass }
+        requires free { key_in_hand pass ≡ None }
+    {
+        Worker {
+            desk,
+            pass,
+            hand: None,
+            tools,
+        }
+    }
+
+    /// Takes a key, if one waits and the worker has none, and returns whether it has one.
+    fn take(&mut self) -> bool
+        ensures { result ≡ is_some self.new.hand }
+    {
+        if self.hand.is_some() {
+            return true;
+        }
+        let Worker {
+            desk,
+            pass,
+            hand,
+            tools,
+        } = self;
+        match desk.take_key(tools.rt, pass) {
+            Ok(Some(key)) => {
+                *hand = Some(key);
+                true
+            }
+            Ok(None) | Err(_) => false,
+        }
+    }
+
+    /// Takes the turn of the key in its hands, if it has one. The key is in its hands until the turn is over.
+    fn turn(&mut self)
+        ensures { (self.new.hand ≡ self.old.hand) ⊎ (self.new.hand ≡ None) }
+    {
+        let Worker {
+            desk,
+            pass,
+            hand,
+            tools,
+        } = self;
+        let Some(key) = hand else {
+            return;
+        };
+        let Ok(copy) = key.try_copy() else {
+            tools.signals.stop.rest(tools.rt, PAUSE_MILLISECONDS);
+            return;
+        };
+        tools.gate.before(key);
+        let turn = Turn::begin(tools.alloc, copy);
+        if tools.turn(desk, pass, key, turn) {
+            *hand = None;
+            tools.signals.note_finished();
+        }
+    }
+
+    /// Works until all is to stop, once each kind has published its first list. A worker that finds no key sleeps until one comes.
+    pub fn work(&mut self) {
+        if !self.tools.signals.await_lists(self.tools.rt) {
+            return;
+        }
+        for _ in self.tools.rt.forever() {
+            if self.tools.signals.stop.is_stopped() {
+                return;
+            }
+            let seen = self.tools.signals.work_seen();
+            if self.take() {
+                self.turn();
+            } else {
+                self.tools.signals.await_work(self.tools.rt, seen);
+            }
+        }
+    }
+}
