@@ -3,9 +3,10 @@ import contextlib
 import random
 import socket
 import threading
-import time
 
 PIECE = 4096
+# What a reply says where what was asked for is no longer known, in its head or in an event.
+EXPIRED = (b"HTTP/1.1 410 ", b'"code":410')
 
 
 class Proxy:
@@ -13,7 +14,7 @@ class Proxy:
     that go over it."""
 
     def __init__(self, port, seed, cut_lists):
-        self.cut_lists, self.upstream, self.rolls, self.lock, self.down_until = cut_lists, port, random.Random(seed), threading.Lock(), 0.0
+        self.cut_lists, self.upstream, self.rolls, self.lock, self.is_down = cut_lists, port, random.Random(seed), threading.Lock(), False
         self.open, self.lists, self.watches, self.expiries, self.cuts = {}, 0, 0, 0, 0
         self.listener = socket.create_server(("127.0.0.1", 0))
         self.port = self.listener.getsockname()[1]
@@ -24,7 +25,7 @@ class Proxy:
         with contextlib.suppress(OSError):
             while True:
                 taken, _ = self.listener.accept()
-                if time.monotonic() < self.down_until:
+                if self.is_down:
                     taken.close()
                 else:
                     threading.Thread(target=self.relay, args=(taken,), daemon=True).start()
@@ -43,10 +44,11 @@ class Proxy:
 
     def answer(self, taken, server, is_watch):
         """Relays what a server answers, in pieces of random sizes."""
-        relayed = 0
-        while got := server.recv(self.rolls.choice((1, 7, 100, PIECE))):
-            if relayed == 0 and len(got) > 12 and got[9:12] == b"410" or b'"code":410' in got:
-                self.expiries += 1
+        relayed, last, is_expired = 0, b"", False
+        while (got := server.recv(self.rolls.choice((1, 7, 100, PIECE)))) and not self.is_down:
+            last = last[-16:] + got
+            if not is_expired and any(it in last for it in EXPIRED):
+                is_expired, self.expiries = True, self.expiries + 1
             taken.sendall(got)
             relayed += len(got)
             if not is_watch and self.cut_lists and relayed > 100:
@@ -69,11 +71,15 @@ class Proxy:
                 end.shutdown(socket.SHUT_RDWR)
         return True
 
-    def go_down(self, seconds):
-        """Cuts what is open, and takes no connections for so long."""
-        self.down_until = time.monotonic() + seconds
+    def go_down(self):
+        """Takes no connections until it comes up again, and cuts those that are there: what is open at once, another with its next piece."""
+        self.is_down = True
         while self.cut():
             pass
+
+    def come_up(self):
+        """Takes connections again."""
+        self.is_down = False
 
     def close(self):
         self.listener.close()

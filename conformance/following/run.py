@@ -25,12 +25,39 @@ PATH = "/api/v1/namespaces/default/configmaps"
 NAMES = 12
 WINDOW = 128
 PATIENCE = 60
-# How long the proxy takes no connections, each time.
-DOWN_SECONDS = 0.3
+# How often it is asked, while the proxy takes no connections, whether the server has written enough.
+DOWN_PAUSE_SECONDS = 0.02
+# How many writes are kept back for each time at which the proxy takes no connections.
+DOWN_WRITES = 2 * WINDOW
 # Which part of the time in which clients write the cuts take.
 CUTTING = 0.6
+# How long a client waits with a write where the cuts are behind, and how often it looks meanwhile.
+BEHIND_SECONDS, BEHIND_PAUSE_SECONDS = 0.25, 0.005
 LIMIT_SECONDS = 600
 BUILD_SECONDS = 3600
+
+
+class Pace:
+    """When clients may write: so many times a second all together, but slowly where the cuts are behind, so that on a machine of any speed
+    each cut falls among writes, and enough of them come while the proxy takes no connections."""
+
+    def __init__(self, asked, downs, proxy):
+        self.lock, self.proxy, self.gap, self.last, self.made = threading.Lock(), proxy, 1 / asked.rate, time.monotonic(), 0
+        self.cuts, self.each = asked.cuts, (asked.writes - DOWN_WRITES * downs) / (asked.cuts + 1)
+
+    def is_behind(self):
+        """Tells whether fewer watches were cut than the writes so far ask for, but for those made while no connection was taken."""
+        cuts = self.proxy.cuts
+        return cuts < self.cuts and not self.proxy.is_down and self.made > self.each * (cuts + 1)
+
+    def wait(self):
+        """Waits until one more write may be made."""
+        with self.lock:
+            time.sleep(max(0.0, self.last + self.gap - time.monotonic()))
+            ended = time.monotonic() + BEHIND_SECONDS
+            while self.is_behind() and time.monotonic() < ended:
+                time.sleep(BEHIND_PAUSE_SECONDS)
+            self.last, self.made = time.monotonic(), self.made + (not self.proxy.is_down)
 
 
 class Client:
@@ -64,11 +91,10 @@ class Client:
         if value is not None:
             self.known[name] = value
 
-    def run(self, writes, rate):
-        """Makes so many writes, at most so many a second."""
-        began = time.monotonic()
+    def run(self, writes, pace):
+        """Makes so many writes, each when it may be made."""
         for count in range(writes):
-            time.sleep(max(0.0, began + count / rate - time.monotonic()))
+            pace.wait()
             self.write(count)
 
 
@@ -88,13 +114,22 @@ def serve(program):
     return started, int(re.fullmatch(rb"listening 127\.0\.0\.1:(\d+)\n", started.stdout.readline())[1])
 
 
-def trouble(proxy, seconds, cuts, downs, seed):
-    """Cuts so many watches within about so many seconds, and after some of the cuts takes no connections for a span."""
+def keep_down(proxy, port):
+    """Has the proxy take no connections until the server no longer knows what the follower asks for."""
+    proxy.go_down()
+    until, ended = listed(port)[1] + WINDOW, time.monotonic() + PATIENCE
+    while listed(port)[1] <= until and time.monotonic() < ended:
+        time.sleep(DOWN_PAUSE_SECONDS)
+    proxy.come_up()
+
+
+def trouble(proxy, port, seconds, cuts, downs, seed):
+    """Cuts so many watches within about so many seconds, and after some of the cuts takes no connections for a while."""
     rolls, ended = random.Random(seed), time.monotonic() + LIMIT_SECONDS / 2
     while proxy.cuts < cuts and time.monotonic() < ended:
         time.sleep(rolls.uniform(0.5, 1.5) * seconds / cuts)
         if proxy.cut() and proxy.cuts in downs:
-            proxy.go_down(DOWN_SECONDS)
+            keep_down(proxy, port)
 
 
 def replayed(lines):
@@ -133,9 +168,10 @@ def follow(asked, port, follower):
     reader = threading.Thread(target=lambda: lines.extend(line.rstrip("\n") for line in started.stdout), daemon=True)
     clients = [Client(port, number, asked.seed + number) for number in range(asked.clients)]
     shares = [each + (number < asked.writes % asked.clients) for number in range(asked.clients)]
-    threads = [threading.Thread(target=it.run, args=(share, asked.rate / asked.clients), daemon=True) for it, share in zip(clients, shares)]
     downs = {asked.cuts} if asked.short else {asked.cuts // 2, asked.cuts}
-    cutting = (proxy, CUTTING * asked.writes / asked.rate, asked.cuts, downs, asked.seed)
+    pace = Pace(asked, len(downs), proxy)
+    threads = [threading.Thread(target=it.run, args=(share, pace), daemon=True) for it, share in zip(clients, shares)]
+    cutting = (proxy, port, CUTTING * asked.writes / asked.rate, asked.cuts, downs, asked.seed)
     threads.append(threading.Thread(target=trouble, args=cutting, daemon=True))
     for thread in [reader, *threads]:
         thread.start()
