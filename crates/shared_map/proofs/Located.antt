@@ -10,6 +10,11 @@ use Rattle.shared_map.proofs.Between.{put_between, remove_between, found_between
 use Rattle.shared_map.proofs.Orders.{InOrder, all_above, all_under, sorted_back, sorted_front}
 use Rattle.shared_map.proofs.Joined.{around}
 
+-- the entries of each chunk are in order
+pub sorted_at : {K X : Type 0} {R : K → K → Ordering} (o : IsTotalOrder R) (ps : List (List (K × X))) (i : ℕ) (C : List (K × X)) → InOrder o (joined ps) → drop i ps ≡ C ∷ drop (i + 1) ps → InOrder o C
+sorted_at o ps i C sorted here =
+    sorted_front o C (joined (drop (i + 1) ps)) (sorted_back o (joined (take i ps)) (C ++ joined (drop (i + 1) ps)) (subst (InOrder o) (around ps i C here) sorted))
+
 module _ {K X : Type 0} {R : K → K → Ordering} (o : IsTotalOrder R) (k : K) (ps : List (List (K × X))) (i : ℕ) (C : List (K × X)) (sorted : InOrder o (joined ps)) (filled : AreFilled ps)
     (first : 0 < i → starts_after R k (drop i ps) ≡ false) (next : starts_after R k (drop (i + 1) ps) ≡ true) (here : drop i ps ≡ C ∷ drop (i + 1) ps) where
   pub put_at : (e : K × X) → e.0 ≡ k → put_entry R (joined ps) e ≡ joined (take i ps) ++ (put_entry R C e ++ joined (drop (i + 1) ps))
@@ -27,9 +32,6 @@ module _ {K X : Type 0} {R : K → K → Ordering} (o : IsTotalOrder R) (k : K) 
   found_at =
       ap (lookup (is_at (R k))) (around ps i C here)
       ∙ found_between R k (joined (take i ps)) C (joined (drop (i + 1) ps)) (all_above o k ps i sorted filled first) (all_under o k ps (i + 1) sorted next)
-
-  pub sorted_at : InOrder o C
-  sorted_at = sorted_front o C (joined (drop (i + 1) ps)) (sorted_back o (joined (take i ps)) (C ++ joined (drop (i + 1) ps)) (subst (InOrder o) (around ps i C here) sorted))
 
   pub length_at : length (joined ps) ≡ length (joined (take i ps)) + (length C + length (joined (drop (i + 1) ps)))
   length_at = ap length (around ps i C here) ∙ length-append (joined (take i ps)) (C ++ joined (drop (i + 1) ps)) ∙ ap (λ n. length (joined (take i ps)) + n) (length-append C (joined (drop (i + 1) ps)))

@@ -120,6 +120,10 @@ module _ {K X : Type 0} {R : K → K → Ordering} (o : IsTotalOrder R) where
   above_front k [] e D s is = tt
   above_front k (a ∷ A) e D s is = (over o k a.0 e.0 (R k e.0) refl is (below_at a.0 A e D s.0), above_front k A e D s.1 is)
 
+  -- a key that is not below the entry at a place is above all before it
+  pub above_at : (k : K) (es : List (K × X)) (i : ℕ) (x : K × X) (rest : List (K × X)) → InOrder es → drop i es ≡ x ∷ rest → is_lt (R k x.0) ≡ false → AllAre R Greater k (take i es)
+  above_at k es i x rest s here is = above_front k (take i es) x rest (subst InOrder (sym (take-append-drop i es) ∙ ap (λ l. take i es ++ l) here) s) is
+
   all_below : (k : K) (es : List (K × X)) → Below k es → AllAre R Less k es
   all_below k [] b = tt
   all_below k (e ∷ es) b = (b.0, all_below k es b.1)

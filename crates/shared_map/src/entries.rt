@@ -2,6 +2,8 @@
 ghost use Rattle.std.specs.Prelude.{◌≡◌, ◌≤◌, ◌<◌, ◌+◌, ◌++◌, IfOk, OnOk, length, take, drop, cond};
 ghost use Rattle.std.specs.declared.cmp.Ordering.TheVariants.{Greater};
 ghost use Rattle.std.specs.Arc.{arc_value};
+ghost use Rattle.std.specs.List.Sorted.{IsStrictlySortedBy};
+ghost use Rattle.std.specs.Map.{keys_of};
 ghost use Rattle.shared_map.specs.Entries.{put_entry};
 ghost use Rattle.shared_map.specs.Parts.{seen, AllAre, BeginsAt};
 
@@ -18,19 +20,28 @@ pub struct Place {
 
 /// Returns where a key is among entries in order, or would be.
 pub fn place_in<K: Ord, V>(entries: &[Arc<(K, V), Global>], key: &K) -> Place
+    requires { IsStrictlySortedBy K.cmp (keys_of (seen entries.now)) }
     ensures within { result.at + cond result.found 1 0 ≤ length entries.now }
     ensures before { AllAre K.cmp Greater key.now (take result.at (seen entries.now)) }
     ensures ahead { BeginsAt K.cmp key.now result.found (drop result.at (seen entries.now)) }
 {
-    for at in 0..entries.len() {
-        match key.cmp(&entries[at].0) {
-            Ordering::Greater => {}
-            Ordering::Equal => return Place { at, found: true },
-            Ordering::Less => return Place { at, found: false },
+    let mut low = 0;
+    let mut high = entries.len();
+    while low < high {
+        let middle = low + (high - low) / 2;
+        match key.cmp(&entries[middle].0) {
+            Ordering::Greater => low = middle + 1,
+            Ordering::Equal => {
+                return Place {
+                    at: middle,
+                    found: true,
+                };
+            }
+            Ordering::Less => high = middle,
         }
     }
     Place {
-        at: entries.len(),
+        at: low,
         found: false,
     }
 }
@@ -48,12 +59,13 @@ fn append_shared<K: Drop, V: Drop>(
     Ok(())
 }
 
-/// Returns the entries, which are shared, with one more under its key. The error is running out of memory.
+/// Returns the entries, which are shared and in order, with one more under its key. The error is running out of memory.
 pub fn with_entry<K: Ord + Drop, V: Drop>(
     alloc: Global,
     entries: &[Arc<(K, V), Global>],
     entry: Arc<(K, V), Global>,
 ) -> Result<Vec<Arc<(K, V), Global>>, AllocError>
+    requires { IsStrictlySortedBy K.cmp (keys_of (seen entries.now)) }
     ensures { IfOk result (λ v. seen v.items ≡ put_entry K.cmp (seen entries.now) (arc_value entry)) }
 {
     let place = place_in(entries, &entry.0);

@@ -9,6 +9,15 @@ use Rattle.shared_map.proofs.Orders.{found_nowhere}
 use Rattle.shared_map.proofs.Located.{found_at, sorted_at}
 use Rattle.shared_map.proofs.map.SharedMap.get.Goals as goal
 
+pub place_in-place-requires : goal.place_in-place-requires
+place_in-place-requires g c =
+    let cs = c.self.inside.chunks.items in
+    let i = c.chunk_of.result in
+    let es = c.as_slice-chunk.result.now in
+    let same : chunk_entries c.index.result.now ≡ seen es = search rules in
+    let here : drop i (parts cs) ≡ seen es ∷ drop (i + 1) (parts cs) = map_at chunk_entries cs i c.index.result.now (search rules) (search rules) ∙ ap (λ l. l ∷ drop (i + 1) (parts cs)) same in
+    sorted_at g.met.K.Ord.total (parts cs) i (seen es) c.self.invariant.0 here
+
 pub returns-then-place : goal.returns-then-place
 returns-then-place g c =
     let R = g.K.Ord.cmp in
@@ -41,7 +50,7 @@ returns-else-place g c =
     let here : drop i (parts cs) ≡ seen es ∷ drop (i + 1) (parts cs) = map_at chunk_entries cs i c.index.result.now (search rules) (search rules) ∙ ap (λ l. l ∷ drop (i + 1) (parts cs)) same in
     let first = subst (λ l. 0 < i → starts_after R k (drop i (parts l)) ≡ false) c.as_slice.ensures.value c.chunk_of.ensures.first in
     let next = subst (λ l. starts_after R k (drop (i + 1) (parts l)) ≡ true) c.as_slice.ensures.value c.chunk_of.ensures.next in
-    sym (found_nowhere g.met.K.Ord.total k (seen es) p.at (sorted_at g.met.K.Ord.total k (parts cs) i (seen es) c.self.invariant.0 c.self.invariant.1 first next here)
+    sym (found_nowhere g.met.K.Ord.total k (seen es) p.at (sorted_at g.met.K.Ord.total (parts cs) i (seen es) c.self.invariant.0 here)
     c.place_in-place.ensures.before (subst (λ b. BeginsAt R k b (drop p.at (seen es))) c.if-place.false c.place_in-place.ensures.ahead))
     ∙ sym (found_at g.met.K.Ord.total k (parts cs) i (seen es) c.self.invariant.0 c.self.invariant.1 first next here)
     ∙ ap (lookup (is_at (R k))) c.self.view_is

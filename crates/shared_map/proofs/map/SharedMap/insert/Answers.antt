@@ -6,7 +6,7 @@ use Rattle.shared_map.specs.Parts.{parts, seen, joined, chunk_entries, starts_af
 use Rattle.shared_map.proofs.Places.{map_at}
 use Rattle.shared_map.proofs.Joined.{nothing}
 use Rattle.shared_map.proofs.Orders.{InOrder, sound_one, put_sorted}
-use Rattle.shared_map.proofs.Located.{put_at, length_at}
+use Rattle.shared_map.proofs.Located.{put_at, sorted_at, length_at}
 use Rattle.shared_map.proofs.map.SharedMap.insert.Goals as goal
 
 pub invariant_of-self-then-is_empty : goal.invariant_of-self-then-is_empty
@@ -31,6 +31,15 @@ overflow_sub-others g c =
     (subst (λ l. 0 < i → starts_after R k (drop i (parts l)) ≡ false) c.as_slice.ensures.value c.chunk_of-at.ensures.first)
     (subst (λ l. starts_after R k (drop (i + 1) (parts l)) ≡ true) c.as_slice.ensures.value c.chunk_of-at.ensures.next) here in
     omega (arith, all, c.self.invariant.2, length-map es arc_value)
+
+pub with_entry-requires : goal.with_entry-requires
+with_entry-requires g c =
+    let cs = c.self.inside.chunks.items in
+    let i = c.chunk_of-at.result in
+    let es = c.as_slice-chunk.result.now in
+    let same : chunk_entries c.index.result.now ≡ seen es = search rules in
+    let here : drop i (parts cs) ≡ seen es ∷ drop (i + 1) (parts cs) = map_at chunk_entries cs i c.index.result.now (search rules) (search rules) ∙ ap (λ l. l ∷ drop (i + 1) (parts cs)) same in
+    sorted_at g.met.K.Ord.total (parts cs) i (seen es) c.self.invariant.0 here
 
 pub invariant_of-self-2 : goal.invariant_of-self-2
 invariant_of-self-2 g c =

@@ -11,6 +11,15 @@ use Rattle.shared_map.proofs.Orders.{InOrder, remove_sorted, removed_nowhere}
 use Rattle.shared_map.proofs.Located.{remove_at, sorted_at, length_at}
 use Rattle.shared_map.proofs.map.SharedMap.remove.Goals as goal
 
+pub place_in-place-requires : goal.place_in-place-requires
+place_in-place-requires g c =
+    let cs = c.self.inside.chunks.items in
+    let i = c.chunk_of-at.result in
+    let es = c.as_slice-chunk.result.now in
+    let same : chunk_entries c.index.result.now ≡ seen es = search rules in
+    let here : drop i (parts cs) ≡ seen es ∷ drop (i + 1) (parts cs) = map_at chunk_entries cs i c.index.result.now (search rules) (search rules) ∙ ap (λ l. l ∷ drop (i + 1) (parts cs)) same in
+    sorted_at g.met.K.Ord.total (parts cs) i (seen es) c.self.invariant.0 here
+
 pub returns-then-not-place-clause-ok : goal.returns-then-not-place-clause-ok
 returns-then-not-place-clause-ok g c =
     let R = g.K.Ord.cmp in
@@ -26,7 +35,7 @@ returns-then-not-place-clause-ok g c =
     let first = subst (λ l. 0 < i → starts_after R k (drop i (parts l)) ≡ false) c.as_slice.ensures.value c.chunk_of-at.ensures.first in
     let next = subst (λ l. starts_after R k (drop (i + 1) (parts l)) ≡ true) c.as_slice.ensures.value c.chunk_of-at.ensures.next in
     let no : p.found ≡ false = search rules in
-    let stays = removed_nowhere g.met.K.Ord.total k (seen es) p.at (sorted_at g.met.K.Ord.total k (parts cs) i (seen es) c.self.invariant.0 c.self.invariant.1 first next here)
+    let stays = removed_nowhere g.met.K.Ord.total k (seen es) p.at (sorted_at g.met.K.Ord.total (parts cs) i (seen es) c.self.invariant.0 here)
     c.place_in-place.ensures.before (subst (λ b. BeginsAt R k b (drop p.at (seen es))) no c.place_in-place.ensures.ahead) in
     sym (ap (remove_entry (is_at (R k))) (sym c.self.view_is)
     ∙ remove_at g.met.K.Ord.total k (parts cs) i (seen es) c.self.invariant.0 c.self.invariant.1 first next here
