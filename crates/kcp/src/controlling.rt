@@ -1,7 +1,7 @@
 //! `kcp control`: the controllers, which work at a server.
-ghost use Rattle.std.specs.Prelude.{◌≡◌, ◌<◌, ◌^◌, IfOk, vec_len};
+ghost use Rattle.std.specs.Prelude.{◌<◌, ◌^◌};
 
-use loopback::{Connector, Reach};
+use loopback::{Connector, OtherServer, Reach};
 use manager::{Apis, Open, Signals};
 use options::ControlOptions;
 use remote::Remote;
@@ -13,64 +13,72 @@ use std::time::Clock;
 use turns::Looks;
 
 /// How many workers there are at most.
-const MOST_WORKERS: usize = 64;
+pub const MOST_WORKERS: usize = 64;
 
-/// Returns a way to ask a server.
-fn api<'a, R: Net<Listener = TcpListener, Stream = TcpStream> + Eprint>(
+/// How a server of another process is asked.
+type Asked<'a, R> = OtherServer<'a, R, Remote<Connector<'a, R>>>;
+
+/// The server that the controllers work at.
+#[derive(Drop)]
+struct Server<'a, R> {
     rt: &'a R,
     alloc: Global,
     port: u16,
     signals: &'a Signals,
     reach: &'a Reach,
-) -> Remote<Connector<'a, R>> {
-    Remote::new(Connector::new(rt, alloc, port, &signals.stop, reach))
 }
 
-/// Returns ways to ask a server, one for each thread that asks. The error is running out of memory.
-fn apis<'a, R: Net<Listener = TcpListener, Stream = TcpStream> + Eprint>(
-    rt: &'a R,
-    alloc: Global,
-    port: u16,
-    count: usize,
-    signals: &'a Signals,
-    reach: &'a Reach,
-) -> Result<Apis<Remote<Connector<'a, R>>>, AllocError>
-    ensures { IfOk result (λ apis. vec_len apis.workers ≡ count) }
-{
-    let mut workers = Vec::with_capacity(alloc, count)?;
-    while workers.len() < count {
-        workers.push(api(rt, alloc, port, signals, reach))?;
+impl<'a, R: Net<Listener = TcpListener, Stream = TcpStream> + Eprint> Server<'a, R> {
+    ghost use Rattle.std.specs.Prelude.{◌≡◌, IfOk, vec_len};
+
+    /// Returns what connects to it.
+    fn connector(&self) -> Connector<'a, R> {
+        Connector::new(
+            self.rt,
+            self.alloc,
+            self.port,
+            &self.signals.stop,
+            self.reach,
+        )
     }
-    Ok(Apis {
-        followers: Looks {
-            config_maps: api(rt, alloc, port, signals, reach),
-            pods: api(rt, alloc, port, signals, reach),
-            replica_sets: api(rt, alloc, port, signals, reach),
-            deployments: api(rt, alloc, port, signals, reach),
-        },
-        workers,
-    })
+
+    /// Returns a way to ask it.
+    fn api(&self) -> Asked<'a, R> {
+        OtherServer::new(self.connector(), Remote::new(self.connector()))
+    }
+
+    /// Returns ways to ask it, one for each thread that asks. The error is running out of memory.
+    fn apis(&self, workers: usize) -> Result<Apis<Asked<'a, R>>, AllocError>
+        ensures { IfOk result (λ apis. vec_len apis.workers ≡ workers) }
+    {
+        let mut made = Vec::with_capacity(self.alloc, workers)?;
+        while made.len() < workers {
+            made.push(self.api())?;
+        }
+        Ok(Apis {
+            followers: Looks {
+                config_maps: self.api(),
+                pods: self.api(),
+                replica_sets: self.api(),
+                deployments: self.api(),
+            },
+            workers: made,
+        })
+    }
 }
 
-/// Runs the controllers at the server of a port until all is to stop.
-fn work_at<R>(
-    rt: &R,
-    alloc: Global,
-    port: u16,
-    workers: usize,
-    signals: &Signals,
-    reach: &Reach,
-) -> Result<(), AllocError>
+/// Runs the controllers at a server until all is to stop.
+fn work_at<R>(server: &Server<'_, R>, workers: usize) -> Result<(), AllocError>
 where
     R: Net<Listener = TcpListener, Stream = TcpStream> + Eprint + Threads + Wait + Clock + Sync,
     requires { workers < 2 ^ 16 }
 {
-    let apis = apis(rt, alloc, port, workers, signals, reach)?;
-    manager::run(rt, alloc, apis, signals, &Open)
+    let apis = server.apis(workers)?;
+    manager::run(server.rt, server.alloc, apis, server.signals, &Open)
 }
 
-/// Runs the controllers at the server of a port until so many turns are finished, if a number is given. Where the server loses its memory
-/// they begin anew: they know nothing then but what the server lists.
+/// Runs the controllers at the server of a port until so many turns are finished, if a number is given. Where the server ends, or loses its
+/// memory, they begin anew: they know nothing then but what the server lists that comes after it.
 pub fn control<R>(rt: &R, alloc: Global, options: ControlOptions) -> Result<(), AllocError>
 where
     R: Net<Listener = TcpListener, Stream = TcpStream> + Eprint + Threads + Wait + Clock + Sync,
@@ -85,8 +93,16 @@ where
     let mut left = turns;
     for _ in rt.forever() {
         let signals = Signals::new(left);
-        work_at(rt, alloc, port, workers, &signals, &reach)?;
-        if !signals.has_lost() {
+        let server = Server {
+            rt,
+            alloc,
+            port,
+            signals: &signals,
+            reach: &reach,
+        };
+        reach.begin();
+        work_at(&server, workers)?;
+        if !signals.has_lost() && !reach.is_gone() {
             return Ok(());
         }
         left = signals.turns_left();

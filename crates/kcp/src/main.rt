@@ -1,6 +1,6 @@
 //! The control plane's program: `kcp replay` answers the request lines of its standard input, `kcp simulate` takes the steps of a
-//! simulated control plane that lines ask for, `kcp serve` answers the requests that come over HTTP/1.1, and `kcp control` runs the
-//! controllers at such a server.
+//! simulated control plane that lines ask for, `kcp serve` answers the requests that come over HTTP/1.1, `kcp control` runs the controllers at
+//! such a server, and `kcp all` is both in one.
 #![tactic(auto)]
 
 ghost use Rattle.std.specs.Prelude.{◌≡◌, OnOk, OnErr, IfErr, IfSome};
@@ -12,9 +12,13 @@ ghost use Rattle.kcp.specs.Replays.{fault_text, serve_fault_text, AnswersSome};
 ghost use Rattle.reconciling.specs.StepLines.{simulate};
 ghost use Rattle.simulations.specs.Laws as simulated;
 
+mod all_together;
 mod controlling;
+mod own_desk;
+mod parts;
 mod serving_threads;
 
+use crate::all_together::AllFault;
 use line_service::RunFault;
 use options::Command;
 use serving::ServeFault;
@@ -163,6 +167,15 @@ fn controlled(outcome: Result<(), AllocError>) -> Result<(), &'static str> {
     }
 }
 
+/// Returns what an outcome of a server with its controllers is called where it is a fault.
+fn ended(outcome: Result<(), AllFault>) -> Result<(), &'static str> {
+    match outcome {
+        Ok(()) => Ok(()),
+        Err(AllFault::Serve(fault)) => Err(serve_fault_name(fault)),
+        Err(AllFault::Run(fault)) => Err(fault_name(fault)),
+    }
+}
+
 fn main(rt: HostRuntime) -> io::Result<ExitCode> {
     let outcome = match command(&rt) {
         Ok(Some(Command::Replay)) => ran(replay_standard_input(&rt)),
@@ -174,9 +187,18 @@ fn main(rt: HostRuntime) -> io::Result<ExitCode> {
         Ok(Some(Command::Control(options))) => {
             controlled(controlling::control(&rt, rt.alloc(), options))
         }
-        Ok(Some(Command::All(_))) => {
-            eprintln!(rt; "kcp: all is not there yet")?;
-            return Ok(ExitCode::from(2));
+        Ok(Some(Command::All(options))) => {
+            let mut reader = BufReader::new(rt.alloc(), rt.reader())?;
+            let mut writer = BufWriter::new(rt.alloc(), io::writer(&rt))?;
+            let mut told = rt.stderr();
+            ended(all_together::all(
+                &rt,
+                rt.alloc(),
+                options,
+                &mut reader,
+                &mut writer,
+                &mut told,
+            ))
         }
         Ok(None) => {
             eprintln!(rt; "kcp: bad arguments")?;

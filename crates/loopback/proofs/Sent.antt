@@ -25,9 +25,18 @@ use Rattle.routes.specs.contracts.table.Routes as Routes
 use Rattle.loopback.specs.contracts.answering.Ringer as Ringer
 use Rattle.loopback.specs.contracts.answering.Connection as Connection
 use Rattle.loopback.specs.contracts.connecting.Connector as Connector
-use Rattle.loopback.specs.contracts.connecting.Reach as Reach
+use Rattle.loopback.specs.contracts.other_server.OtherServer as OtherServer
 use Rattle.loopback.specs.contracts.own_server.OwnServer as OwnServer
+use Rattle.loopback.specs.contracts.reach.Reach as Reach
+use Rattle.patience.proofs.patient.Patient.TheSendSync as patient
+use Rattle.patience.specs.contracts.patient.Patient as Patient
 use Rattle.remote.proofs.asking.Remote.TheSendSync as remote_of
+use Rattle.remote.specs.contracts.asking.Remote as Remote
+use Rattle.std.proofs.io.buffered.BufReader.TheSendSync as buffered
+use Rattle.std.proofs.net.tcp.TcpStream.TheSendSync as stream
+use Rattle.std.specs.contracts.io.buffered.BufReader as BufReader
+use Rattle.std.specs.contracts.net.tcp.TcpStream as TcpStream
+use Rattle.std.specs.contracts.impls.GlobalAllocator.TheImpl.{ghosts}
 use Rattle.shared_desk.proofs.Sent.{desk, pass_field}
 
 -- a seat, where its listener may be sent, and its runtime lent
@@ -75,6 +84,27 @@ module _ (a : NamedLft) (R : RattleType) (r : IsSync R) where
   pub connector : IsSend (Connector.the_row a R)
   connector = declared_send (Connector.the_type a R) (runtime, (alloc, (port, (lent_stop, (lent_reach, tt)))))
 
+  -- what reads a connection
+  abbrev pub Reading : RattleType
+  Reading = BufReader.the_row (Patient.the_row a TcpStream.the_row) Global.the_row ghosts
+
+  pub reading : IsSend Reading
+  reading = buffered.the_send (Patient.the_row a TcpStream.the_row) Global.the_row ghosts (patient.the_send a TcpStream.the_row stream.the_send) heap.send heap.frees
+
+  -- what asks over connections
+  abbrev pub Asked : RattleType
+  Asked = Remote.the_row (Connector.the_row a R) Reading TcpStream.the_row
+
+  pub asked : IsSend Asked
+  asked = remote_of.the_send (Connector.the_row a R) Reading TcpStream.the_row connector reading
+
   module _ (C I O : RattleType) (c : IsSend C) (i : IsSend I) where
     pub own_server : IsSend (OwnServer.the_row a R C I O)
     own_server = declared_send (OwnServer.the_type a R C I O) (runtime, (routes, (seat a (Ringer.the_row a) R ringer r, (remote_of.the_send C I O c i, tt))))
+
+  module _ (A : RattleType) (s : IsSend A) where
+    api : IsSend (as_row (Field.row_field A))
+    api = search (s, sendable)
+
+    pub other_server : IsSend (OtherServer.the_row a R A)
+    other_server = declared_send (OtherServer.the_type a R A) (connector, (api, tt))

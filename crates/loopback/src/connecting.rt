@@ -1,4 +1,5 @@
 //! Connections to a server of the loopback address.
+use crate::reach::Reach;
 use bells::Stop;
 use patience::Patient;
 use patience::patient::PIECE_MILLISECONDS;
@@ -7,40 +8,10 @@ use std::alloc::Global;
 use std::io;
 use std::io::{BufReader, ErrorKind};
 use std::net::{Ipv4Addr, Net, TcpStream};
-use std::sync::atomic::{AtomicU64, Ordering};
 use std::time::Duration;
 
 /// After how many seconds without a byte a connection is given up.
 const PATIENCE_SECONDS: u32 = 60;
-
-/// Whether a server can be reached, as all who connect to it have found. It is said on standard error once when it goes away, and once when
-/// it is there again.
-#[derive(Drop)]
-pub struct Reach {
-    /// 1 while it is away.
-    away: AtomicU64,
-}
-
-impl Reach {
-    /// Returns that a server can be reached, as far as anybody knows.
-    pub const fn new() -> Reach {
-        Reach {
-            away: AtomicU64::new(0),
-        }
-    }
-
-    /// Notes whether a server was reached, and returns whether that is news.
-    pub fn is_news(&self, is_reached: bool) -> bool {
-        let away = u64::from(!is_reached);
-        self.away.swap(away, Ordering::SeqCst) != away
-    }
-}
-
-impl Default for Reach {
-    fn default() -> Reach {
-        Reach::new()
-    }
-}
 
 /// Connects to a server of the loopback address, again for each request, until a stop.
 #[derive(Drop)]
@@ -72,18 +43,41 @@ impl<'a, R> Connector<'a, R> {
 }
 
 impl<R: Net<Stream = TcpStream> + Eprint> Connector<'_, R> {
-    /// Returns a stream to the port, and says so where it cannot be reached, or again.
+    /// Returns a stream to the port, and notes whether there is one.
     fn reach(&self) -> io::Result<TcpStream> {
         let reached = TcpStream::connect(self.rt, (Ipv4Addr::LOCALHOST, self.port));
-        if self.reach.is_news(reached.is_ok()) {
-            let word = if reached.is_ok() {
+        match &reached {
+            Ok(_) => self.reach.note_reached(),
+            Err(error) => self.note_failed(error),
+        }
+        self.tell(reached.is_ok());
+        reached
+    }
+
+    /// Notes that there is no stream. Where nobody listens any more the server has ended, and all who ask it stop.
+    fn note_failed(&self, error: &io::Error) {
+        if error.kind() == ErrorKind::ConnectionRefused && self.reach.note_refused() {
+            self.stop.stop();
+        }
+    }
+
+    /// Says on standard error that the server cannot be reached, or can be again, if that is news.
+    fn tell(&self, is_reached: bool) {
+        if self.reach.is_news(is_reached) {
+            let word = if is_reached {
                 "is there again"
             } else {
                 "cannot be reached"
             };
             let _ = eprintln!(self.rt; "kcp: the server at 127.0.0.1:{} {word}", self.port);
         }
-        reached
+    }
+
+    /// Looks whether the server is still there, unless all is to stop.
+    pub(crate) fn look(&self) {
+        if !self.stop.is_stopped() {
+            let _ = self.reach();
+        }
     }
 }
 

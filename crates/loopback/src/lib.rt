@@ -3,9 +3,13 @@
 
 pub mod answering;
 pub mod connecting;
+pub mod other_server;
 pub mod own_server;
 mod pausing;
+pub mod reach;
 
 pub use answering::{Connection, connections};
-pub use connecting::{Connector, Reach};
+pub use connecting::Connector;
+pub use other_server::OtherServer;
 pub use own_server::OwnServer;
+pub use reach::Reach;

@@ -1,0 +1,61 @@
+//! A server of another process, whose end is seen.
+use crate::connecting::Connector;
+use client::{Answer, More};
+use definitions::kinds::Kind;
+use remote::{Api, Opened};
+use requests::Request;
+use std::alloc::Global;
+use std::net::{Net, TcpStream};
+
+/// A server of another process. Where an answer or a watch breaks off, it is looked at once whether the server is still there: one that is
+/// started in its place has an empty store, and is not to be taken for one that goes on, though its first revisions are the same.
+#[derive(Drop)]
+pub struct OtherServer<'a, R, A: Api + Drop> {
+    connector: Connector<'a, R>,
+    api: A,
+}
+
+impl<'a, R, A: Api + Drop> OtherServer<'a, R, A> {
+    /// Returns the server that an API asks and to which this connects.
+    pub fn new(connector: Connector<'a, R>, api: A) -> OtherServer<'a, R, A> {
+        OtherServer { connector, api }
+    }
+}
+
+impl<R: Net<Stream = TcpStream> + Eprint, A: Api + Drop> OtherServer<'_, R, A> {
+    /// Returns an answer, after a look at the server where it broke off.
+    fn looked_after(&self, answer: Answer) -> Answer {
+        if matches!(answer, Answer::Lost) {
+            self.connector.look();
+        }
+        answer
+    }
+}
+
+impl<R: Net<Stream = TcpStream> + Eprint, A: Api + Drop> Api for OtherServer<'_, R, A> {
+    fn call(&mut self, alloc: Global, request: &Request) -> Answer {
+        let answer = self.api.call(alloc, request);
+        self.looked_after(answer)
+    }
+
+    fn list(&mut self, alloc: Global, kind: Kind) -> Answer {
+        let answer = self.api.list(alloc, kind);
+        self.looked_after(answer)
+    }
+
+    fn open_watch(&mut self, alloc: Global, kind: Kind, revision: u64) -> Opened {
+        let opened = self.api.open_watch(alloc, kind, revision);
+        if opened == Opened::Lost {
+            self.connector.look();
+        }
+        opened
+    }
+
+    fn more(&mut self, buf: &mut [u8]) -> More {
+        let more = self.api.more(buf);
+        if matches!(more, More::Cut) {
+            self.connector.look();
+        }
+        more
+    }
+}
