@@ -1,8 +1,8 @@
 """Runs the gate: whether the negative tests still apply and the made documents are the present ones, `rt ci`, the conformance cases, and
 schedules and the cases over HTTP with the program that `rt ci` built, one after another, whatever the others say.
 
-It shows what they print, and ends with tables of what took how long, what the first of them named, what `rt ci` found wrong, and a line
-'N passed, M failed'.
+It shows what they print, then what went wrong in each that failed, tables of what took how long, what the first of them named, and
+whether each passed. The last lines name those that failed, with the last that went wrong in each, and say 'N passed, M failed'.
 What was printed, with the second of each line, and the figures are kept in a temporary folder, whose name it says; it writes
 nothing into the repository. The status is 0 only where all passed.
 """
@@ -23,8 +23,10 @@ FOLLOWER = "crates/watch_example/out/watch_example"
 RANDOM_HEADS = 5000
 RANDOM_SCHEDULES = 200
 RANDOM_TURNS = 100
-# What `rt ci` says of a proof, a negative test, a test or a program that is not as it has to be.
+# What `rt ci` says of a proof, a negative test, a test or a program that is not as it has to be, and the scripts of a case.
 WRONG = re.compile("NOT PROVED|NOT REFUSED|NOT TRIED|BAD EDIT|FAILED|not what|ended with status")
+# How many of these lines are shown before the tables, and how many at the end; and how many where a script said none.
+MOST_WRONG, FEW_WRONG, LAST_LINES = 40, 5, 5
 sys.path[:0] = [str(ROOT / ".ci"), str(ROOT / "conformance")]
 import figures
 import sampler
@@ -56,9 +58,13 @@ class Run:
         passed, failed = (int(found[-1][1]), int(found[-1][2])) if found else (0, 0)
         return passed, max(failed, 1) if self.status else failed
 
-    def wrong(self):
-        """Returns the lines that say what was not as it has to be, the last of them where they are many."""
-        return [line for _, line in self.lines if WRONG.search(line)][-40:]
+    def has_failed(self):
+        return self.counts()[1] > 0
+
+    def wrong(self, most):
+        """Returns the last lines, so many at most, that say what was not as it has to be; where none does, the last lines of all."""
+        lines = [line for _, line in self.lines]
+        return [line for line in lines if WRONG.search(line)][-most:] or lines[-LAST_LINES:]
 
     def second_of(self, text):
         """Returns the second at which a line came, or None."""
@@ -117,8 +123,8 @@ def asked_first(log):
 
 def asked_of_program(log):
     """Runs what asks the program that `rt ci` built: schedules of a simulated cluster, a rollout and schedules of controllers, and over
-    sockets cases, random heads, many clients at once, real clients where they are installed, and a follower through a proxy and over
-    recorded bytes."""
+    sockets cases, random heads, many clients at once, real clients where they are installed, a follower through a proxy and over
+    recorded bytes, and the controllers at work."""
     words = {
         "schedules": ["simulate/run.py", "--random", str(RANDOM_SCHEDULES)],
         "a rollout": ["simulate/rollout.py"],
@@ -128,6 +134,7 @@ def asked_of_program(log):
         "histories": ["histories/run.py"],
         "clients": ["clients/run.py"],
         "following": ["following/run.py", "--follower", FOLLOWER, "--short"],
+        "controllers": ["controllers/run.py", "--short"],
     }
     ran = {name: Run([sys.executable, "-B", f"conformance/{script}", "--program", PROGRAM, *rest], log) for name, (script, *rest) in words.items()}
     ran["recorded bytes"] = Run([sys.executable, "-B", "conformance/recorded/run.py", "--follower", FOLLOWER], log)
@@ -144,6 +151,28 @@ def show(room, *what):
         print(f"no figures: {error!r}")
 
 
+def failed(runs):
+    """Returns the names of those that failed."""
+    return [name for name, run in runs.items() if run.has_failed()]
+
+
+def tell_wrong(runs, most):
+    """Prints of each that failed what went wrong, so many lines of it."""
+    for name in failed(runs):
+        print(f"\nFAILED {name}:", *runs[name].wrong(most), sep="\n", flush=True)
+
+
+def tell_end(runs):
+    """Prints whether each passed, once more what went wrong, which failed, and how many cases did."""
+    for name, run in runs.items():
+        print(f"{name}: {'FAILED' if run.has_failed() else 'ok'}")
+    if failed(runs):
+        tell_wrong(runs, FEW_WRONG)
+        print(f"\nFAILED: {', '.join(failed(runs))}")
+    counts = [run.counts() for run in runs.values()]
+    print(f"{sum(it[0] for it in counts)} passed, {sum(it[1] for it in counts)} failed", flush=True)
+
+
 def main():
     sys.stdout.reconfigure(encoding="utf-8", errors="replace")
     room = pathlib.Path(tempfile.mkdtemp(prefix="kcp-gate-"))
@@ -156,14 +185,12 @@ def main():
         used = used_by_children() - before
         conforms = Run([sys.executable, "-B", "conformance/run.py"], log)
         asked = asked_of_program(log)
+    runs = {**first, "rt ci": proved, "conformance": conforms, **asked}
+    tell_wrong(runs, MOST_WRONG)
     show(room, proved, conforms, looking, used)
     print(f"kept: {room}/output.txt, {room}/figures.json\n")
-    print("\n".join([*(line for _, line in first["negative tests apply"].lines), *proved.wrong()]))
-    runs = {**first, "rt ci": proved, "conformance": conforms, **asked}
-    for name, run in runs.items():
-        print(f"{name}: {'ok' if not run.counts()[1] else 'FAILED'}")
-    counts = [run.counts() for run in runs.values()]
-    print(f"{sum(it[0] for it in counts)} passed, {sum(it[1] for it in counts)} failed", flush=True)
+    print("\n".join(line for _, line in first["negative tests apply"].lines))
+    tell_end(runs)
     sys.exit(1 if any(run.status for run in runs.values()) else 0)
 
 

@@ -1,0 +1,76 @@
+#!/usr/bin/env python3
+"""Checks over HTTP what the controllers make of what is declared, with `kcp all`, and with `kcp control` beside a `kcp serve`.
+
+A Deployment is made, rolled, scaled and deleted by each policy, where the script marks pods ready, as a kubelet does; a ReplicaSet adopts
+and releases pods; 20 ReplicaSets are declared at once, undisturbed, while the server is killed and started again, and while a proxy cuts
+connections, and no list of pods ever shows a pod too many of a set. Each scenario begins with nothing.
+
+Nothing has to happen within a certain time but that of `--limit`, which is long. In short, answers and watches are cut, but no requests:
+a controller that cannot know whether a create has arrived waits 300 seconds for the pod.
+Usage: run.py --program PATH [--short] [--seed N] [--limit S] [WORD]
+  --program PATH   the executable of kcp
+  --short          fewer pods, lists and kills, and no requests cut: about a minute in place of seven
+  --limit S        for how many seconds is waited for what has to come, 180 if left out
+  WORD             only scenarios whose name has it
+"""
+import argparse
+import pathlib
+import sys
+import time
+
+sys.dont_write_bytecode = True
+sys.path[:0] = [str(pathlib.Path(__file__).resolve().parent)]
+import adoptions
+import rollouts
+import sets
+from waiting import DEFAULT_SECONDS, Limit
+
+
+def scenarios(asked):
+    """Returns the scenarios by name."""
+    program, few = str(pathlib.Path(asked.program).resolve()), asked.short
+    replicas, lists, kills, cuts = (40, 200, 3, 20) if few else (100, 1000, 10, 200)
+    return {
+        "rolls": lambda: rollouts.rolls(program, 100),
+        "scales": lambda: rollouts.scales(program, replicas),
+        "deleted-in-background": lambda: rollouts.deleted_in_background(program, replicas),
+        "deleted-in-foreground": lambda: rollouts.deleted_in_foreground(program, replicas),
+        "deleted-with-orphans": lambda: rollouts.deleted_with_orphans(program, replicas),
+        "adopts-and-releases": lambda: adoptions.adopts_and_releases(program),
+        "answers-one-line": lambda: adoptions.answers_one_line(program),
+        "answers-lines": lambda: adoptions.answers_lines(program),
+        "many-sets": lambda: sets.undisturbed(program, lists),
+        "many-sets-server-killed": lambda: sets.server_killed(program, lists, kills),
+        "many-sets-connections-cut": lambda: sets.connections_cut(program, lists, cuts, asked.seed, cuts_requests=not few),
+    }
+
+
+def run(name, scenario):
+    """Runs a scenario, says what came of it, and returns whether it went well."""
+    began = time.monotonic()
+    try:
+        told = scenario()
+    except Exception as fault:
+        print(f"FAILED {name}: {type(fault).__name__}: {fault}, {time.monotonic() - began:.1f} s", flush=True)
+        return False
+    print(f"{name}: {told}, {time.monotonic() - began:.1f} s", flush=True)
+    return True
+
+
+def main():
+    parser = argparse.ArgumentParser(description=__doc__.splitlines()[0])
+    parser.add_argument("--program", required=True)
+    parser.add_argument("--short", action="store_true")
+    parser.add_argument("--seed", type=int, default=1)
+    parser.add_argument("--limit", type=float, default=DEFAULT_SECONDS)
+    parser.add_argument("word", nargs="?", default="")
+    asked = parser.parse_args()
+    Limit.seconds = asked.limit
+    went_well = [run(name, scenario) for name, scenario in scenarios(asked).items() if asked.word in name]
+    passed = sum(went_well)
+    print(f"{passed} passed, {len(went_well) - passed} failed")
+    sys.exit(0 if went_well and all(went_well) else 1)
+
+
+if __name__ == "__main__":
+    main()
