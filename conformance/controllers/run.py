@@ -9,7 +9,7 @@ Nothing has to happen within a certain time but that of `--limit`, which is long
 a controller that cannot know whether a create has arrived waits 300 seconds for the pod.
 Usage: run.py --program PATH [--short] [--seed N] [--limit S] [WORD]
   --program PATH   the executable of kcp
-  --short          fewer pods, lists and kills, and no requests cut: about a minute in place of seven
+  --short          fewer pods, lists and kills, and no requests cut: about 20 seconds in place of six minutes
   --limit S        for how many seconds is waited for what has to come, 180 if left out
   WORD             only scenarios whose name has it
 """
@@ -29,7 +29,7 @@ from waiting import DEFAULT_SECONDS, Limit
 def scenarios(asked):
     """Returns the scenarios by name."""
     program, few = str(pathlib.Path(asked.program).resolve()), asked.short
-    replicas, lists, kills, cuts = (40, 200, 3, 20) if few else (100, 1000, 10, 200)
+    replicas, lists, kills, cuts = (40, 200, 3, 20) if few else (100, 1000, 10, 100)
     return {
         "rolls": lambda: rollouts.rolls(program, 100),
         "scales": lambda: rollouts.scales(program, replicas),

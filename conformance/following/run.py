@@ -191,7 +191,7 @@ def main():
     parser = argparse.ArgumentParser(description=__doc__.splitlines()[0])
     parser.add_argument("--program", required=True)
     parser.add_argument("--follower")
-    parser.add_argument("--short", action="store_true", help="1,500 writes and 12 cuts, in about 6 seconds")
+    parser.add_argument("--short", action="store_true", help="1,500 writes and 12 cuts, in about 5 seconds")
     for name, default in (("writes", 10_000), ("cuts", 100), ("clients", 8), ("rate", 400), ("seed", 1)):
         parser.add_argument(f"--{name}", type=int, default=default)
     asked = parser.parse_args()
