@@ -1,0 +1,68 @@
+//! A client that adds an owner to an object whose delete is planned.
+use crate::clients::Client;
+use crate::counting::MOST_LISTS;
+use crate::halting::Halting;
+use crate::playing::Play;
+use definitions::kinds::Kind;
+use serde_json::Value;
+use std::sync::Wait;
+use std::time::Clock;
+
+/// A client that gives a ConfigMap other owners once a turn is planned that deletes it, before the delete is made, and then waits until it has
+/// but one owner.
+#[derive(Drop)]
+pub struct Adopting<'a, 'g, R> {
+    pub client: Client<'a, R>,
+    pub gate: &'g Halting<'a, R>,
+    pub name: String,
+    /// The owners, as a merge patch.
+    pub owners: String,
+    /// The uid of the one that is left.
+    pub left: String,
+}
+
+/// Returns whether an object has one owner, which has this uid.
+fn is_owned_by(object: &Value, uid: &str) -> bool {
+    let owners = object
+        .pointer("/metadata/ownerReferences")
+        .and_then(|it| it.as_array())
+        .map_or(0, |it| it.len());
+    let first = object
+        .pointer("/metadata/ownerReferences/0/uid")
+        .and_then(|it| it.as_str());
+    owners == 1 && first == Some(uid)
+}
+
+impl<R: Wait + Clock> Adopting<'_, '_, R> {
+    /// Gives the ConfigMap the owners once its delete is planned, and returns whether it did.
+    fn adopt(&mut self) -> bool {
+        if !self.gate.await_plan() {
+            return false;
+        }
+        let (name, owners) = (self.name.as_str(), self.owners.as_str());
+        let is_owned = self.client.patch(Kind::ConfigMap, name, owners);
+        self.gate.release();
+        is_owned
+    }
+
+    /// Waits until the ConfigMap has but one owner, and returns whether it came to be so.
+    fn await_owner(&mut self) -> bool {
+        for _ in 0..MOST_LISTS {
+            if let Some(object) = self.client.get(Kind::ConfigMap, self.name.as_str()) {
+                if is_owned_by(&object, self.left.as_str()) {
+                    return true;
+                }
+            }
+            self.client.rest();
+        }
+        false
+    }
+}
+
+impl<R: Wait + Clock> Play for Adopting<'_, '_, R> {
+    fn play(&mut self) -> bool {
+        let is_owned = self.adopt();
+        let is_left = self.await_owner();
+        is_owned && is_left
+    }
+}

@@ -1,0 +1,189 @@
+//! The server of a test.
+ghost use Rattle.std.specs.Prelude.{All};
+ghost use Rattle.shared_desk.specs.Desks.{IsNewAt, IsPassAt};
+
+use crate::houses::House;
+use crate::ringers::Ringer;
+use crate::scenes::Scene;
+use crate::watches::Watch;
+use asked::{Asked, read_request};
+use bells::Stop;
+use client::{Answer, More};
+use definitions::kinds::Kind;
+use definitions::versions::At;
+use keys::Fault;
+use remote::{Api, Opened};
+use request_texts::{can_be_told, request_text};
+use requests::Request;
+use requests::list_options::ListOptions;
+use routes::table::Routes;
+use selector::View;
+use shared_desk::{Anything, Seat, StorePass};
+use sites::Site;
+use stamps::moments::Moment;
+use std::alloc::{AllocError, Global};
+use std::sync::Wait;
+use std::time::Clock;
+use watch_service::WatchSource;
+
+/// How many events a watch is given at once.
+const MOST_EVENTS: usize = 64;
+
+/// How many milliseconds a watch that has seen nothing waits for a write at most.
+const PAUSE_MILLISECONDS: u64 = 20;
+
+/// The server of a test, as one thread asks it: a seat of a desk that threads share. It is asked without connections, its clock stands still,
+/// and a watch of it lives until a stop.
+#[derive(Drop)]
+pub struct SharedServer<'a, R> {
+    rt: &'a R,
+    alloc: Global,
+    seat: Seat<'a, Anything, Ringer<'a>, R>,
+    house: &'a House,
+    stop: &'a Stop,
+    watch: Watch,
+}
+
+/// Returns what a client is answered. The server has done nothing where it had no memory: the request is as good as not sent.
+fn answer_of(alloc: Global, outcome: Result<reply::Reply, Fault>) -> Answer {
+    let reply = match outcome {
+        Ok(reply) => reply,
+        Err(Fault::NoMemory) => return Answer::NotSent,
+        Err(fault) => match reply::Reply::refusal(alloc, &fault) {
+            Ok(reply) => reply,
+            Err(_) => return Answer::NotSent,
+        },
+    };
+    Answer::Replied(client::Reply {
+        code: reply.code,
+        body: reply.text.into_bytes(),
+    })
+}
+
+impl<'a, R: Wait + Clock> SharedServer<'a, R> {
+    ghost use Rattle.std.specs.Prelude.{All};
+    ghost use Rattle.shared_desk.specs.Desks.{IsNewAt, IsPassAt};
+
+    /// Returns the server of a scene, for who has a pass of its desk.
+    pub fn new(scene: &Scene<'a, R>, pass: StorePass) -> SharedServer<'a, R>
+        requires { IsPassAt scene.now.desk.now pass }
+    {
+        let (rt, house) = (scene.rt, scene.house);
+        let ringer = Ringer { bell: &house.bell };
+        SharedServer {
+            rt,
+            alloc: scene.alloc,
+            seat: Seat::new(scene.desk, pass, rt, ringer),
+            house,
+            stop: &house.stop,
+            watch: Watch::new(scene.alloc, Kind::ConfigMap, 0),
+        }
+    }
+
+    /// Returns the server of a scene, for who has the last of the passes. The error is that none is left.
+    pub fn next(
+        scene: &Scene<'a, R>,
+        passes: &mut Vec<StorePass>,
+    ) -> Result<SharedServer<'a, R>, AllocError>
+        requires { All (IsNewAt scene.now.desk.now) passes.old.items }
+        ensures { All (IsNewAt scene.now.desk.now) passes.new.items }
+    {
+        match passes.pop() {
+            Some(pass) => Ok(SharedServer::new(scene, pass)),
+            None => Err(AllocError),
+        }
+    }
+
+    /// Returns the server with watches that live until a stop.
+    pub fn until(self, stop: &'a Stop) -> SharedServer<'a, R> {
+        let mut server = self;
+        server.stop = stop;
+        server
+    }
+
+    /// Returns what a request is answered, as its text is read: as it would be over a connection.
+    fn answer(&mut self, alloc: Global, request: &Request) -> Answer {
+        if !can_be_told(request) {
+            return Answer::NotSent;
+        }
+        let Ok(text) = request_text(alloc, request) else {
+            return Answer::NotSent;
+        };
+        let Ok(routes) = Routes::new(alloc) else {
+            return Answer::NotSent;
+        };
+        let (target, body) = (text.target.as_bytes(), text.body.as_bytes());
+        match read_request(alloc, &routes, text.method, target, body) {
+            Ok(Asked::Request(request)) => {
+                answer_of(alloc, self.seat.call(alloc, request, Moment::start()))
+            }
+            Ok(_) => Answer::NotSent,
+            Err(fault) => answer_of(alloc, Err(fault)),
+        }
+    }
+
+    /// Takes in what the watch is given next, unless watches are held, and waits for a write where that is nothing.
+    fn look(&mut self) -> Result<(), Fault> {
+        let seen = self.house.bell.count();
+        if !self.house.holds_watches() {
+            let view = View::unfiltered(self.alloc, self.watch.kind, None);
+            let after = self.watch.after;
+            let watched = match self.seat.watch_from(self.alloc, &view, after, MOST_EVENTS) {
+                Ok(watched) => watched,
+                Err(fault) => return Err(fault),
+            };
+            self.watch.take_in(self.alloc, &watched)?;
+            if !watched.events.is_empty() {
+                return Ok(());
+            }
+        }
+        let _ = self.house.bell.wait(self.rt, seen, PAUSE_MILLISECONDS);
+        Ok(())
+    }
+}
+
+impl<R: Wait + Clock> Api for SharedServer<'_, R> {
+    fn call(&mut self, alloc: Global, request: &Request) -> Answer {
+        let answer = self.answer(alloc, request);
+        self.house.note(request, &answer);
+        answer
+    }
+
+    fn list(&mut self, alloc: Global, kind: Kind) -> Answer {
+        let view = View::unfiltered(alloc, kind, None);
+        let options = ListOptions {
+            at: At::Present,
+            limit: 0,
+            after: None,
+        };
+        answer_of(alloc, self.seat.list(alloc, &view, &options))
+    }
+
+    fn open_watch(&mut self, alloc: Global, kind: Kind, revision: u64) -> Opened {
+        let view = View::unfiltered(alloc, kind, None);
+        match self.seat.watch_from(alloc, &view, revision, 0) {
+            Ok(_) => {
+                self.watch = Watch::new(alloc, kind, revision);
+                Opened::Open
+            }
+            Err(Fault::Expired { .. }) => Opened::Expired,
+            Err(_) => Opened::Lost,
+        }
+    }
+
+    fn more(&mut self, buf: &mut [u8]) -> More {
+        for _ in self.rt.forever() {
+            if buf.is_empty() || self.stop.is_stopped() {
+                return More::Cut;
+            }
+            let count = self.watch.read(buf);
+            if count > 0 {
+                return More::Bytes(count);
+            }
+            if self.look().is_err() {
+                return More::Cut;
+            }
+        }
+        unreachable!()
+    }
+}

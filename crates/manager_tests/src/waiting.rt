@@ -1,0 +1,32 @@
+//! A client that does nothing.
+use crate::playing::Play;
+use crate::scenes::Scene;
+use bells::Stop;
+use std::sync::Wait;
+use std::time::Clock;
+
+/// A client that waits until all is to stop, for so many milliseconds at most.
+#[derive(Drop)]
+pub struct Waiting<'a, R> {
+    rt: &'a R,
+    stop: &'a Stop,
+    milliseconds: u64,
+}
+
+impl<'a, R> Waiting<'a, R> {
+    /// Returns a client of a scene that waits for so many milliseconds at most.
+    pub fn new(scene: &Scene<'a, R>, milliseconds: u64) -> Waiting<'a, R> {
+        let signals = scene.signals;
+        Waiting {
+            rt: scene.rt,
+            stop: &signals.stop,
+            milliseconds,
+        }
+    }
+}
+
+impl<R: Wait + Clock> Play for Waiting<'_, R> {
+    fn play(&mut self) -> bool {
+        self.stop.rest(self.rt, self.milliseconds)
+    }
+}
