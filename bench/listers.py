@@ -2,9 +2,9 @@
 """Measures an informer of 10,000 Pods whose map is read without waiting.
 
 First publishes of one delta: microseconds each, of the processor's time, less the time of a run that takes in the Pods and
-publishes nothing more. Then looks a second by 1, 4 and 16 threads, each look a look-up of one Pod, while another thread publishes a
-delta each millisecond, or as often as it can, for two seconds. Each figure is the median of several runs, and beside it stand the least
-and the greatest. What a run writes is checked.
+publishes nothing more. Then looks a second by 1, 4 and 16 threads, each of which reads the revision, and then such as get one Pod, while
+another thread publishes a delta each millisecond, or as often as it can, for two seconds. Each figure is the median of several runs, and
+beside it stand the least and the greatest. What a run writes is checked.
 
 Usage: listers.py [--program PATH] [--thousands N] [--runs N] [--seconds N]
   --program PATH   an executable that is built; without it `rt run -- publish 1` in crates/lister_bench proves and builds one first
@@ -24,6 +24,9 @@ import shared
 
 # How many threads look.
 THREADS = [1, 4, 16]
+
+# What a look does, and how the program names it.
+LOOKS = {"reads the revision": "looks", "gets a Pod": "gets"}
 
 PODS = 10_000
 
@@ -54,12 +57,12 @@ def publishes(program, times, limit):
     return seconds
 
 
-def looks(program, threads, limit):
+def looks(program, part, threads, limit):
     """Returns how many looks and how many publishes a run saw in a second."""
-    written, _ = run(program, "looks", threads, limit)
+    written, _ = run(program, part, threads, limit)
     counts = re.fullmatch(r"(\d+) looks and (\d+) publishes a second\n", written)
     if counts is None:
-        sys.exit(f"{program} looks {threads} wrote: {written.strip()}")
+        sys.exit(f"{program} {part} {threads} wrote: {written.strip()}")
     return int(counts[1]), int(counts[2])
 
 
@@ -71,11 +74,13 @@ def main():
     taken_in = statistics.median(publishes(program, 0, asked.seconds) for _ in range(asked.runs))
     each = [(publishes(program, times, asked.seconds) - taken_in) * 1e6 / times for _ in range(asked.runs)]
     print(f"A publish of one delta: {statistics.median(each):.1f} microseconds, {min(each):.1f} to {max(each):.1f}")
-    print("| Threads that look | Looks a second, median | least | greatest | Publishes a second, median |")
-    print("|---|---|---|---|---|")
-    for threads in THREADS:
-        seen, published = zip(*(looks(program, threads, asked.seconds) for _ in range(asked.runs)))
-        print(f"| {threads} | {statistics.median(seen):,.0f} | {min(seen):,} | {max(seen):,} | {statistics.median(published):,.0f} |")
+    print("| A look | Threads that look | Looks a second, median | least | greatest | Publishes a second, median |")
+    print("|---|---|---|---|---|---|")
+    for what, part in LOOKS.items():
+        for threads in THREADS:
+            seen, published = zip(*(looks(program, part, threads, asked.seconds) for _ in range(asked.runs)))
+            figures = f"{statistics.median(seen):,.0f} | {min(seen):,} | {max(seen):,} | {statistics.median(published):,.0f}"
+            print(f"| {what} | {threads} | {figures} |", flush=True)
     print(f"Load in the end: {os.getloadavg()[0]:.1f}")
 
 

@@ -15,15 +15,16 @@ use Rattle.std.specs.contracts.impls.GlobalAllocator.TheImpl.{ghosts}
 use Rattle.std.specs.contracts.sync.atomic.AtomicU64 as AtomicU64
 use Rattle.std.specs.contracts.vec.Vec as Vec
 use Rattle.keys.proofs.key.Key.TheSendSync as key_of
-use Rattle.keys.specs.contracts.key.Key as Key
+use Rattle.lister_bench.proofs.looks.Wanted.TheSendSync as wanted_of
+use Rattle.lister_bench.specs.contracts.looks.Wanted as Wanted
 use Rattle.listers.proofs.Sent.{lister}
 use Rattle.listers.specs.contracts.listers.Lister as Lister
 
 counter : IsSync AtomicU64.the_row
 counter = search (heap.crosses, sendable) depth 20
 
-key : IsSync Key.the_row
-key = search (key_of.the_sync, heap.crosses, maps.crosses, sendable) depth 30
+wanted : IsSync Wanted.the_row
+wanted = search (wanted_of.the_sync, key_of.the_sync, heap.crosses, maps.crosses, sendable) depth 30
 
 lent : (a : NamedLft) (R : RattleType) → IsSync R → IsSend (as_row (row_field (ShrRef a.mir a.lft R)))
 lent a R s = as_row_send (row_field (ShrRef a.mir a.lft R)) (shr_send a.mir a.lft R s)
@@ -36,7 +37,7 @@ listers = heap.Vec-send Lister.the_row lister
 
 module _ (name : Sym) (a b c : NamedLft) (R : RattleType) (r : IsSync R) where
   abbrev captures : List RattleType
-  captures = ShrRef a.mir a.lft R ∷ Listers ∷ ShrRef b.mir b.lft Key.the_row ∷ ShrRef c.mir c.lft AtomicU64.the_row ∷ []
+  captures = ShrRef a.mir a.lft R ∷ Listers ∷ ShrRef b.mir b.lft Wanted.the_row ∷ ShrRef c.mir c.lft AtomicU64.the_row ∷ []
 
   pub captured : IsSend (TupleAt name captures)
-  captured = declared_send (type_at name captures) (lent a R r, (as_row_send (row_field Listers) listers, (lent b Key.the_row key, (lent c AtomicU64.the_row counter, tt))))
+  captured = declared_send (type_at name captures) (lent a R r, (as_row_send (row_field Listers) listers, (lent b Wanted.the_row wanted, (lent c AtomicU64.the_row counter, tt))))

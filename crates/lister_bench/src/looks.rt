@@ -1,5 +1,6 @@
 //! Threads that look while another publishes.
-use crate::pods::{PODS, key, pods, publish_all, publish_one};
+use crate::pods::{pods, publish_all, publish_one};
+use indexer::Indexed;
 use keys::Key;
 use listers::{Informer, Lister};
 use reflector::SharedObject;
@@ -18,6 +19,15 @@ const LOOKS: u64 = 1_000_000_000;
 
 /// How many threads there may be.
 const THREADS: usize = 1_024;
+
+/// What a look reads.
+#[derive(Drop)]
+pub enum Wanted {
+    /// The revision that is published.
+    Revision,
+    /// The object under a key.
+    Object(Key),
+}
 
 /// What was seen of looks and of publishes.
 #[derive(Clone, Copy)]
@@ -71,23 +81,31 @@ fn publish_all_on<R: Wait + Clock>(
     published.ok()
 }
 
-/// Looks at a key once, and returns the lister, and whether the object was there.
-fn look_once(lister: Lister, key: &Key) -> (Lister, bool) {
+/// Reads what is wanted, and returns whether it is there.
+fn is_there(map: &Indexed, wanted: &Wanted) -> bool {
+    match wanted {
+        Wanted::Revision => map.revision() > 0,
+        Wanted::Object(key) => map.get(key).is_some(),
+    }
+}
+
+/// Looks once, and returns the lister, and whether what is wanted was there.
+fn look_once(lister: Lister, wanted: &Wanted) -> (Lister, bool) {
     match lister.look() {
         Ok(look) => {
-            let found = look.indexed().get(key).is_some();
+            let found = is_there(look.indexed(), wanted);
             (look.leave(), found)
         }
         Err(lister) => (lister, false),
     }
 }
 
-/// Looks at a key until the publishes end, and returns how many times it was found.
-fn look_on(lister: Lister, key: &Key, done: &AtomicU64) -> u64 {
+/// Looks until the publishes end, and returns how many looks there were.
+fn look_on(lister: Lister, wanted: &Wanted, done: &AtomicU64) -> u64 {
     let mut lister = lister;
     let mut count: u64 = 0;
     for _ in 0..LOOKS {
-        let (left, found) = look_once(lister, key);
+        let (left, found) = look_once(lister, wanted);
         lister = left;
         if !found || done.load(Ordering::SeqCst) == 1 {
             break;
@@ -101,10 +119,10 @@ fn look_on(lister: Lister, key: &Key, done: &AtomicU64) -> u64 {
 fn look_in_threads<R: Threads + Sync>(
     rt: &R,
     listers: Vec<Lister>,
-    key: &Key,
+    wanted: &Wanted,
     done: &AtomicU64,
 ) -> Result<Vec<u64>, AllocError> {
-    thread::map_vec(rt, listers, &|lister: Lister| look_on(lister, key, done))
+    thread::map_vec(rt, listers, &|lister: Lister| look_on(lister, wanted, done))
 }
 
 /// Looks in a thread for each lister while another thread publishes. It fails where a publish did.
@@ -113,12 +131,12 @@ fn look_while<R: Threads + Wait + Clock + Sync>(
     informer: &mut Informer,
     pods: &[SharedObject],
     listers: Vec<Lister>,
-    key: &Key,
+    wanted: &Wanted,
 ) -> Result<Counts, AllocError> {
     let done = AtomicU64::new(0);
     let (looks, published) = thread::join(
         rt,
-        || look_in_threads(rt, listers, key, &done),
+        || look_in_threads(rt, listers, wanted, &done),
         || publish_all_on(rt, informer, pods, &done),
     );
     let mut sum: u64 = 0;
@@ -150,12 +168,12 @@ fn looks<R: Threads + Wait + Clock + Sync>(
     alloc: Global,
     informer: &mut Informer,
     threads: usize,
+    wanted: &Wanted,
 ) -> Result<Counts, AllocError> {
     let pods = pods(alloc)?;
-    let key = key(alloc, PODS / 2)?;
     publish_all(rt, informer, pods.as_slice())?;
     let listers = listers(alloc, informer, threads)?;
-    look_while(rt, informer, pods.as_slice(), listers, &key)
+    look_while(rt, informer, pods.as_slice(), listers, wanted)
 }
 
 /// Has so many threads look for two seconds while a delta is published each millisecond, at least one and at most 1,024. Returns
@@ -164,10 +182,11 @@ pub fn run<R: Threads + Wait + Clock + Sync>(
     rt: &R,
     alloc: Global,
     threads: u32,
+    wanted: &Wanted,
 ) -> Result<Counts, AllocError> {
     let threads = (threads as usize).clamp(1, THREADS);
     let mut informer = Informer::open(alloc, threads)?;
-    let counts = looks(rt, alloc, &mut informer, threads);
+    let counts = looks(rt, alloc, &mut informer, threads, wanted);
     informer.close(rt);
     let counts = counts?;
     Ok(Counts {

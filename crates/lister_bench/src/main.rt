@@ -1,13 +1,15 @@
 //! Measures an informer whose map is read without waiting: `lister_bench WHAT NUMBER` takes in 10,000 Pods, and then does WHAT:
-//! `publish` publishes a delta so many times, and `looks` has so many threads look for two seconds, while another publishes a
-//! thousand deltas a second, or as many as it can. It prints how many shifts the publishes had, or how many looks and publishes
-//! there were a second.
+//! `publish` publishes a delta so many times; `looks` has so many threads look for two seconds, while another publishes a thousand
+//! deltas a second, or as many as it can, and each look reads the revision; with `gets` each gets a Pod. It prints how many shifts
+//! the publishes had, or how many looks and publishes there were a second.
 #![tactic(auto)]
 
 mod looks;
 mod pods;
 mod publishes;
 
+use crate::looks::Wanted;
+use crate::pods::{PODS, key};
 use std::alloc::{AllocError, Global};
 use std::process::ExitCode;
 use std::sync::Wait;
@@ -20,6 +22,7 @@ use std::{env, io};
 pub enum What {
     Publish,
     Looks,
+    Gets,
 }
 
 /// Returns what a word asks for.
@@ -27,6 +30,7 @@ fn named(word: &str) -> Option<What> {
     match word {
         "publish" => Some(What::Publish),
         "looks" => Some(What::Looks),
+        "gets" => Some(What::Gets),
         _ => None,
     }
 }
@@ -44,6 +48,20 @@ fn asked(rt: &HostRuntime) -> io::Result<Option<(What, u32)>> {
     Ok(Some((what, number)))
 }
 
+/// Returns how many looks and publishes there were a second, as a text.
+fn looked<R: Threads + Wait + Clock + Sync>(
+    rt: &R,
+    alloc: Global,
+    threads: u32,
+    wanted: &Wanted,
+) -> Result<String, AllocError> {
+    let counts = looks::run(rt, alloc, threads, wanted)?;
+    format!(in alloc;
+        "{} looks and {} publishes a second",
+        counts.looks, counts.publishes
+    )
+}
+
 /// Returns what was measured, as a text.
 fn measured<R: Threads + Wait + Clock + Sync>(
     rt: &R,
@@ -56,12 +74,10 @@ fn measured<R: Threads + Wait + Clock + Sync>(
             let shifts = publishes::run(rt, alloc, number)?;
             format!(in alloc; "{shifts} shifts")
         }
-        What::Looks => {
-            let counts = looks::run(rt, alloc, number)?;
-            format!(in alloc;
-                "{} looks and {} publishes a second",
-                counts.looks, counts.publishes
-            )
+        What::Looks => looked(rt, alloc, number, &Wanted::Revision),
+        What::Gets => {
+            let wanted = Wanted::Object(key(alloc, PODS / 2)?);
+            looked(rt, alloc, number, &wanted)
         }
     }
 }

@@ -42,9 +42,9 @@ pub fn key(alloc: Global, number: u32) -> Result<Key, AllocError> {
 /// Returns a Pod that one of the ReplicaSets controls.
 fn pod(alloc: Global, number: u32) -> Result<SharedObject, AllocError> {
     let name = name(alloc, number)?;
-    let set = number % SETS;
+    let (set, revision) = (number % SETS, u64::from(number) + 1);
     let text = format!(in alloc;
-        "{{\"metadata\":{{\"creationTimestamp\":\"2026-01-01T00:00:00Z\",\"labels\":{{\"app\":\"web\"}},\"name\":\"{name}\",\"namespace\":\"default\",\"ownerReferences\":[{{\"apiVersion\":\"apps/v1\",\"blockOwnerDeletion\":true,\"controller\":true,\"kind\":\"ReplicaSet\",\"name\":\"web-{set:03}\",\"uid\":\"00000000-0000-8000-8000-{set:012}\"}}],\"resourceVersion\":\"{number}\",\"uid\":\"00000000-0000-8000-8001-{number:012}\"}},\"spec\":{{\"containers\":[{{\"image\":\"registry.example/web:1\",\"name\":\"web\"}}],\"nodeName\":\"node-{set}\"}},\"status\":{{\"conditions\":[{{\"status\":\"True\",\"type\":\"Ready\"}}],\"phase\":\"Running\"}}}}"
+        "{{\"metadata\":{{\"creationTimestamp\":\"2026-01-01T00:00:00Z\",\"labels\":{{\"app\":\"web\"}},\"name\":\"{name}\",\"namespace\":\"default\",\"ownerReferences\":[{{\"apiVersion\":\"apps/v1\",\"blockOwnerDeletion\":true,\"controller\":true,\"kind\":\"ReplicaSet\",\"name\":\"web-{set:03}\",\"uid\":\"00000000-0000-8000-8000-{set:012}\"}}],\"resourceVersion\":\"{revision}\",\"uid\":\"00000000-0000-8000-8001-{number:012}\"}},\"spec\":{{\"containers\":[{{\"image\":\"registry.example/web:1\",\"name\":\"web\"}}],\"nodeName\":\"node-{set}\"}},\"status\":{{\"conditions\":[{{\"status\":\"True\",\"type\":\"Ready\"}}],\"phase\":\"Running\"}}}}"
     )?;
     object(alloc, text.as_str())
 }
