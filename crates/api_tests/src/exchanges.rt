@@ -1,6 +1,7 @@
 //! Connections to a server that one thread owns.
 use api::{ServeFault, Served, serve_one};
 use chunked::Watched;
+use definitions::kinds::Kind;
 use desk::Server;
 use routes::table::Routes;
 use sites::Solo;
@@ -18,7 +19,7 @@ pub(crate) const NEVER: u64 = u64::MAX;
 struct AtOnce;
 
 impl Pace for AtOnce {
-    fn pause(&mut self, _idle: u64) {}
+    fn pause(&mut self, _kind: Kind, _idle: u64) {}
 }
 
 /// Returns a server where nothing is there.

@@ -5,10 +5,9 @@ ghost use Rattle.shared_desk.specs.Desks.{IsNewAt};
 use crate::controlling::MOST_WORKERS;
 use crate::own_desk::OwnDesk;
 use crate::parts::run_controllers;
-use bells::Bell;
 use line_relay::relay;
 use line_service::RunFault;
-use loopback::Reach;
+use loopback::{KindBells, Reach};
 use manager::Signals;
 use options::AllOptions;
 use serving::{ServeFault, listen, wake};
@@ -58,7 +57,7 @@ where
 {
     let outcome = relay(own.alloc, &mut own.connector(), reader, writer);
     own.signals.stop_all();
-    own.bell.ring();
+    own.bells.ring_all();
     wake(own.rt, own.port, threads);
     outcome
 }
@@ -130,7 +129,7 @@ where
 {
     let threads = options.threads.max(1).min(MOST_THREADS) + OWN_THREADS;
     let workers = options.workers.min(MOST_WORKERS);
-    let (bell, signals, reach) = (Bell::new(), Signals::new(None), Reach::new());
+    let (bells, signals, reach) = (KindBells::new(), Signals::new(None), Reach::new());
     let count = threads + workers + FOLLOWERS;
     let (desk, passes) = Desk::<Anything>::open(alloc, options.window, count).map_err(no_memory)?;
     let (listener, port) = listen(rt, options.port, told).map_err(AllFault::Serve)?;
@@ -138,7 +137,7 @@ where
         rt,
         alloc,
         desk: &desk,
-        bell: &bell,
+        bells: &bells,
         port,
         signals: &signals,
         reach: &reach,

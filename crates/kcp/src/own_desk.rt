@@ -3,8 +3,7 @@ ghost use Rattle.std.specs.Prelude.{All};
 ghost use Rattle.shared_desk.specs.Desks.{IsNewAt};
 
 use crate::parts::{Answering, Controllers, Own};
-use bells::Bell;
-use loopback::{Connector, OwnServer, Reach, connections};
+use loopback::{Connector, KindBells, OwnServer, Reach, connections};
 use manager::{Apis, Signals};
 use shared_desk::{Anything, Desk, StorePass};
 use std::alloc::{AllocError, Global};
@@ -19,7 +18,7 @@ pub struct OwnDesk<'a, R> {
     pub rt: &'a R,
     pub alloc: Global,
     pub desk: &'a Desk<Anything>,
-    pub bell: &'a Bell,
+    pub bells: &'a KindBells,
     pub port: u16,
     pub signals: &'a Signals,
     pub reach: &'a Reach,
@@ -70,7 +69,7 @@ impl<'a, R: Net<Listener = TcpListener, Stream = TcpStream> + Eprint + Wait + Cl
             self.alloc,
             self.desk,
             pass,
-            self.bell,
+            self.bells,
             self.connector(),
         )
     }
@@ -129,7 +128,7 @@ impl<'a, R: Net<Listener = TcpListener, Stream = TcpStream> + Eprint + Wait + Cl
         requires { All (IsNewAt self.now.desk.now) passes.items }
     {
         let stop = &self.signals.stop;
-        let connections = connections(self.rt, self.alloc, self.desk, passes, self.bell, stop)?;
+        let connections = connections(self.rt, self.alloc, self.desk, passes, self.bells, stop)?;
         Ok(Answering {
             rt: self.rt,
             listener,

@@ -1,6 +1,6 @@
 //! `kcp serve`: a server that threads share, each of which answers connections.
-use bells::{Bell, Stop};
-use loopback::connections;
+use bells::Stop;
+use loopback::{KindBells, connections};
 use options::ServeOptions;
 use serving::ServeFault;
 use shared_desk::{Anything, Desk};
@@ -22,13 +22,13 @@ where
     R: Net<Listener = TcpListener, Stream = TcpStream> + Threads + Wait + Clock + Sync,
     W: Write,
 {
-    let bell = Bell::new();
+    let bells = KindBells::new();
     let stop = Stop::new();
     let Ok((desk, passes)) = Desk::<Anything>::open(alloc, options.window, options.threads.max(1))
     else {
         return Err(ServeFault::NoMemory);
     };
-    let Ok(mut connections) = connections(rt, alloc, &desk, passes, &bell, &stop) else {
+    let Ok(mut connections) = connections(rt, alloc, &desk, passes, &bells, &stop) else {
         return Err(ServeFault::NoMemory);
     };
     serving::serve(

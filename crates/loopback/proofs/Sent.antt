@@ -13,7 +13,6 @@ use Rattle.shared_desk.specs.contracts.seats.Seat as Seat
 use Rattle.std.proofs.MapsCrossing as maps
 use Rattle.std.specs.contracts.alloc.Global as Global
 use Rattle.bells.proofs.bell.Bell.TheSendSync as bell
-use Rattle.bells.specs.contracts.bell.Bell as Bell
 use Rattle.bells.proofs.stop.Stop.TheSendSync as stop
 use Rattle.bells.specs.contracts.stop.Stop as Stop
 use Rattle.routes.below.matchit.proofs.route.Route.TheSendSync as route
@@ -23,6 +22,7 @@ use Rattle.routes.below.slab.proofs.Slab.TheSendSync as slab
 use Rattle.routes.proofs.entries.Entry.TheSendSync as entry
 use Rattle.routes.specs.contracts.table.Routes as Routes
 use Rattle.loopback.specs.contracts.answering.Ringer as Ringer
+use Rattle.loopback.specs.contracts.kind_bells.KindBells as KindBells
 use Rattle.loopback.specs.contracts.answering.Connection as Connection
 use Rattle.loopback.specs.contracts.connecting.Connector as Connector
 use Rattle.loopback.specs.contracts.other_server.OtherServer as OtherServer
@@ -66,14 +66,14 @@ module _ (a : NamedLft) (R : RattleType) (r : IsSync R) where
   runtime : IsSend (as_row (Field.row_field (ShrRef a.mir a.lft R)))
   runtime = search (r, sendable)
 
-  lent_bell : IsSend (as_row (Field.shr_ref_field a Bell.the_row tt))
-  lent_bell = search (bell.the_sync, heap.crosses, sendable) depth 20
+  lent_bells : IsSend (as_row (Field.shr_ref_field a KindBells.the_row tt))
+  lent_bells = search (bell.the_sync, heap.crosses, sendable) depth 20
 
   lent_stop : IsSend (as_row (Field.shr_ref_field a Stop.the_row tt))
   lent_stop = search (stop.the_sync, heap.crosses, sendable) depth 20
 
   pub connection : IsSend (Connection.the_row a R)
-  connection = declared_send (Connection.the_type a R) (alloc, (routes, (seat a (Ringer.the_row a) R ringer r, (runtime, (lent_bell, (lent_stop, tt))))))
+  connection = declared_send (Connection.the_type a R) (alloc, (routes, (seat a (Ringer.the_row a) R ringer r, (runtime, (lent_bells, (lent_stop, tt))))))
 
   port : IsSend (as_row Field.u16-field)
   port = search (sendable)

@@ -2,10 +2,12 @@
 ghost use Rattle.shared_desk.specs.Desks.{IsPassAt, IsNewAt};
 ghost use Rattle.std.specs.Prelude.{All};
 
+use crate::kind_bells::KindBells;
 use crate::pausing::Pause;
 use api::{Served, serve_one};
-use bells::{Bell, Stop};
+use bells::Stop;
 use chunked::Watched;
+use definitions::kinds::Kind;
 use routes::table::Routes;
 use serving::{Ending, Handler};
 use shared_desk::{Anything, Desk, Listener, Seat, StorePass};
@@ -15,40 +17,40 @@ use std::io::{Read, Write};
 use std::sync::Wait;
 use std::time::Clock;
 
-/// Wakes the watches of all threads at each write.
+/// Wakes the watches of a kind, in all threads, at each write of an object of that kind.
 #[derive(Drop)]
 pub(crate) struct Ringer<'a> {
-    pub(crate) bell: &'a Bell,
+    pub(crate) bells: &'a KindBells,
 }
 
 impl Listener for Ringer<'_> {
-    ghost Hears = { λ before after. Unit {0} };
+    ghost Hears = { λ kind before after. Unit {0} };
 
-    fn wrote<R: Wait>(&mut self, _rt: &R) {
-        self.bell.ring();
+    fn wrote<R: Wait>(&mut self, _rt: &R, kind: Kind) {
+        self.bells.of(kind).ring();
     }
 }
 
-/// What a thread needs to answer its connections: its seat at the desk that all threads share, the bell that its watches wait for,
-/// and the stop at which they end.
+/// What a thread needs to answer its connections: its seat at the desk that all threads share, the bells that its watches wait
+/// for, and the stop at which they end.
 #[derive(Drop)]
 pub struct Connection<'a, R> {
     alloc: Global,
     routes: Routes,
     seat: Seat<'a, Anything, Ringer<'a>, R>,
     rt: &'a R,
-    bell: &'a Bell,
+    bells: &'a KindBells,
     stop: &'a Stop,
 }
 
 impl<'a, R: Wait + Clock> Connection<'a, R> {
-    /// Returns what answers connections with a pass of a desk, whose writes ring a bell.
+    /// Returns what answers connections with a pass of a desk, whose writes ring the bell of their kind.
     pub fn new(
         rt: &'a R,
         alloc: Global,
         desk: &'a Desk<Anything>,
         pass: StorePass,
-        bell: &'a Bell,
+        bells: &'a KindBells,
         stop: &'a Stop,
     ) -> Result<Connection<'a, R>, AllocError>
         requires { IsPassAt desk.now pass }
@@ -56,9 +58,9 @@ impl<'a, R: Wait + Clock> Connection<'a, R> {
         Ok(Connection {
             alloc,
             routes: Routes::new(alloc)?,
-            seat: Seat::new(desk, pass, rt, Ringer { bell }),
+            seat: Seat::new(desk, pass, rt, Ringer { bells }),
             rt,
-            bell,
+            bells,
             stop,
         })
     }
@@ -76,7 +78,7 @@ impl<R: Wait + Clock> Handler for Connection<'_, R> {
     ) -> Ending {
         let mut reader = Watched::new(reader);
         let mut writer = Watched::new(writer);
-        let mut pause = Pause::new(self.rt, self.bell, self.stop);
+        let mut pause = Pause::new(self.rt, self.bells, self.stop);
         match serve_one(
             self.alloc,
             &self.routes,
@@ -98,7 +100,7 @@ pub fn connections<'a, R: Wait + Clock>(
     alloc: Global,
     desk: &'a Desk<Anything>,
     passes: Vec<StorePass>,
-    bell: &'a Bell,
+    bells: &'a KindBells,
     stop: &'a Stop,
 ) -> Result<Vec<Connection<'a, R>>, AllocError>
     requires { All (IsNewAt desk.now) passes.items }
@@ -106,7 +108,7 @@ pub fn connections<'a, R: Wait + Clock>(
     let mut made = Vec::with_capacity(alloc, passes.len())?;
     let mut left = passes;
     while let Some(pass) = left.pop() {
-        made.push(Connection::new(rt, alloc, desk, pass, bell, stop)?)?;
+        made.push(Connection::new(rt, alloc, desk, pass, bells, stop)?)?;
     }
     Ok(made)
 }

@@ -3,6 +3,7 @@
 
 pub mod answering;
 pub mod connecting;
+pub mod kind_bells;
 pub mod other_server;
 pub mod own_server;
 mod pausing;
@@ -10,6 +11,7 @@ pub mod reach;
 
 pub use answering::{Connection, connections};
 pub use connecting::Connector;
+pub use kind_bells::KindBells;
 pub use other_server::OtherServer;
-pub use own_server::OwnServer;
+pub use own_server::{OwnServer, answer_of};
 pub use reach::Reach;

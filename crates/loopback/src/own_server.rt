@@ -1,10 +1,14 @@
 //! The server of the same process, asked without connections.
-ghost use Rattle.shared_desk.specs.Desks.{IsNewAt, IsPassAt};
-ghost use Rattle.std.specs.Prelude.{All};
+ghost use Rattle.std.specs.Prelude.{◌≡◌, IfOk};
+ghost use Rattle.loopback.specs.Asking.{Asks, IsAskedOrNotSent, remote_at, seat_at};
+ghost use Rattle.loopback.specs.Told.{TellsResult};
+ghost use Rattle.requests.specs.Requests.{request_of};
+ghost use Rattle.shared_desk.specs.Desks.{IsPassAt, known};
+ghost use Rattle.shared_desk.specs.Seats.{desk_at, known_at};
 
 use crate::answering::Ringer;
+use crate::kind_bells::KindBells;
 use asked::{Asked, read_request};
-use bells::Bell;
 use client::{Answer, More};
 use clocks::moment;
 use definitions::kinds::Kind;
@@ -30,7 +34,9 @@ pub struct OwnServer<'a, R, C: Connect + Drop> {
 }
 
 /// Returns what a client is answered. The server has done nothing where it had no memory: the request is as good as not sent.
-fn answer_of(alloc: Global, outcome: Result<reply::Reply, Fault>) -> Answer {
+pub fn answer_of(alloc: Global, outcome: Result<reply::Reply, Fault>) -> Answer
+    ensures { TellsResult outcome result }
+{
     let reply = match outcome {
         Ok(reply) => reply,
         Err(Fault::NoMemory) => return Answer::NotSent,
@@ -46,39 +52,43 @@ fn answer_of(alloc: Global, outcome: Result<reply::Reply, Fault>) -> Answer {
 }
 
 impl<'a, R: Wait + Clock, C: Connect + Drop> OwnServer<'a, R, C> {
-    ghost use Rattle.shared_desk.specs.Desks.{IsPassAt};
-
-    /// Returns the server of a desk, whose writes ring a bell, and to which this connects.
+    /// Returns the server of a desk, whose writes ring the bell of their kind, and to which this connects.
     pub fn new(
         rt: &'a R,
         alloc: Global,
         desk: &'a Desk<Anything>,
         pass: StorePass,
-        bell: &'a Bell,
+        bells: &'a KindBells,
         connector: C,
     ) -> Result<OwnServer<'a, R, C>, AllocError>
         requires { IsPassAt desk.now pass }
+        ensures desk { IfOk result (λ server. desk_at (seat_at server) ≡ desk.entry.now) }
+        ensures known { IfOk result (λ server. known_at (seat_at server) ≡ known pass) }
     {
         Ok(OwnServer {
             rt,
             routes: Routes::new(alloc)?,
-            seat: Seat::new(desk, pass, rt, Ringer { bell }),
+            seat: Seat::new(desk, pass, rt, Ringer { bells }),
             remote: Remote::new(connector),
         })
     }
 
     /// Returns what a request is answered now.
-    fn answer(&mut self, alloc: Global, request: Request) -> Answer {
+    fn answer(&mut self, alloc: Global, request: Request) -> Answer
+        ensures asks { IsAskedOrNotSent (seat_at self.old) (request_of request) result (seat_at self.new) }
+        ensures remote { remote_at self.new ≡ remote_at self.old }
+    {
         match moment(self.rt) {
             Some(moment) => answer_of(alloc, self.seat.call(alloc, request, moment)),
             None => Answer::NotSent,
         }
     }
-}
 
-impl<R: Wait + Clock, C: Connect + Drop> Api for OwnServer<'_, R, C> {
     /// Answers a request as its text is read, so that it is answered as over a connection.
-    fn call(&mut self, alloc: Global, request: &Request) -> Answer {
+    pub fn ask(&mut self, alloc: Global, request: &Request) -> Answer
+        ensures asks { Asks (seat_at self.old) (request_of request.now) result (seat_at self.new) }
+        ensures remote { remote_at self.new ≡ remote_at self.old }
+    {
         if !can_be_told(request) {
             return Answer::NotSent;
         }
@@ -91,6 +101,12 @@ impl<R: Wait + Clock, C: Connect + Drop> Api for OwnServer<'_, R, C> {
             Ok(_) => Answer::NotSent,
             Err(fault) => answer_of(alloc, Err(fault)),
         }
+    }
+}
+
+impl<R: Wait + Clock, C: Connect + Drop> Api for OwnServer<'_, R, C> {
+    fn call(&mut self, alloc: Global, request: &Request) -> Answer {
+        self.ask(alloc, request)
     }
 
     fn list(&mut self, alloc: Global, kind: Kind) -> Answer {

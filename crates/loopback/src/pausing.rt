@@ -1,7 +1,9 @@
 //! The pauses of a watch.
 ghost use Rattle.std.specs.Prelude.{◌≡◌, ◌*◌, min};
 
+use crate::kind_bells::KindBells;
 use bells::{Bell, Stop};
+use definitions::kinds::Kind;
 use std::sync::Wait;
 use std::thread;
 use std::time::{Clock, Duration, Instant};
@@ -20,15 +22,15 @@ const QUIET_TIME: u64 = 20_000;
 /// that sees nothing lives for ten seconds at least, however much is written that it does not ask for.
 const MOST_CUT_SHORT: u64 = 512;
 
-/// Waits between two looks of a watch, until something is written or the pause is over. While nothing is written each pause is twice as
+/// Waits between two looks of a watch, until an object of its kind is written or the pause is over. While nothing is written each pause is twice as
 /// long as the one before, up to the longest; a write makes the next one the shortest again.
 #[derive(Drop)]
 pub(crate) struct Pause<'a, R> {
     rt: &'a R,
-    bell: &'a Bell,
+    bells: &'a KindBells,
     stop: &'a Stop,
-    /// The bell's count before the last look.
-    seen: u64,
+    /// The count of the bell of its kind before the last look, once the kind is known.
+    seen: Option<u64>,
     /// How many milliseconds the next pause has, unless fewer are left.
     next: u64,
     /// How many milliseconds of pauses are left to a watch that sees nothing.
@@ -37,22 +39,22 @@ pub(crate) struct Pause<'a, R> {
 
 impl<'a, R: Wait + Clock> Pause<'a, R> {
     /// Returns what waits between the looks of a watch that has not looked yet.
-    pub(crate) fn new(rt: &'a R, bell: &'a Bell, stop: &'a Stop) -> Pause<'a, R> {
+    pub(crate) fn new(rt: &'a R, bells: &'a KindBells, stop: &'a Stop) -> Pause<'a, R> {
         Pause {
             rt,
-            bell,
+            bells,
             stop,
-            seen: bell.count(),
+            seen: None,
             next: SHORTEST_PAUSE,
             left: QUIET_TIME,
         }
     }
 
-    /// Waits for a write, and for as long as the next pause has at most.
-    fn wait(&mut self) {
+    /// Waits until a bell has another count than was seen, and for as long as the next pause has at most.
+    fn wait(&mut self, bell: &Bell, seen: u64) {
         let length = self.next.min(self.left);
         let start = Instant::now(self.rt).ok();
-        self.next = match self.bell.wait(self.rt, self.seen, length) {
+        self.next = match bell.wait(self.rt, seen, length) {
             Some(_) => SHORTEST_PAUSE,
             None => longer(self.next),
         };
@@ -98,7 +100,7 @@ fn passed_since<C: Clock>(clock: &C, start: Option<Instant>) -> Option<u64> {
 }
 
 impl<R: Wait + Clock> Pace for Pause<'_, R> {
-    fn pause(&mut self, idle: u64) {
+    fn pause(&mut self, kind: Kind, idle: u64) {
         if idle <= 1 {
             self.next = SHORTEST_PAUSE;
             self.left = QUIET_TIME;
@@ -106,11 +108,13 @@ impl<R: Wait + Clock> Pace for Pause<'_, R> {
         if self.left == 0 || self.stop.is_stopped() {
             return;
         }
-        if idle < MOST_CUT_SHORT {
-            self.wait();
-        } else {
-            self.sleep();
+        let bell = self.bells.of(kind);
+        match self.seen {
+            // Before the first look nobody knew the kind, so a write may have come after it unheard.
+            None => {}
+            Some(seen) if idle < MOST_CUT_SHORT => self.wait(bell, seen),
+            Some(_) => self.sleep(),
         }
-        self.seen = self.bell.count();
+        self.seen = Some(bell.count());
     }
 }

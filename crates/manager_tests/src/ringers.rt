@@ -1,5 +1,6 @@
 //! What wakes the watches of all threads.
 use bells::Bell;
+use definitions::kinds::Kind;
 use shared_desk::Listener;
 use std::sync::Wait;
 
@@ -10,9 +11,9 @@ pub struct Ringer<'a> {
 }
 
 impl Listener for Ringer<'_> {
-    ghost Hears = { λ before after. Unit {0} };
+    ghost Hears = { λ kind before after. Unit {0} };
 
-    fn wrote<R: Wait>(&mut self, _rt: &R) {
+    fn wrote<R: Wait>(&mut self, _rt: &R, _kind: Kind) {
         self.bell.ring();
     }
 }

@@ -1,6 +1,6 @@
 -- What is asked at a seat.
-use Rattle.std.proofs.Common.{◌≡◌, ◌⊎◌, inl, inr, ℕ, List, refl, sym, ap, true, false}
-use Rattle.std.specs.Prelude.{Option, Some, None, Result, Ok, Err, is_some}
+use Rattle.std.proofs.Common.{◌≡◌, ◌⊎◌, inl, inr, ℕ, List, refl, sym, ap, subst, true, false}
+use Rattle.std.specs.Prelude.{Option, Some, None, IfSome, Result, Ok, Err, is_some}
 use Rattle.baton.specs.Marks.{entries}
 use Rattle.baton.specs.declared.views.Known.{Known}
 use Rattle.definitions.specs.ListQueries.{ListOptions}
@@ -10,6 +10,7 @@ use Rattle.definitions.specs.ObjectRequests.{Request}
 use Rattle.definitions.specs.Refusals.{Refusal, no_memory}
 use Rattle.definitions.specs.Verbs.{Outcome, answered, refused, accept, write_of}
 use Rattle.definitions.specs.Versions as versions
+use Rattle.definitions.specs.declared.kinds.Kind.{Kind}
 use Rattle.definitions.specs.Versions.{watched_from}
 use Rattle.desk.specs.Replies as replies
 use Rattle.keys.specs.Faults.{refusal_of}
@@ -27,6 +28,8 @@ use Rattle.shared_desk.specs.Asked.{CallsAt, ListsAt, WatchesAt, BeginsAt, Hears
 use Rattle.shared_desk.specs.Steps.{Step}
 use Rattle.shared_desk.specs.Told.{once_ok, Answers, IsThere}
 use Rattle.shared_desk.specs.declared.served.Served.{Served}
+use Rattle.shared_desk.specs.Kinds.{kind_named}
+use Rattle.shared_desk.proofs.Named.{WritesOnly, writes_only}
 use Rattle.shared_desk.proofs.Stepping.{restated}
 
 -- with what else is so of the seat
@@ -36,16 +39,16 @@ module _ (may_ask : Request → Type 0) (Also : Type 0) (also : Also) where
   abbrev Asked : Known Server Entry → Request → List ℕ → Result Served Fault → Known Server Entry → Type 0
   Asked v q moment r w = Step may_ask v (λ h. once_ok r (written (write_of (accept q h moment)))) (λ h. Answers (accept q h moment) r) w
 
-  pub called : {L : Type 0} (hears : L → L → Type 0) (v w : Known Server Entry) (q : Request) (moment : List ℕ) (s : Served) (l m : L) → Asked v q moment (Ok s) w → (s.wrote ≡ true → hears l m) → (s.wrote ≡ false → m ≡ l)
+  pub called : {L : Type 0} (hears : Kind → L → L → Type 0) (v w : Known Server Entry) (q : Request) (moment : List ℕ) (s : Served) (l m : L) → Asked v q moment (Ok s) w → (s.wrote ≡ true → hears (kind_named q) l m) → (s.wrote ≡ false → m ≡ l)
       → Tells (λ o. CallsAt may_ask v q moment o w × Hears hears (write_of o) l m × Also) (Ok s.reply)
   called hears v w q moment s l m step heard quiet = by (accept q (entries step.history) moment) refl step.says
     where
-      hears_so : (o : Option Write) → s.wrote ≡ is_some o → Hears hears o l m
-      hears_so None is = quiet is
-      hears_so (Some x) is = heard is
+      hears_so : (o : Option Write) → IfSome o (λ x. x.key.kind ≡ kind_named q) → s.wrote ≡ is_some o → Hears hears o l m
+      hears_so None only is = quiet is
+      hears_so (Some x) only is = subst (λ k. hears k l m) (sym only) (heard is)
 
       by : (o : Outcome) → accept q (entries step.history) moment ≡ o → Answers o (Ok s) → Tells (λ o. CallsAt may_ask v q moment o w × Hears hears (write_of o) l m × Also) (Ok s.reply)
-      by (answered a) is says = (a, says.0, (restated may_ask v w _ (λ h. written a.write) _ _ step (ap (λ o. written (write_of o)) (sym is)) (inl (sym is)), hears_so a.write says.1, also))
+      by (answered a) is says = (a, says.0, (restated may_ask v w _ (λ h. written a.write) _ _ step (ap (λ o. written (write_of o)) (sym is)) (inl (sym is)), hears_so a.write (subst (WritesOnly (kind_named q)) is (writes_only q _ _ moment)) says.1, also))
       by (refused f) is says = absurd says.0
 
   refused_by : (o : Outcome) (e : Fault) → replies.Replies o (Err e) → (refused (refusal_of e) ≡ o) ⊎ (refused (refusal_of e) ≡ refused no_memory)

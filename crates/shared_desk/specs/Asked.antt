@@ -1,6 +1,7 @@
 -- What is asked with a pass, as a relation between what it knew before and after.
 use Rattle.std.specs.Prelude.{◌≡◌, ◌⊎◌, ℕ, List, Option, Some, None, Result, Err}
 use Rattle.baton.specs.declared.views.Known.{Known}
+use Rattle.definitions.specs.declared.kinds.Kind.{Kind}
 use Rattle.definitions.specs.ListQueries.{ListOptions}
 use Rattle.definitions.specs.History.{Entry, View, Write}
 use Rattle.definitions.specs.Lists.{list_outcome}
@@ -31,8 +32,8 @@ module _ (may_ask : Request → Type 0) where
   abbrev pub BeginsAt : Known Server Entry → View → Result Listed Refusal → Known Server Entry → Type 0
   BeginsAt v view l w = Step may_ask v (λ h. None) (λ h. IsThere h view l) w
 
-module _ {L : Type 0} (hears : L → L → Type 0) where
-  -- a listener hears of a write, and of nothing else
+module _ {L : Type 0} (hears : Kind → L → L → Type 0) where
+  -- a listener hears of the kind of what was written, and of nothing else
   abbrev pub Hears : Option Write → L → L → Type 0
   Hears None l m = m ≡ l
-  Hears (Some w) l m = hears l m
+  Hears (Some w) l m = hears w.key.kind l m

@@ -1,6 +1,7 @@
 -- What is asked at a seat, as a relation between the seat before and after.
 use Rattle.std.specs.Prelude.{◌≡◌, ℕ, List, Result}
 use Rattle.baton.specs.declared.views.Known.{Known}
+use Rattle.definitions.specs.declared.kinds.Kind.{Kind}
 use Rattle.definitions.specs.ListQueries.{ListOptions}
 use Rattle.definitions.specs.History.{Entry, View}
 use Rattle.definitions.specs.ObjectRequests.{Request}
@@ -33,8 +34,8 @@ module _ {A L R : Type 0} where
   IsQuiet s t = Stays s t × (listener_at t ≡ listener_at s)
 
 module _ {A L R : Type 0} (may_ask : Request → Type 0) where
-  -- a request is answered at the history that the pass then sees, and the listener hears of its write
-  abbrev pub Calls : (L → L → Type 0) → Seat A L R → Request → List ℕ → Outcome → Seat A L R → Type 0
+  -- a request is answered at the history that the pass then sees, and the listener hears of the kind of its write
+  abbrev pub Calls : (Kind → L → L → Type 0) → Seat A L R → Request → List ℕ → Outcome → Seat A L R → Type 0
   Calls hears s q moment o t = CallsAt may_ask (known_at s) q moment o (known_at t) × Hears hears (write_of o) (listener_at s) (listener_at t) × Stays s t
 
   abbrev pub Lists : Seat A L R → View → ListOptions → Outcome → Seat A L R → Type 0

@@ -7,6 +7,7 @@ mod calls;
 mod compactions;
 pub mod desks;
 pub mod entries;
+mod kinds;
 pub mod listeners;
 mod reads;
 mod seat_calls;

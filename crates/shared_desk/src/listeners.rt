@@ -1,14 +1,17 @@
 //! What is told of the writes of a seat.
+use definitions::kinds::Kind;
 use std::sync::Wait;
 
 /// What is told of the writes of a seat, as a bell that wakes who waits for changes.
 pub trait Listener {
-    /// What hearing of a write makes of it.
-    ghost Hears: { Self → Self → Type 0 };
+    ghost use Rattle.definitions.specs.declared.kinds.Kind as kinds;
 
-    /// Hears that something was written, after the server was given back.
-    fn wrote<R: Wait>(&mut self, rt: &R)
-        ensures { Hears self.old self.new };
+    /// What hearing of a write of this kind of object makes of it.
+    ghost Hears: { kinds.Kind → Self → Self → Type 0 };
+
+    /// Hears that an object of a kind was written, after the server was given back.
+    fn wrote<R: Wait>(&mut self, rt: &R, kind: Kind)
+        ensures { Hears kind self.old self.new };
 }
 
 /// Does nothing when something is written.
@@ -18,7 +21,7 @@ pub struct Silent;
 impl Listener for Silent {
     ghost use Rattle.std.specs.Prelude.{◌≡◌};
 
-    ghost Hears = { λ before after. after ≡ before };
+    ghost Hears = { λ kind before after. after ≡ before };
 
-    fn wrote<R: Wait>(&mut self, _rt: &R) {}
+    fn wrote<R: Wait>(&mut self, _rt: &R, _kind: Kind) {}
 }

@@ -7,6 +7,7 @@ ghost use Rattle.shared_desk.specs.Seats.{desk_at, known_at, listener_at, Calls}
 
 use crate::askings::{Anything, Asking};
 use crate::desks::{Desk, StorePass};
+use crate::kinds::kind_of;
 use crate::listeners::Listener;
 use crate::seats::Seat;
 use keys::Fault;
@@ -57,13 +58,14 @@ impl<'a, A: Asking, L: Listener, R: Wait> Seat<'a, A, L, R> {
         requires { A.MayAsk (request_of request) }
         ensures { Tells (λ o. Calls A.MayAsk L.Hears self.old (request_of request) moment o self.new) result }
     {
+        let kind = kind_of(&request);
         match self
             .desk
             .serve(self.rt, alloc, &mut self.pass, request, moment)
         {
             Ok(served) => {
                 if served.wrote {
-                    self.listener.wrote(self.rt);
+                    self.listener.wrote(self.rt, kind);
                 }
                 Ok(served.reply)
             }

@@ -52,7 +52,7 @@ fn follow<S: WatchSource, P: Pace, W: Write + Drop>(
             }
         }
         if at.idle > 0 {
-            pace.pause(at.idle);
+            pace.pause(view.kind, at.idle);
         }
         match look(alloc, source, view, bookmarks, at, writer) {
             Ok(Some(next)) => at = next,

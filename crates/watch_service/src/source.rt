@@ -9,6 +9,7 @@ ghost use Rattle.selector.specs.Views.{view_of};
 ghost use Rattle.watch_service.specs.Given.{Gives, GivesBegun};
 
 use crate::begun::Begun;
+use definitions::kinds::Kind;
 use keys::Fault;
 use revisions::Watched;
 use selector::View;
@@ -40,6 +41,6 @@ pub trait WatchSource {
 
 /// What is done between a look that gave nothing and the next one.
 pub trait Pace {
-    /// Waits for as long as it sees fit, after so many looks in a row that gave nothing.
-    fn pause(&mut self, idle: u64);
+    /// Waits for as long as it sees fit for a change of a kind, after so many looks in a row that gave nothing.
+    fn pause(&mut self, kind: Kind, idle: u64);
 }

@@ -1,0 +1,13 @@
+use Rattle.std.proofs.Common.{inl}
+use Rattle.requests.specs.Requests.{request_of}
+use Rattle.shared_desk.specs.Askings.{IsAny}
+use Rattle.shared_desk.specs.Seats.{Calls}
+use Rattle.loopback.specs.Asking.{Rings, seat_at}
+use Rattle.loopback.proofs.Told.{told}
+use Rattle.loopback.proofs.own_server.OwnServer.answer.Goals as goal
+
+pub returns-in-Some-clause-asks : goal.returns-in-Some-clause-asks
+returns-in-Some-clause-asks g c =
+    let moment = c.in-Some.moment in
+    let outcome = told (λ o. Calls IsAny Rings (seat_at c.args.self.now) (request_of c.args.request) moment o c.call.new.self) c.call.result c.answer_of.result c.call.ensures.calls c.answer_of.ensures in
+    inl (moment, outcome.0, c.in-Some.ensures, outcome.1, outcome.2)

@@ -1,0 +1,57 @@
+-- What is asked at the seat of a server of the same process, as a relation between the seat before and after.
+use Rattle.std.specs.Prelude.{◌≡◌, ◌⊎◌, ℕ, List, Bool, true, false, string_bytes}
+use Rattle.client.specs.declared.answer.Answer.{Answer}
+use Rattle.client.specs.declared.answer.Answer.TheVariants.{Replied, NotSent, Lost}
+use Rattle.clocks.specs.Seconds.{IsTextSince1970}
+use Rattle.definitions.specs.declared.kinds.Kind.{Kind}
+use Rattle.definitions.specs.ObjectRequests.{Request}
+use Rattle.definitions.specs.Refusals.{too_large}
+use Rattle.definitions.specs.Targets.{is_too_long}
+use Rattle.definitions.specs.Verbs.{Outcome, refused}
+use Rattle.remote.specs.declared.asking.Remote.{Remote}
+use Rattle.request_texts.specs.Texts.{can_be_told}
+use Rattle.request_texts.specs.Told as texts
+use Rattle.request_texts.specs.declared.text.RequestText.{RequestText}
+use Rattle.shared_desk.specs.Askings.{IsAny}
+use Rattle.shared_desk.specs.Seats.{Calls}
+use Rattle.shared_desk.specs.declared.askings.Anything.{Anything}
+use Rattle.shared_desk.specs.declared.seats.Seat.{Seat}
+use Rattle.loopback.specs.Told.{Says, Tells}
+use Rattle.loopback.specs.declared.answering.Ringer.{Ringer}
+use Rattle.loopback.specs.declared.own_server.OwnServer.{OwnServer}
+
+-- the seat of a server, and what connects to it
+module _ {R C I O : Type 0} where
+  abbrev pub seat_at : OwnServer R C I O → Seat Anything Ringer R
+  seat_at s = s.seat
+
+  abbrev pub remote_at : OwnServer R C I O → Remote C I O
+  remote_at s = s.remote
+
+-- a request can be told over HTTP, by a text whose body is longer than it may be, or is not
+abbrev pub HasText : Bool → Request → Type 0
+HasText long q = (t : RequestText) × (can_be_told q ≡ true) × texts.Asks q t × (is_too_long (string_bytes t.body) ≡ long)
+
+-- what is answered to a request that the seat is not asked: that nothing was sent, where it cannot be told, or there is no memory or no moment; or a
+-- reply that it is too large, where its body is longer than it may be
+abbrev pub IsNotAsked : Request → Answer → Type 0
+IsNotAsked q (Replied p) = HasText true q × Says (refused too_large) p
+IsNotAsked q NotSent = Unit {0}
+IsNotAsked q Lost = ⊥
+
+-- of what a bell makes of its ringing nothing is said
+abbrev pub Rings : Kind → Ringer → Ringer → Type 0
+Rings kind before after = Unit {0}
+
+module _ {R : Type 0} where
+  -- the seat is asked a request at some moment since 1970, and the outcome is told
+  abbrev pub IsAsked : Seat Anything Ringer R → Request → Answer → Seat Anything Ringer R → Type 0
+  IsAsked s q a t = (moment : List ℕ) × (o : Outcome) × IsTextSince1970 moment × Calls IsAny Rings s q moment o t × Tells o a
+
+  -- it is asked; or nothing was sent, as there is no moment, and the seat is as it was
+  abbrev pub IsAskedOrNotSent : Seat Anything Ringer R → Request → Answer → Seat Anything Ringer R → Type 0
+  IsAskedOrNotSent s q a t = IsAsked s q a t ⊎ ((a ≡ NotSent) × (t ≡ s))
+
+  -- a request that can be told, by a body that is not too long, is asked; or a request is not asked, and the seat is as it was
+  abbrev pub Asks : Seat Anything Ringer R → Request → Answer → Seat Anything Ringer R → Type 0
+  Asks s q a t = (HasText false q × IsAsked s q a t) ⊎ (IsNotAsked q a × (t ≡ s))
