@@ -1,15 +1,15 @@
-//! A client that adds an owner to an object whose delete is planned.
+//! A scenario in which an object that is to be deleted gets an owner.
 use crate::clients::Client;
-use crate::counting::MOST_LISTS;
 use crate::halting::Halting;
-use crate::playing::Play;
+use crate::polling::wait_until;
+use crate::scenarios::Scenario;
 use definitions::kinds::Kind;
 use serde_json::Value;
 use std::sync::Wait;
 use std::time::Clock;
 
-/// A client that gives a ConfigMap other owners once a turn is planned that deletes it, before the delete is made, and then waits until it has
-/// but one owner.
+/// A client gives a ConfigMap other owners once a turn is planned that deletes it, before the delete is made. Then it waits until the
+/// ConfigMap has but one owner.
 #[derive(Drop)]
 pub struct Adopting<'a, 'g, R> {
     pub client: Client<'a, R>,
@@ -45,24 +45,20 @@ impl<R: Wait + Clock> Adopting<'_, '_, R> {
         is_owned
     }
 
-    /// Waits until the ConfigMap has but one owner, and returns whether it came to be so.
+    /// Waits until the ConfigMap has but one owner, the one that is left, and returns whether it does.
     fn await_owner(&mut self) -> bool {
-        for _ in 0..MOST_LISTS {
-            if let Some(object) = self.client.get(Kind::ConfigMap, self.name.as_str()) {
-                if is_owned_by(&object, self.left.as_str()) {
-                    return true;
-                }
+        let rt = self.client.rt;
+        wait_until(rt, || {
+            match self.client.get(Kind::ConfigMap, self.name.as_str()) {
+                Some(object) => is_owned_by(&object, self.left.as_str()),
+                None => false,
             }
-            self.client.rest();
-        }
-        false
+        })
     }
 }
 
-impl<R: Wait + Clock> Play for Adopting<'_, '_, R> {
-    fn play(&mut self) -> bool {
-        let is_owned = self.adopt();
-        let is_left = self.await_owner();
-        is_owned && is_left
+impl<R: Wait + Clock> Scenario for Adopting<'_, '_, R> {
+    fn run(&mut self) -> bool {
+        self.adopt() && self.await_owner()
     }
 }

@@ -1,15 +1,12 @@
 //! A ConfigMap that is given an owner while its delete is planned.
 use crate::adopting::Adopting;
 use crate::clients::Client;
+use crate::environments::Environment;
 use crate::halting::Halting;
-use crate::houses::House;
 use crate::objects::{owned, owner};
-use crate::running::{Stage, run_beside};
-use crate::scenes::Scene;
+use crate::running::{Controllers, run_scenario};
 use controllers::controller::Controller;
 use definitions::kinds::Kind;
-use manager::Signals;
-use shared_desk::{Anything, Desk};
 use std::alloc::{AllocError, Global};
 use std::sync::Wait;
 use std::test::Fail;
@@ -51,22 +48,15 @@ fn adopted(alloc: Global, uid: &str) -> Result<String, AllocError> {
 #[test]
 fn what_is_given_a_live_owner_meanwhile_stays(rt: HostRuntime) -> Result<(), Fail> {
     let alloc = rt.alloc();
-    let (signals, house) = (Signals::new(None), House::new());
-    let (desk, mut passes) = Desk::<Anything>::open(alloc, 1024, PASSES)?;
-    let scene = Scene {
-        rt: &rt,
-        alloc,
-        desk: &desk,
-        house: &house,
-        signals: &signals,
-    };
+    let (environment, mut passes) = Environment::open(alloc, PASSES)?;
+    let scene = environment.scene(&rt, alloc);
     let mut client = Client::new(&scene, &mut passes)?;
     let Some(uid) = declared(alloc, &mut client)? else {
         assert!(rt; false, "nothing was declared");
         return Ok(());
     };
     let gate = Halting::new(&scene, Controller::Collector, "item")?;
-    let stage = Stage::new(&scene, &mut passes, 1, &gate)?;
+    let controllers = Controllers::new(&scene, &mut passes, 1, &gate)?;
     let mut adopting = Adopting {
         client,
         gate: &gate,
@@ -74,8 +64,8 @@ fn what_is_given_a_live_owner_meanwhile_stays(rt: HostRuntime) -> Result<(), Fai
         owners: adopted(alloc, uid.as_str())?,
         left: uid,
     };
-    let has_come = run_beside(stage, &mut adopting);
-    assert_eq!(rt; house.delete_conflicts(), 1, "no delete was refused");
+    let has_come = run_scenario(controllers, &mut adopting);
+    assert_eq!(rt; environment.delete_conflicts(), 1, "no delete was refused");
     assert!(rt; has_come, "the item does not have its one owner");
     Ok(())
 }

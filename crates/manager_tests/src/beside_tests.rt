@@ -1,14 +1,11 @@
 //! Two workers.
 use crate::beside::Beside;
 use crate::clients::Client;
-use crate::houses::House;
+use crate::environments::Environment;
 use crate::objects::with_pods;
-use crate::running::{Stage, run_beside};
-use crate::scenes::Scene;
+use crate::running::{Controllers, run_scenario};
 use crate::waiting::Waiting;
 use definitions::kinds::Kind;
-use manager::Signals;
-use shared_desk::{Anything, Desk};
 use std::test::Fail;
 
 /// How many workers there are.
@@ -18,32 +15,25 @@ const WORKERS: usize = 2;
 const PASSES: usize = 7;
 
 /// How many milliseconds the client waits at most.
-const LONGEST_WAIT: u64 = 40_000;
+const LONGEST_WAIT: u64 = 8000;
 
 #[test]
 fn two_workers_get_on_beside_one_another(rt: HostRuntime) -> Result<(), Fail> {
     let alloc = rt.alloc();
-    let (signals, house) = (Signals::new(None), House::new());
-    let (desk, mut passes) = Desk::<Anything>::open(alloc, 1024, PASSES)?;
-    let scene = Scene {
-        rt: &rt,
-        alloc,
-        desk: &desk,
-        house: &house,
-        signals: &signals,
-    };
+    let (environment, mut passes) = Environment::open(alloc, PASSES)?;
+    let scene = environment.scene(&rt, alloc);
     let mut client = Client::new(&scene, &mut passes)?;
     for name in ["one", "two"] {
         let text = with_pods(alloc, name, 0)?;
         assert!(rt; client.create(Kind::ReplicaSet, text.as_str()).is_some());
     }
     let gate = Beside::new(&scene, "one", "two")?;
-    let stage = Stage::new(&scene, &mut passes, WORKERS, &gate)?;
+    let controllers = Controllers::new(&scene, &mut passes, WORKERS, &gate)?;
     let mut waiting = Waiting::new(&scene, LONGEST_WAIT);
     assert!(rt;
-        run_beside(stage, &mut waiting),
-        "the turn that was held did not end"
+        run_scenario(controllers, &mut waiting),
+        "the turn that waits did not end"
     );
-    assert!(rt; gate.has_met(), "no other turn was planned meanwhile");
+    assert!(rt; gate.has_gone_on(), "no other turn was planned meanwhile");
     Ok(())
 }

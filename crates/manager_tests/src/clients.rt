@@ -1,4 +1,4 @@
-//! Clients.
+//! A client of the server.
 ghost use Rattle.std.specs.Prelude.{All};
 ghost use Rattle.shared_desk.specs.Desks.{IsNewAt};
 
@@ -13,13 +13,12 @@ use serde_json::Value;
 use shared_desk::StorePass;
 use std::alloc::{AllocError, Global};
 use std::sync::Wait;
-use std::thread;
-use std::time::{Clock, Duration};
+use std::time::Clock;
 
 /// A client of a server, for objects of the namespace `default`.
 #[derive(Drop)]
 pub struct Client<'a, R> {
-    rt: &'a R,
+    pub rt: &'a R,
     alloc: Global,
     server: SharedServer<'a, R>,
 }
@@ -54,8 +53,8 @@ impl<'a, R: Wait + Clock> Client<'a, R> {
         scene: &Scene<'a, R>,
         passes: &mut Vec<StorePass>,
     ) -> Result<Client<'a, R>, AllocError>
-        requires { All (IsNewAt scene.now.desk.now) passes.old.items }
-        ensures { All (IsNewAt scene.now.desk.now) passes.new.items }
+        requires { All (IsNewAt scene.now.environment.now.desk) passes.old.items }
+        ensures { All (IsNewAt scene.now.environment.now.desk) passes.new.items }
     {
         let server = SharedServer::next(scene, passes)?;
         Ok(Client {
@@ -63,11 +62,6 @@ impl<'a, R: Wait + Clock> Client<'a, R> {
             alloc: scene.alloc,
             server,
         })
-    }
-
-    /// Waits for a millisecond.
-    pub fn rest(&self) {
-        thread::sleep(self.rt, Duration::from_millis(1));
     }
 
     /// Asks a request, and returns what is answered, if it was done.

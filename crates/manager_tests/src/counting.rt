@@ -1,15 +1,13 @@
-//! A client that counts what is there.
+//! A scenario in which objects are counted.
 use crate::clients::Client;
-use crate::playing::Play;
+use crate::polling::wait_until;
+use crate::scenarios::Scenario;
 use definitions::kinds::Kind;
 use serde_json::Value;
 use std::sync::Wait;
 use std::time::Clock;
 
-/// How often a list is asked for at most.
-pub const MOST_LISTS: u64 = 10_000;
-
-/// A client that lists a kind until so many objects of it are there.
+/// A client waits until so many objects of a kind are there.
 #[derive(Drop)]
 pub struct Counting<'a, R> {
     pub client: Client<'a, R>,
@@ -24,16 +22,12 @@ fn count(list: &Value) -> usize {
         .map_or(0, |items| items.len())
 }
 
-impl<R: Wait + Clock> Play for Counting<'_, R> {
-    fn play(&mut self) -> bool {
-        for _ in 0..MOST_LISTS {
-            if let Some(list) = self.client.list(self.kind) {
-                if count(&list) == self.wanted {
-                    return true;
-                }
-            }
-            self.client.rest();
-        }
-        false
+impl<R: Wait + Clock> Scenario for Counting<'_, R> {
+    fn run(&mut self) -> bool {
+        let rt = self.client.rt;
+        wait_until(rt, || match self.client.list(self.kind) {
+            Some(list) => count(&list) == self.wanted,
+            None => false,
+        })
     }
 }

@@ -1,4 +1,5 @@
 //! A gate at which a worker waits for a client.
+use crate::polling::wait_for_count;
 use crate::scenes::Scene;
 use bells::Stop;
 use controllers::controller::Controller;
@@ -6,23 +7,20 @@ use manager::Gate;
 use std::alloc::AllocError;
 use std::sync::Wait;
 use std::sync::atomic::{AtomicU64, Ordering};
-use std::thread;
-use std::time::{Clock, Duration};
+use std::time::Clock;
 use work_keys::WorkKey;
 
-/// How often who waits at the gate looks whether to go on.
-const MOST_TURNS: u64 = 15_000;
-
-/// A gate that holds the first turn of a key, once it is planned and before its first command, until a client lets it go on. It counts how
-/// often the key comes. Turns of ReplicaSets, unless it is one, wait until it has come a second time.
+/// A gate at which the first turn of a key waits, once it is planned and before its first command, until a client lets it go on. The gate
+/// counts how often the key comes. Turns of other keys of ReplicaSets wait there until it has come a second time.
 #[derive(Drop)]
 pub struct Halting<'a, R> {
     rt: &'a R,
     stop: &'a Stop,
     controller: Controller,
     name: String,
-    /// How often the key came, and how often a turn of it was planned.
+    /// How often the key came.
     comings: AtomicU64,
+    /// How many turns of it were planned.
     plans: AtomicU64,
     /// 1 once the first turn may go on.
     released: AtomicU64,
@@ -48,26 +46,17 @@ impl<'a, R: Clock> Halting<'a, R> {
         })
     }
 
-    /// Returns whether a key is the one whose first turn is held.
-    fn is_held(&self, key: &WorkKey) -> bool {
+    /// Returns whether a key is the one whose first turn waits for the client.
+    fn stops(&self, key: &WorkKey) -> bool {
         key.controller == self.controller && key.key.name.as_str() == self.name.as_str()
     }
 
-    /// Waits until a count is as high as wanted, and returns whether it came to be so before the limit, and before all was to stop.
+    /// Waits until a count is as high as wanted, and returns whether it is: false where it was given up, or all threads are to stop.
     fn await_count(&self, count: &AtomicU64, least: u64) -> bool {
-        for _ in 0..MOST_TURNS {
-            if least <= count.load(Ordering::SeqCst) {
-                return true;
-            }
-            if self.stop.is_stopped() {
-                return false;
-            }
-            thread::sleep(self.rt, Duration::from_millis(1));
-        }
-        false
+        wait_for_count(self.rt, self.stop, count, least)
     }
 
-    /// Waits until the first turn of the key is planned, and returns whether it was.
+    /// Waits until the first turn of the key is planned, and returns whether it is.
     pub fn await_plan(&self) -> bool {
         self.await_count(&self.plans, 1)
     }
@@ -90,7 +79,7 @@ impl<'a, R: Clock> Halting<'a, R> {
 
 impl<R: Wait + Clock> Gate for Halting<'_, R> {
     fn before(&self, key: &WorkKey) {
-        if self.is_held(key) {
+        if self.stops(key) {
             self.comings.fetch_add(1, Ordering::SeqCst);
         } else if key.controller == Controller::ReplicaSet {
             let _ = self.await_return();
@@ -98,7 +87,7 @@ impl<R: Wait + Clock> Gate for Halting<'_, R> {
     }
 
     fn after(&self, key: &WorkKey) {
-        if self.is_held(key) && self.plans.fetch_add(1, Ordering::SeqCst) == 0 {
+        if self.stops(key) && self.plans.fetch_add(1, Ordering::SeqCst) == 0 {
             let _ = self.await_count(&self.released, 1);
         }
     }

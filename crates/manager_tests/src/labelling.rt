@@ -1,21 +1,22 @@
-//! A client that labels a set of which an update is planned.
+//! A scenario in which a set is labelled that is to be updated.
 use crate::clients::Client;
-use crate::counting::MOST_LISTS;
+use crate::environments::Environment;
 use crate::halting::Halting;
-use crate::houses::House;
-use crate::playing::Play;
+use crate::polling::wait_until;
+use crate::scenarios::Scenario;
 use definitions::kinds::Kind;
 use serde_json::Value;
 use std::sync::Wait;
 use std::time::Clock;
 
-/// A client that labels a set once a turn is planned that updates it, before the update is made, and then waits until the turn comes again,
-/// while nobody hears of the label, and until the set has both the label and so many replicas.
+/// A client labels a set once a turn is planned that updates it, before the update is made. It waits until the turn's key comes again, while
+/// watches are paused, so that nobody hears of the label. Then it resumes them, and waits until the set has both the label and so many
+/// replicas.
 #[derive(Drop)]
 pub struct Labelling<'a, 'g, R> {
     pub client: Client<'a, R>,
     pub gate: &'g Halting<'a, R>,
-    pub house: &'a House,
+    pub environment: &'a Environment,
     pub set: String,
     pub replicas: u64,
 }
@@ -45,26 +46,22 @@ impl<R: Wait + Clock> Labelling<'_, '_, R> {
         is_labelled
     }
 
-    /// Waits until the set is as it is wanted, and returns whether it came to be so.
+    /// Waits until the set has the label and its replicas, and returns whether it does.
     fn await_set(&mut self) -> bool {
-        for _ in 0..MOST_LISTS {
-            if let Some(set) = self.client.get(Kind::ReplicaSet, self.set.as_str()) {
-                if is_as_wanted(&set, self.replicas) {
-                    return true;
-                }
+        let rt = self.client.rt;
+        wait_until(rt, || {
+            match self.client.get(Kind::ReplicaSet, self.set.as_str()) {
+                Some(set) => is_as_wanted(&set, self.replicas),
+                None => false,
             }
-            self.client.rest();
-        }
-        false
+        })
     }
 }
 
-impl<R: Wait + Clock> Play for Labelling<'_, '_, R> {
-    fn play(&mut self) -> bool {
-        let is_labelled = self.label();
-        let has_come_again = self.gate.await_return();
-        self.house.let_watches_go();
-        let is_as_wanted = self.await_set();
-        is_labelled && has_come_again && is_as_wanted
+impl<R: Wait + Clock> Scenario for Labelling<'_, '_, R> {
+    fn run(&mut self) -> bool {
+        let has_come_again = self.label() && self.gate.await_return();
+        self.environment.resume_watches();
+        has_come_again && self.await_set()
     }
 }

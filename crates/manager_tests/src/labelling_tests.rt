@@ -4,16 +4,16 @@ ghost use Rattle.shared_desk.specs.Desks.{IsNewAt};
 
 use crate::clients::Client;
 use crate::counting::Counting;
+use crate::environments::Environment;
 use crate::halting::Halting;
-use crate::houses::House;
 use crate::labelling::Labelling;
 use crate::objects::with_pods;
-use crate::running::{Stage, run_beside};
+use crate::running::{Controllers, run_scenario};
 use crate::scenes::Scene;
 use controllers::controller::Controller;
 use definitions::kinds::Kind;
 use manager::{Open, Signals};
-use shared_desk::{Anything, Desk, StorePass};
+use shared_desk::StorePass;
 use std::alloc::{AllocError, Global};
 use std::sync::Wait;
 use std::test::Fail;
@@ -28,8 +28,8 @@ fn make_set<R: Threads + Wait + Clock + Sync>(
     scene: &Scene<'_, R>,
     passes: &mut Vec<StorePass>,
 ) -> Result<bool, AllocError>
-    requires { All (IsNewAt scene.now.desk.now) passes.old.items }
-    ensures { All (IsNewAt scene.now.desk.now) passes.new.items }
+    requires { All (IsNewAt scene.now.environment.now.desk) passes.old.items }
+    ensures { All (IsNewAt scene.now.environment.now.desk) passes.new.items }
 {
     let mut client = Client::new(scene, passes)?;
     let text = with_pods(scene.alloc, "web", 1)?;
@@ -41,8 +41,8 @@ fn make_set<R: Threads + Wait + Clock + Sync>(
         kind: Kind::ReplicaSet,
         wanted: 1,
     };
-    let stage = Stage::new(scene, passes, 1, &Open)?;
-    Ok(run_beside(stage, &mut counting))
+    let controllers = Controllers::new(scene, passes, 1, &Open)?;
+    Ok(run_scenario(controllers, &mut counting))
 }
 
 /// Declares that the Deployment has two pods, and returns the name of its set.
@@ -68,40 +68,31 @@ fn changed<R: Wait + Clock>(
 #[test]
 fn an_update_of_what_has_changed_is_planned_again(rt: HostRuntime) -> Result<(), Fail> {
     let alloc = rt.alloc();
-    let (earlier, signals, house) = (Signals::new(None), Signals::new(None), House::new());
-    let (desk, mut passes) = Desk::<Anything>::open(alloc, 1024, PASSES)?;
-    let before = Scene {
-        rt: &rt,
-        alloc,
-        desk: &desk,
-        house: &house,
-        signals: &earlier,
-    };
+    let earlier = Signals::new(None);
+    let (environment, mut passes) = Environment::open(alloc, PASSES)?;
+    let before = environment.scene_with(&rt, alloc, &earlier);
     assert!(rt; make_set(&before, &mut passes)?, "no set was made");
-    let scene = Scene {
-        rt: &rt,
-        alloc,
-        desk: &desk,
-        house: &house,
-        signals: &signals,
-    };
+    let scene = environment.scene(&rt, alloc);
     let mut client = Client::new(&scene, &mut passes)?;
     let Some(set) = changed(alloc, &mut client)? else {
         assert!(rt; false, "nothing was changed");
         return Ok(());
     };
-    house.hold_watches();
+    environment.pause_watches();
     let gate = Halting::new(&scene, Controller::Deployment, "web")?;
-    let stage = Stage::new(&scene, &mut passes, 2, &gate)?;
+    let controllers = Controllers::new(&scene, &mut passes, 2, &gate)?;
     let mut labelling = Labelling {
         client,
         gate: &gate,
-        house: scene.house,
+        environment: scene.environment,
         set,
         replicas: 2,
     };
-    let has_come = run_beside(stage, &mut labelling);
-    assert!(rt; house.update_conflicts() >= 1, "no update was refused");
+    let has_come = run_scenario(controllers, &mut labelling);
+    assert!(rt;
+        environment.update_conflicts() >= 1,
+        "no update was refused"
+    );
     assert!(rt; gate.comings() >= 2, "the key has not come again");
     assert!(rt; has_come, "the set is not as it was to be");
     Ok(())

@@ -1,5 +1,5 @@
-//! Tests of the controllers in threads, and what they are run with: a server that is a desk of the same process, gates that hold a worker,
-//! and clients that do something meanwhile.
+//! Tests of the controllers in threads, and the environment that they run in: a server of the same process, gates at which a worker waits,
+//! and scenarios, which say what a client does meanwhile.
 #![tactic(auto)]
 
 pub mod adopting;
@@ -12,15 +12,16 @@ pub mod clients;
 pub mod counting;
 #[cfg(test)]
 mod counting_tests;
+pub mod environments;
 pub mod halting;
-pub mod houses;
 pub mod labelling;
 #[cfg(test)]
 mod labelling_tests;
 pub mod objects;
-pub mod playing;
+pub mod polling;
 pub mod ringers;
 pub mod running;
+pub mod scenarios;
 pub mod scenes;
 pub mod servers;
 pub mod waiting;

@@ -1,8 +1,8 @@
-//! The controllers, run beside a client.
+//! The controllers, run beside a scenario.
 ghost use Rattle.std.specs.Prelude.{All};
 ghost use Rattle.shared_desk.specs.Desks.{IsNewAt};
 
-use crate::playing::Play;
+use crate::scenarios::Scenario;
 use crate::scenes::Scene;
 use crate::servers::SharedServer;
 use manager::{Apis, Gate, Signals};
@@ -17,27 +17,14 @@ use turns::Looks;
 /// How many workers there are at most.
 const MOST_WORKERS: usize = 64;
 
-/// The controllers, as a thread starts them.
+/// The controllers of a scene, which no thread runs yet.
 #[derive(Drop)]
-pub struct Stage<'a, 'g, R, G> {
+pub struct Controllers<'a, 'g, R, G> {
     rt: &'a R,
     alloc: Global,
     apis: Apis<SharedServer<'a, R>>,
     signals: &'a Signals,
     gate: &'g G,
-}
-
-/// Returns how one more thread of the controllers asks, with the last of the passes. The error is that none is left.
-fn api<'a, R: Wait + Clock>(
-    scene: &Scene<'a, R>,
-    passes: &mut Vec<StorePass>,
-) -> Result<SharedServer<'a, R>, AllocError>
-    requires { All (IsNewAt scene.now.desk.now) passes.old.items }
-    ensures { All (IsNewAt scene.now.desk.now) passes.new.items }
-{
-    let server = SharedServer::next(scene, passes)?;
-    let signals = scene.signals;
-    Ok(server.until(&signals.stop))
 }
 
 /// Returns how the threads of controllers with so many workers ask, with the last of the passes. The error is running out of memory or of
@@ -47,41 +34,41 @@ fn apis<'a, R: Wait + Clock>(
     passes: &mut Vec<StorePass>,
     count: usize,
 ) -> Result<Apis<SharedServer<'a, R>>, AllocError>
-    requires { All (IsNewAt scene.now.desk.now) passes.old.items }
-    ensures { All (IsNewAt scene.now.desk.now) passes.new.items }
+    requires { All (IsNewAt scene.now.environment.now.desk) passes.old.items }
+    ensures { All (IsNewAt scene.now.environment.now.desk) passes.new.items }
 {
     let mut workers = Vec::new(scene.alloc);
     for _ in 0..count {
-        workers.push(api(scene, passes)?)?;
+        workers.push(SharedServer::next(scene, passes)?)?;
     }
     Ok(Apis {
         followers: Looks {
-            config_maps: api(scene, passes)?,
-            pods: api(scene, passes)?,
-            replica_sets: api(scene, passes)?,
-            deployments: api(scene, passes)?,
+            config_maps: SharedServer::next(scene, passes)?,
+            pods: SharedServer::next(scene, passes)?,
+            replica_sets: SharedServer::next(scene, passes)?,
+            deployments: SharedServer::next(scene, passes)?,
         },
         workers,
     })
 }
 
-impl<'a, 'g, R: Threads + Wait + Clock + Sync, G: Gate + Sync> Stage<'a, 'g, R, G> {
+impl<'a, 'g, R: Threads + Wait + Clock + Sync, G: Gate + Sync> Controllers<'a, 'g, R, G> {
     ghost use Rattle.std.specs.Prelude.{All};
     ghost use Rattle.shared_desk.specs.Desks.{IsNewAt};
 
-    /// Returns the controllers of a scene with so many workers, each of which passes a gate. The last of the passes are theirs. The error is
-    /// running out of memory or of passes.
+    /// Returns the controllers of a scene with so many workers, each of which passes a gate. They ask with the last of the passes. The error
+    /// is running out of memory or of passes.
     pub fn new(
         scene: &Scene<'a, R>,
         passes: &mut Vec<StorePass>,
         count: usize,
         gate: &'g G,
-    ) -> Result<Stage<'a, 'g, R, G>, AllocError>
-        requires { All (IsNewAt scene.now.desk.now) passes.old.items }
-        ensures { All (IsNewAt scene.now.desk.now) passes.new.items }
+    ) -> Result<Controllers<'a, 'g, R, G>, AllocError>
+        requires { All (IsNewAt scene.now.environment.now.desk) passes.old.items }
+        ensures { All (IsNewAt scene.now.environment.now.desk) passes.new.items }
     {
         let apis = apis(scene, passes, count)?;
-        Ok(Stage {
+        Ok(Controllers {
             rt: scene.rt,
             alloc: scene.alloc,
             apis,
@@ -90,9 +77,9 @@ impl<'a, 'g, R: Threads + Wait + Clock + Sync, G: Gate + Sync> Stage<'a, 'g, R, 
         })
     }
 
-    /// Runs the controllers until all is to stop, and returns whether they ran.
+    /// Runs the controllers until all threads are to stop, and returns whether they ran.
     fn run(self) -> bool {
-        let Stage {
+        let Controllers {
             rt,
             alloc,
             apis,
@@ -106,22 +93,22 @@ impl<'a, 'g, R: Threads + Wait + Clock + Sync, G: Gate + Sync> Stage<'a, 'g, R, 
     }
 }
 
-/// Has a client do what it does, then tells all to stop, and returns whether all came as the client waited for it.
-fn play<P: Play>(client: &mut P, signals: &Signals) -> bool {
-    let has_come = client.play();
+/// Runs a scenario, then tells all threads to stop, and returns whether all that the scenario waits for has come.
+fn run_to_stop<S: Scenario>(scenario: &mut S, signals: &Signals) -> bool {
+    let has_come = scenario.run();
     signals.stop_all();
     has_come
 }
 
-/// Runs the controllers in threads of their own until a client has done what it does meanwhile, and returns whether all came as the client
-/// waited for it.
-pub fn run_beside<R, G, P>(stage: Stage<'_, '_, R, G>, client: &mut P) -> bool
+/// Runs a scenario while the controllers run in threads of their own, and stops them at its end. Returns whether they ran, and all that the
+/// scenario waits for has come.
+pub fn run_scenario<R, G, S>(controllers: Controllers<'_, '_, R, G>, scenario: &mut S) -> bool
 where
     R: Threads + Wait + Clock + Sync,
     G: Gate + Sync,
-    P: Play,
+    S: Scenario,
 {
-    let (rt, signals) = (stage.rt, stage.signals);
-    let (ran, has_come) = thread::join(rt, || stage.run(), || play(client, signals));
+    let (rt, signals) = (controllers.rt, controllers.signals);
+    let (ran, has_come) = thread::join(rt, || controllers.run(), || run_to_stop(scenario, signals));
     ran && has_come
 }

@@ -2,7 +2,7 @@
 ghost use Rattle.std.specs.Prelude.{All};
 ghost use Rattle.shared_desk.specs.Desks.{IsNewAt, IsPassAt};
 
-use crate::houses::House;
+use crate::environments::Environment;
 use crate::ringers::Ringer;
 use crate::scenes::Scene;
 use crate::watches::Watch;
@@ -12,6 +12,7 @@ use client::{Answer, More};
 use definitions::kinds::Kind;
 use definitions::versions::At;
 use keys::Fault;
+use loopback::answer_of;
 use remote::{Api, Opened};
 use request_texts::{can_be_told, request_text};
 use requests::Request;
@@ -26,38 +27,22 @@ use std::sync::Wait;
 use std::time::Clock;
 use watch_service::WatchSource;
 
-/// How many events a watch is given at once.
+/// How many events a watch is given at once at most.
 const MOST_EVENTS: usize = 64;
 
 /// How many milliseconds a watch that has seen nothing waits for a write at most.
 const PAUSE_MILLISECONDS: u64 = 20;
 
-/// The server of a test, as one thread asks it: a seat of a desk that threads share. It is asked without connections, its clock stands still,
-/// and a watch of it lives until a stop.
+/// The server of an environment, as one thread asks it: without connections, at a seat of the desk that all threads share. Its clock stands
+/// still, and its watches live until all threads are to stop.
 #[derive(Drop)]
 pub struct SharedServer<'a, R> {
     rt: &'a R,
     alloc: Global,
     seat: Seat<'a, Anything, Ringer<'a>, R>,
-    house: &'a House,
+    environment: &'a Environment,
     stop: &'a Stop,
     watch: Watch,
-}
-
-/// Returns what a client is answered. The server has done nothing where it had no memory: the request is as good as not sent.
-fn answer_of(alloc: Global, outcome: Result<reply::Reply, Fault>) -> Answer {
-    let reply = match outcome {
-        Ok(reply) => reply,
-        Err(Fault::NoMemory) => return Answer::NotSent,
-        Err(fault) => match reply::Reply::refusal(alloc, &fault) {
-            Ok(reply) => reply,
-            Err(_) => return Answer::NotSent,
-        },
-    };
-    Answer::Replied(client::Reply {
-        code: reply.code,
-        body: reply.text.into_bytes(),
-    })
 }
 
 impl<'a, R: Wait + Clock> SharedServer<'a, R> {
@@ -66,16 +51,18 @@ impl<'a, R: Wait + Clock> SharedServer<'a, R> {
 
     /// Returns the server of a scene, for who has a pass of its desk.
     pub fn new(scene: &Scene<'a, R>, pass: StorePass) -> SharedServer<'a, R>
-        requires { IsPassAt scene.now.desk.now pass }
+        requires { IsPassAt scene.now.environment.now.desk pass }
     {
-        let (rt, house) = (scene.rt, scene.house);
-        let ringer = Ringer { bell: &house.bell };
+        let (rt, environment, signals) = (scene.rt, scene.environment, scene.signals);
+        let ringer = Ringer {
+            bell: &environment.bell,
+        };
         SharedServer {
             rt,
             alloc: scene.alloc,
-            seat: Seat::new(scene.desk, pass, rt, ringer),
-            house,
-            stop: &house.stop,
+            seat: Seat::new(&environment.desk, pass, rt, ringer),
+            environment,
+            stop: &signals.stop,
             watch: Watch::new(scene.alloc, Kind::ConfigMap, 0),
         }
     }
@@ -85,8 +72,8 @@ impl<'a, R: Wait + Clock> SharedServer<'a, R> {
         scene: &Scene<'a, R>,
         passes: &mut Vec<StorePass>,
     ) -> Result<SharedServer<'a, R>, AllocError>
-        requires { All (IsNewAt scene.now.desk.now) passes.old.items }
-        ensures { All (IsNewAt scene.now.desk.now) passes.new.items }
+        requires { All (IsNewAt scene.now.environment.now.desk) passes.old.items }
+        ensures { All (IsNewAt scene.now.environment.now.desk) passes.new.items }
     {
         match passes.pop() {
             Some(pass) => Ok(SharedServer::new(scene, pass)),
@@ -94,14 +81,7 @@ impl<'a, R: Wait + Clock> SharedServer<'a, R> {
         }
     }
 
-    /// Returns the server with watches that live until a stop.
-    pub fn until(self, stop: &'a Stop) -> SharedServer<'a, R> {
-        let mut server = self;
-        server.stop = stop;
-        server
-    }
-
-    /// Returns what a request is answered, as its text is read: as it would be over a connection.
+    /// Returns the answer to a request. It is written as text and read again, so that it is answered as over a connection.
     fn answer(&mut self, alloc: Global, request: &Request) -> Answer {
         if !can_be_told(request) {
             return Answer::NotSent;
@@ -122,10 +102,10 @@ impl<'a, R: Wait + Clock> SharedServer<'a, R> {
         }
     }
 
-    /// Takes in what the watch is given next, unless watches are held, and waits for a write where that is nothing.
+    /// Takes in what the watch is given next, unless watches are paused, and waits for a write where that is nothing.
     fn look(&mut self) -> Result<(), Fault> {
-        let seen = self.house.bell.count();
-        if !self.house.holds_watches() {
+        let seen = self.environment.bell.count();
+        if !self.environment.are_watches_paused() {
             let view = View::unfiltered(self.alloc, self.watch.kind, None);
             let after = self.watch.after;
             let watched = match self.seat.watch_from(self.alloc, &view, after, MOST_EVENTS) {
@@ -137,7 +117,10 @@ impl<'a, R: Wait + Clock> SharedServer<'a, R> {
                 return Ok(());
             }
         }
-        let _ = self.house.bell.wait(self.rt, seen, PAUSE_MILLISECONDS);
+        let _ = self
+            .environment
+            .bell
+            .wait(self.rt, seen, PAUSE_MILLISECONDS);
         Ok(())
     }
 }
@@ -145,7 +128,7 @@ impl<'a, R: Wait + Clock> SharedServer<'a, R> {
 impl<R: Wait + Clock> Api for SharedServer<'_, R> {
     fn call(&mut self, alloc: Global, request: &Request) -> Answer {
         let answer = self.answer(alloc, request);
-        self.house.note(request, &answer);
+        self.environment.note(request, &answer);
         answer
     }
 

@@ -1,11 +1,11 @@
-//! A client that does nothing.
-use crate::playing::Play;
+//! A scenario in which nothing is done.
+use crate::scenarios::Scenario;
 use crate::scenes::Scene;
 use bells::Stop;
 use std::sync::Wait;
 use std::time::Clock;
 
-/// A client that waits until all is to stop, for so many milliseconds at most.
+/// Waits until all threads are to stop, for so many milliseconds at most.
 #[derive(Drop)]
 pub struct Waiting<'a, R> {
     rt: &'a R,
@@ -14,7 +14,7 @@ pub struct Waiting<'a, R> {
 }
 
 impl<'a, R> Waiting<'a, R> {
-    /// Returns a client of a scene that waits for so many milliseconds at most.
+    /// Returns a scenario of a scene that waits for so many milliseconds at most.
     pub fn new(scene: &Scene<'a, R>, milliseconds: u64) -> Waiting<'a, R> {
         let signals = scene.signals;
         Waiting {
@@ -25,8 +25,8 @@ impl<'a, R> Waiting<'a, R> {
     }
 }
 
-impl<R: Wait + Clock> Play for Waiting<'_, R> {
-    fn play(&mut self) -> bool {
+impl<R: Wait + Clock> Scenario for Waiting<'_, R> {
+    fn run(&mut self) -> bool {
         self.stop.rest(self.rt, self.milliseconds)
     }
 }

@@ -3,4 +3,4 @@ use Rattle.shared_desk.specs.Desks.{IsNewAt}
 use Rattle.manager_tests.proofs.running.apis.Given as goal
 
 abbrev pub invariant-loop : goal.invariant-loop
-invariant-loop g l = All (IsNewAt l.scene.desk.now) l.passes.items
+invariant-loop g l = All (IsNewAt l.scene.environment.now.desk) l.passes.items

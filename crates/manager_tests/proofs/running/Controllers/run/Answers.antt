@@ -2,7 +2,7 @@ use denote.Exit.{no}
 use denote.Param.{param}
 use denote.Param.Send.{IsSync, sendable, param_send, arg_send}
 use Rattle.manager_tests.proofs.Sent.{server}
-use Rattle.manager_tests.proofs.running.Stage.run.Goals as goal
+use Rattle.manager_tests.proofs.running.Controllers.run.Goals as goal
 
 pub run-requires-send-A : goal.run-requires-send-A
 run-requires-send-A g c κs within =

@@ -2,7 +2,7 @@ use denote.Exit.{no}
 use denote.Param.{param}
 use denote.Param.Send.{IsSync, sendable, param_send, arg_send}
 use Rattle.manager_tests.proofs.Sent.{captured}
-use Rattle.manager_tests.proofs.running.run_beside.Goals as goal
+use Rattle.manager_tests.proofs.running.run_scenario.Goals as goal
 
 pub join-ran-requires-send-F : goal.join-ran-requires-send-F
 join-ran-requires-send-F g c κs within =
