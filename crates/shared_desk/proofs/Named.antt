@@ -12,7 +12,7 @@ use Rattle.definitions.specs.Metadata.{metadata_of, at_revision, namespace, uid,
 use Rattle.definitions.specs.NewObjects.{created, with_first_status}
 use Rattle.definitions.specs.ObjectRequests.{Request, get_object, list_objects, create_object, update_object, update_status, patch_object, delete_object}
 use Rattle.definitions.specs.Reading.{is_body, reading}
-use Rattle.definitions.specs.Refusals.{Refusal, bad_request, not_found, already_exists, conflict, invalid, too_large, storage_full}
+use Rattle.definitions.specs.Refusals.{Refusal}
 use Rattle.definitions.specs.Replacements.{in_place, is_finalized, says_the_same, updated, with_status_in}
 use Rattle.definitions.specs.Values.{merged}
 use Rattle.definitions.specs.Verbs

@@ -1,10 +1,7 @@
 -- What is put, removed and found among entries lies between those below its key and those above.
-use Rattle.std.proofs.Common.{◌≡◌, ◌++◌, ◌+◌, ℕ, List, [], ◌∷◌, Bool, true, false, cond, suc, zero, arith, Option, Some, None, is_eq, is_lt, Ordering, Less, Equal, Greater, refl, sym, ap, ◌∙◌, length, take, drop, map, subst}
-use Rattle.std.specs.Cmp.{IsTotalOrder}
-use Rattle.std.specs.List.{AllByRecursion}
-use Rattle.std.specs.List.Sorted.{IsStrictlySortedBy}
-use Rattle.std.specs.Map.{keys_of, lookup, remove_entry}
-use Rattle.std.specs.Ordering.{match_ordering, ordering_reverse}
+use Rattle.std.proofs.Common.{◌≡◌, ◌++◌, ◌+◌, ℕ, List, [], ◌∷◌, Bool, true, false, cond, suc, zero, arith, Some, None, is_eq, Ordering, Less, Equal, Greater, refl, sym, ap, ◌∙◌, take, drop, subst}
+use Rattle.std.specs.Map.{lookup, remove_entry}
+use Rattle.std.specs.Ordering.{match_ordering}
 use Rattle.std.specs.BTreeMap.{is_at}
 use Rattle.std.proofs.lemmas.List.{take-append-drop}
 use Rattle.shared_map.specs.Entries.{put_entry}

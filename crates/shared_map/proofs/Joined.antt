@@ -1,6 +1,6 @@
 -- A chunk in the place of another.
-use Rattle.std.proofs.Common.{suc, zero, ◌≡◌, ◌++◌, ◌+◌, ◌<◌, ◌≤◌, ℕ, List, [], ◌∷◌, refl, sym, ap, ◌∙◌, length, take, drop, map, subst, arith}
-use Rattle.std.proofs.lemmas.List.{append_assoc, map-append, take-append-drop, length-append, length-map, length-take, length-drop}
+use Rattle.std.proofs.Common.{suc, zero, ◌≡◌, ◌++◌, ◌+◌, ◌<◌, ◌≤◌, ℕ, List, [], ◌∷◌, refl, sym, ap, ◌∙◌, length, take, drop, map, arith}
+use Rattle.std.proofs.lemmas.List.{append_assoc, map-append, take-append-drop}
 use Rattle.std.proofs.lemmas.Grind.{flat_map-append}
 use Rattle.std.proofs.lemmas.List.Edits.{length-remove}
 use Rattle.shared_map.proofs.Between.{plus_one}

@@ -1,5 +1,5 @@
 -- What is done to the chunk that may have a key is done to all entries.
-use Rattle.std.proofs.Common.{◌≡◌, ◌++◌, ◌+◌, ◌<◌, ◌≤◌, ◌-◌, ℕ, List, [], ◌∷◌, Bool, true, false, Ordering, Less, Greater, refl, sym, ap, ◌∙◌, length, take, drop, subst, arith}
+use Rattle.std.proofs.Common.{◌≡◌, ◌++◌, ◌+◌, ◌<◌, ℕ, List, ◌∷◌, true, false, Ordering, Less, Greater, sym, ap, ◌∙◌, length, take, drop, subst}
 use Rattle.std.specs.Cmp.{IsTotalOrder}
 use Rattle.std.specs.Map.{lookup, remove_entry}
 use Rattle.std.specs.BTreeMap.{is_at}

@@ -1,5 +1,5 @@
 -- Entries in order stay so, and a chunk that is found by a key lies between what is below the key and what is above.
-use Rattle.std.proofs.Common.{suc, zero, ◌≡◌, ◌++◌, ◌+◌, ◌<◌, ℕ, List, [], ◌∷◌, Bool, true, false, cond, is_eq, is_lt, Ordering, Less, Equal, Greater, refl, sym, ap, ◌∙◌, length, take, drop, map, subst, arith, Option, None}
+use Rattle.std.proofs.Common.{suc, zero, ◌≡◌, ◌++◌, ◌<◌, ℕ, List, [], ◌∷◌, Bool, true, false, cond, is_eq, is_lt, Ordering, Less, Equal, Greater, refl, sym, ap, ◌∙◌, take, drop, subst, arith, None}
 use Rattle.std.specs.Cmp.{IsTotalOrder}
 use Rattle.std.specs.List.{AllByRecursion}
 use Rattle.std.specs.List.Sorted.{IsStrictlySortedBy}
@@ -9,7 +9,7 @@ use Rattle.std.specs.BTreeMap.{is_at}
 use Rattle.std.proofs.lemmas.List.{take-append-drop}
 use Rattle.std.proofs.lemmas.Grind.{flat_map-append}
 use Rattle.shared_map.specs.Entries.{put_entry}
-use Rattle.shared_map.specs.Parts.{AllAre, BeginsAt, begins_after, starts_after, joined, AreFilled, IsSound}
+use Rattle.shared_map.specs.Parts.{AllAre, BeginsAt, starts_after, joined, AreFilled, IsSound}
 use Rattle.shared_map.proofs.Between.{found_after, found_none, remove_after, remove_none}
 
 pub joined_split : {A : Type 0} {B : Type 0} (ps : List (List (A × B))) (i : ℕ) → joined ps ≡ joined (take i ps) ++ joined (drop i ps)

@@ -1,5 +1,5 @@
 -- Entries and chunks, one after another.
-use Rattle.std.proofs.Common.{suc, zero, ◌≡◌, ◌++◌, ◌+◌, ◌<◌, ℕ, List, [], ◌∷◌, Bool, true, false, cond, Ordering, Less, Equal, Greater, refl, sym, ap, ◌∙◌, length, take, drop, map, subst, slice_index_or, slice_set, arith}
+use Rattle.std.proofs.Common.{suc, zero, ◌≡◌, ◌++◌, ◌+◌, ◌<◌, ℕ, List, [], ◌∷◌, Bool, cond, Ordering, Less, Equal, refl, sym, ap, ◌∙◌, length, take, drop, map, subst, slice_index_or, slice_set, arith}
 use Rattle.std.proofs.lemmas.List.{drop_more, drop-map, take-map, append_assoc, map-append, set_split}
 use Rattle.std.specs.List.{insert, remove}
 use Rattle.shared_map.specs.Parts.{AllAre, BeginsAt}

@@ -1,14 +1,13 @@
 -- What lies from a key to before another among entries in order.
-use Rattle.std.proofs.Common.{suc, zero, ◌≡◌, ◌++◌, ◌+◌, ◌&&◌, ℕ, List, [], ◌∷◌, Bool, true, false, not, cond, filter, is_le, is_lt, Ordering, Less, Equal, Greater, refl, sym, ap, ◌∙◌, length, take, drop, map, subst}
+use Rattle.std.proofs.Common.{◌≡◌, ◌++◌, ◌&&◌, ℕ, List, [], ◌∷◌, Bool, true, false, not, cond, is_le, Ordering, Less, Equal, Greater, refl, sym, ap, ◌∙◌, take, drop, subst}
 use Rattle.std.specs.Cmp.{IsTotalOrder}
 use Rattle.std.specs.List.{AllByRecursion}
 use Rattle.std.specs.List.Sorted.{IsStrictlySortedBy}
 use Rattle.std.specs.Map.{keys_of}
 use Rattle.std.specs.BTreeMap.Range.{entries_between}
 use Rattle.std.specs.declared.ops.Bound.TheVariants.{Included, Excluded}
-use Rattle.std.proofs.lemmas.List.{drop-map}
 use Rattle.shared_map.specs.Parts.{AllAre, begins_from, joined}
-use Rattle.shared_map.proofs.Orders.{InOrder, below_back, sorted_back, joined_split}
+use Rattle.shared_map.proofs.Orders.{InOrder, sorted_back, joined_split}
 
 never : (b : Bool) → (b && not true) ≡ false
 never true = refl

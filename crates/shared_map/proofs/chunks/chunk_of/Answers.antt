@@ -1,5 +1,5 @@
-use Rattle.std.proofs.Common.{rules, arith, ◌≡◌, ◌<◌, ◌≤◌, ◌+◌, ◌-◌, ◌/◌, ◌∷◌, ◌∙◌, ap, length, drop, true, false}
-use Rattle.shared_map.specs.Parts.{parts, chunk_entries, begins_after, starts_after}
+use Rattle.std.proofs.Common.{rules, ◌≡◌, ◌<◌, ◌+◌, ◌-◌, ◌/◌, ◌∙◌, ap, length, true, false}
+use Rattle.shared_map.specs.Parts.{chunk_entries, begins_after, starts_after}
 use Rattle.shared_map.proofs.Places.{map_at}
 use Rattle.shared_map.proofs.chunks.chunk_of.Goals as goal
 

@@ -1,10 +1,9 @@
-use Rattle.std.proofs.Common.{rules, arith, ◌≡◌, ◌∙◌, ◌++◌, ◌∷◌, [], ◌+◌, ◌<◌, ap, sym, subst, take, drop, length, slice_set}
-use Rattle.std.specs.List.{insert, remove}
+use Rattle.std.proofs.Common.{rules, arith, ◌≡◌, ◌∙◌, ◌++◌, [], ◌+◌, ◌<◌, ap, sym, subst, take, drop, length, slice_set}
+use Rattle.std.specs.List.{insert}
 use Rattle.std.specs.Arc.{arc_value}
-use Rattle.std.proofs.lemmas.List.{length-map}
 use Rattle.shared_map.specs.Parts.{parts, seen, chunk_entries, joined, AreFilled}
 use Rattle.shared_map.proofs.Places.{map_two, map_removed}
-use Rattle.shared_map.proofs.Joined.{joined_none, joined_one, joined_two, filled_none, filled_one, filled_two, seen_halves, some_taken, some_dropped, nothing}
+use Rattle.shared_map.proofs.Joined.{joined_none, joined_two, filled_none, filled_two, seen_halves, some_taken, some_dropped, nothing}
 use Rattle.shared_map.proofs.chunks.put_chunk.Goals as goal
 
 pub returns-clause-ok : goal.returns-clause-ok

@@ -1,4 +1,4 @@
-use Rattle.std.proofs.Common.{rules, ◌≡◌, ◌++◌, ◌+◌, ◌∷◌, [], ◌∙◌, take, drop, map, cond, sym, ap, ℕ, true, false, arith, subst, Greater}
+use Rattle.std.proofs.Common.{rules, ◌≡◌, ◌++◌, ◌+◌, ◌∷◌, [], ◌∙◌, take, drop, cond, sym, ap, true, false, arith, subst, Greater}
 use Rattle.std.specs.Arc.{arc_value}
 use Rattle.std.proofs.lemmas.List.{map-append}
 use Rattle.shared_map.specs.Parts.{seen, AllAre, BeginsAt}

@@ -1,4 +1,4 @@
-use Rattle.std.proofs.Common.{◌≡◌, [], ap}
+use Rattle.std.proofs.Common.{ap}
 use Rattle.shared_map.specs.Parts.{parts}
 use Rattle.shared_map.proofs.Orders.{sound_none}
 use Rattle.shared_map.proofs.map.SharedMap.new.Goals as goal
