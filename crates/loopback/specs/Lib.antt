@@ -1,2 +1,4 @@
 pub mod Told
 pub mod Asking
+pub mod Serving
+pub mod Threads

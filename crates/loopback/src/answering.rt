@@ -1,6 +1,8 @@
 //! What answers the connections of a thread.
-ghost use Rattle.shared_desk.specs.Desks.{IsPassAt, IsNewAt};
-ghost use Rattle.std.specs.Prelude.{All};
+ghost use Rattle.std.specs.Prelude.{◌≡◌, All, IfOk, length, map, reverse};
+ghost use Rattle.loopback.specs.Serving.{IsNewOf, seat_of};
+ghost use Rattle.shared_desk.specs.Desks.{IsPassAt, IsNewAt, known};
+ghost use Rattle.shared_desk.specs.Seats.{desk_at, known_at};
 
 use crate::kind_bells::KindBells;
 use crate::pausing::Pause;
@@ -54,6 +56,8 @@ impl<'a, R: Wait + Clock> Connection<'a, R> {
         stop: &'a Stop,
     ) -> Result<Connection<'a, R>, AllocError>
         requires { IsPassAt desk.now pass }
+        ensures desk { IfOk result (λ connection. desk_at (seat_of connection) ≡ desk.entry.now) }
+        ensures known { IfOk result (λ connection. known_at (seat_of connection) ≡ known pass) }
     {
         Ok(Connection {
             alloc,
@@ -67,7 +71,9 @@ impl<'a, R: Wait + Clock> Connection<'a, R> {
 }
 
 impl<R: Wait + Clock> Handler for Connection<'_, R> {
-    ghost step = { λ old new. Unit {0} };
+    ghost use Rattle.loopback.specs.Serving.{IsOneConnection};
+
+    ghost step = { IsOneConnection };
 
     /// Serves the one request of a connection. A connection that fails is left, and the thread goes on.
     fn handle<I: Read, W: Write>(
@@ -104,6 +110,9 @@ pub fn connections<'a, R: Wait + Clock>(
     stop: &'a Stop,
 ) -> Result<Vec<Connection<'a, R>>, AllocError>
     requires { All (IsNewAt desk.now) passes.items }
+    ensures new { IfOk result (λ made. All (IsNewOf desk.entry.now) made.items) }
+    ensures count { IfOk result (λ made. length made.items ≡ length passes.items) }
+    ensures known { IfOk result (λ made. map (λ connection. known_at (seat_of connection)) made.items ≡ reverse (map known passes.items)) }
 {
     let mut made = Vec::with_capacity(alloc, passes.len())?;
     let mut left = passes;

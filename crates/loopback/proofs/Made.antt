@@ -1,0 +1,30 @@
+-- What is made of passes, the last of them first.
+use Rattle.std.proofs.Common.{◌≡◌, List, [], ◌∷◌, ◌++◌, length, map, reverse, ap, sym, subst, ◌∙◌, append_assoc}
+use Rattle.std.proofs.lemmas.List.{length-map, length-reverse, map-append, reverse-append, reverse-reverse}
+use Rattle.shared_desk.specs.Desks.{IsPassAt}
+use Rattle.shared_desk.specs.Seats.{desk_at, known_at}
+use Rattle.shared_desk.specs.declared.askings.Anything.{Anything}
+use Rattle.shared_desk.specs.declared.desks.Desk.{Desk}
+use Rattle.loopback.specs.Serving.{IsNewOf, seat_of}
+use Rattle.loopback.specs.declared.answering.Connection.{Connection}
+
+module _ {P C K : Type 0} (known : P → K) (knows : C → K) where
+  -- one more is made of the last pass that was left
+  pub made_more : (all before left : List P) (made : List C) (p : P) (c : C) → before ≡ left ++ p ∷ [] → knows c ≡ known p
+      → map known all ≡ map known before ++ reverse (map knows made) → map known all ≡ map known left ++ reverse (map knows (made ++ c ∷ []))
+  made_more all before left made p c last same so =
+      let passes : map known before ≡ map known left ++ known p ∷ [] = ap (map known) last ∙ map-append known left (p ∷ []) in
+      let more : reverse (map knows (made ++ c ∷ [])) ≡ known p ∷ reverse (map knows made) =
+      ap reverse (map-append knows made (c ∷ [])) ∙ reverse-append (map knows made) (knows c ∷ []) ∙ ap (λ k. k ∷ reverse (map knows made)) same in
+      so ∙ ap (λ ks. ks ++ reverse (map knows made)) passes ∙ append_assoc (map known left) (known p ∷ []) (reverse (map knows made)) ∙ sym (ap (λ ks. map known left ++ ks) more)
+
+  -- of all passes one is made, the last first
+  pub made_all : (all left : List P) (made : List C) → left ≡ [] → map known all ≡ map known left ++ reverse (map knows made) → map knows made ≡ reverse (map known all)
+  made_all all left made none so = sym (reverse-reverse (map knows made)) ∙ ap reverse (sym (so ∙ ap (λ ps. map known ps ++ reverse (map knows made)) none))
+
+  pub made_count : (all : List P) (made : List C) → map knows made ≡ reverse (map known all) → length made ≡ length all
+  made_count all made so = sym (length-map made knows) ∙ ap length so ∙ length-reverse (map known all) ∙ length-map all known
+
+-- a connection whose seat is at this desk, with a pass that has seen and made nothing, is new there
+pub new_of : {R : Type 0} (d : Desk Anything) (c : Connection R) → desk_at (seat_of c) ≡ d → (known_at (seat_of c)).seen ≡ [] → (known_at (seat_of c)).made ≡ [] → IsNewOf d c
+new_of d c there seen made = (there, (subst (λ e. IsPassAt e (seat_of c).pass) there (seat_of c).sits, seen, made))
