@@ -1,12 +1,12 @@
 -- What is done to the chunk that may have a key is done to all entries.
-use Rattle.std.proofs.Common.{◌≡◌, ◌++◌, ◌+◌, ◌<◌, ℕ, List, ◌∷◌, true, false, Ordering, Less, Greater, sym, ap, ◌∙◌, length, take, drop, subst}
+use Rattle.std.proofs.Common.{◌≡◌, ◌++◌, ◌+◌, ◌<◌, ℕ, List, ◌∷◌, Bool, true, false, Ordering, Less, Greater, sym, ap, ◌∙◌, length, take, drop, subst}
 use Rattle.std.specs.Cmp.{IsTotalOrder}
 use Rattle.std.specs.Map.{lookup, remove_entry}
 use Rattle.std.specs.BTreeMap.{is_at}
 use Rattle.std.proofs.lemmas.List.{length-append}
 use Rattle.shared_map.specs.Entries.{put_entry}
-use Rattle.shared_map.specs.Parts.{AllAre, starts_after, joined, AreFilled}
-use Rattle.shared_map.proofs.Between.{put_between, remove_between, found_between}
+use Rattle.shared_map.specs.Parts.{AllAre, BeginsAt, starts_after, joined, AreFilled}
+use Rattle.shared_map.proofs.Between.{put_between, remove_between, remove_place, found_between}
 use Rattle.shared_map.proofs.Orders.{InOrder, all_above, all_under, sorted_back, sorted_front}
 use Rattle.shared_map.proofs.Joined.{around}
 
@@ -27,6 +27,14 @@ module _ {K X : Type 0} {R : K → K → Ordering} (o : IsTotalOrder R) (k : K) 
   remove_at =
       ap (remove_entry (is_at (R k))) (around ps i C here)
       ∙ remove_between R k (joined (take i ps)) C (joined (drop (i + 1) ps)) (all_above o k ps i sorted filled first) (all_under o k ps (i + 1) sorted next)
+
+  -- where the chunk is left without the entry at a place, which has the key
+  pub removed_at : (at : ℕ) (found : Bool) (made : List (K × X)) (qs : List (List (K × X))) → found ≡ true → AllAre R Greater k (take at C) → BeginsAt R k found (drop at C)
+      → made ≡ take at C ++ drop (at + 1) C → joined qs ≡ joined (take i ps) ++ (made ++ joined (drop (i + 1) ps)) → joined qs ≡ remove_entry (is_at (R k)) (joined ps)
+  removed_at at found made qs has before ahead is put =
+      put
+      ∙ ap (λ l. joined (take i ps) ++ (l ++ joined (drop (i + 1) ps))) (is ∙ sym (remove_place R k C at before (subst (λ b. BeginsAt R k b (drop at C)) has ahead)))
+      ∙ sym remove_at
 
   pub found_at : lookup (is_at (R k)) (joined ps) ≡ lookup (is_at (R k)) C
   found_at =

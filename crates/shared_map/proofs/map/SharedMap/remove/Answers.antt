@@ -5,10 +5,9 @@ use Rattle.std.specs.BTreeMap.{is_at}
 use Rattle.std.proofs.lemmas.List.{length-append, length-map}
 use Rattle.shared_map.specs.Parts.{parts, seen, joined, chunk_entries, starts_after, BeginsAt}
 use Rattle.shared_map.proofs.Places.{map_at}
-use Rattle.shared_map.proofs.Between.{remove_place}
 use Rattle.shared_map.proofs.Joined.{around, length_without}
 use Rattle.shared_map.proofs.Orders.{InOrder, remove_sorted, removed_nowhere}
-use Rattle.shared_map.proofs.Located.{remove_at, sorted_at, length_at}
+use Rattle.shared_map.proofs.Located.{remove_at, removed_at, sorted_at, length_at}
 use Rattle.shared_map.proofs.map.SharedMap.remove.Goals as goal
 
 pub place_in-place-requires : goal.place_in-place-requires
@@ -74,10 +73,8 @@ invariant_of-self-2 g c =
     let next = subst (λ l. starts_after R k (drop (i + 1) (parts l)) ≡ true) c.as_slice.ensures.value c.chunk_of-at.ensures.next in
     let yes : p.found ≡ true = search rules in
     let put : joined (parts c.put_chunk.new.chunks.items) ≡ A ++ (seen made.items ++ B) = search rules in
-    let whole : joined (parts c.put_chunk.new.chunks.items) ≡ remove_entry (is_at (R k)) (joined (parts cs)) =
-    put
-    ∙ ap (λ l. A ++ (l ++ B)) (c.in_ok-made.ensures ∙ sym (remove_place R k (seen es) p.at c.place_in-place.ensures.before (subst (λ b. BeginsAt R k b (drop p.at (seen es))) yes c.place_in-place.ensures.ahead)))
-    ∙ sym (remove_at g.met.K.Ord.total k (parts cs) i (seen es) c.self.invariant.0 c.self.invariant.1 first next here) in
+    let whole = removed_at g.met.K.Ord.total k (parts cs) i (seen es) c.self.invariant.0 c.self.invariant.1 first next here p.at p.found (seen made.items) (parts c.put_chunk.new.chunks.items)
+    yes c.place_in-place.ensures.before c.place_in-place.ensures.ahead c.in_ok-made.ensures put in
     let all = length_at g.met.K.Ord.total k (parts cs) i (seen es) c.self.invariant.0 c.self.invariant.1 first next here in
     let within : p.at + 1 ≤ length es = search rules in
     let less = length_without (seen es) p.at (omega (arith, within, length-map es arc_value)) in (
@@ -103,7 +100,6 @@ returns-clause-ok g c =
     let next = subst (λ l. starts_after R k (drop (i + 1) (parts l)) ≡ true) c.as_slice.ensures.value c.chunk_of-at.ensures.next in
     let yes : p.found ≡ true = search rules in
     let put : joined (parts c.put_chunk.new.chunks.items) ≡ A ++ (seen made.items ++ B) = search rules in
-    put
-    ∙ ap (λ l. A ++ (l ++ B)) (c.in_ok-made.ensures ∙ sym (remove_place R k (seen es) p.at c.place_in-place.ensures.before (subst (λ b. BeginsAt R k b (drop p.at (seen es))) yes c.place_in-place.ensures.ahead)))
-    ∙ sym (remove_at g.met.K.Ord.total k (parts cs) i (seen es) c.self.invariant.0 c.self.invariant.1 first next here)
+    removed_at g.met.K.Ord.total k (parts cs) i (seen es) c.self.invariant.0 c.self.invariant.1 first next here p.at p.found (seen made.items) (parts c.put_chunk.new.chunks.items)
+    yes c.place_in-place.ensures.before c.place_in-place.ensures.ahead c.in_ok-made.ensures put
     ∙ ap (remove_entry (is_at (R k))) c.self.view_is
