@@ -2,6 +2,7 @@
 use Rattle.std.proofs.Common.{◌≡◌, ℕ, List, [], ◌∷◌, ◌++◌, Option, Some, None, Result, Ok, Err, IfSome, OnOk, IfErr, OnErr, ◌⊎◌, inl, All, length, map, reverse, refl, ap, sym, subst, ◌∙◌}
 use Rattle.std.specs.List.{range_with_len}
 use Rattle.std.proofs.lemmas.List.{map-append, reverse-append}
+use Rattle.std.proofs.lemmas.Simd.{map-map}
 use Rattle.serving.specs.Serving.{ServesEach, ServesEachSome}
 use Rattle.shared_desk.specs.Desks.{window_size}
 use Rattle.shared_desk.specs.declared.askings.Anything.{Anything}
@@ -16,11 +17,6 @@ module _ {A B : Type 0} (f : A → B) where
   map_reversed (x ∷ xs) =
       ap (map f) (reverse-append (x ∷ []) xs) ∙ map-append f (reverse xs) (x ∷ []) ∙ ap (λ ys. ys ++ f x ∷ []) (map_reversed xs) ∙ sym (reverse-append (f x ∷ []) (map f xs))
 
-module _ {A B C : Type 0} (f : A → B) (h : B → C) where
-  map_twice : (xs : List A) → map h (map f xs) ≡ map (λ x. h (f x)) xs
-  map_twice [] = refl
-  map_twice (x ∷ xs) = ap (λ ys. h (f x) ∷ ys) (map_twice xs)
-
 -- threads begin, whose connections are made of the passes that a desk opens with
 module _ {R P K : Type 0} (known : P → K) (knows : Connection R → K) (name : K → ℕ) (same : (c : Connection R) → name_of c ≡ name (knows c)) (passes : List P) (made : List (Connection R)) (count : ℕ)
     (so : map knows made ≡ reverse (map known passes)) (names : map (λ p. name (known p)) passes ≡ range_with_len 0 (length passes)) (many : length passes ≡ count) where
@@ -28,7 +24,7 @@ module _ {R P K : Type 0} (known : P → K) (knows : Connection R → K) (name :
   numbered : map name_of made ≡ reverse (range_with_len 0 count)
   numbered =
       (λ i. map (λ c. same c i) made)
-      ∙ sym (map_twice knows name made) ∙ ap (map name) so ∙ map_reversed name (map known passes) ∙ ap reverse (map_twice known name passes ∙ names ∙ ap (range_with_len 0) many)
+      ∙ sym (map-map name knows made) ∙ ap (map name) so ∙ map_reversed name (map known passes) ∙ ap reverse (map-map name known passes ∙ names ∙ ap (range_with_len 0) many)
 
   pub begun : (d : Desk Anything) (window : ℕ) (handed : List (Connection R)) → window_size d ≡ window → All (IsNewOf d) made → length made ≡ length passes → handed ≡ made → Begin R window count handed
   begun d window handed sized new each is = subst (Begin R window count) (sym is) (d, sized, each ∙ many, new, numbered)

@@ -28,12 +28,12 @@ module _ {R C I O : Type 0} where
   abbrev pub remote_at : OwnServer R C I O → Remote C I O
   remote_at s = s.remote
 
--- a request can be told over HTTP, by a text whose body is longer than it may be, or is not
+-- a request can be told over HTTP, and some text of it has a body that is longer than it may be, or one that is not
 abbrev pub HasText : Bool → Request → Type 0
 HasText long q = (t : RequestText) × (can_be_told q ≡ true) × texts.Asks q t × (is_too_long (string_bytes t.body) ≡ long)
 
 -- what is answered to a request that the seat is not asked: that nothing was sent, where it cannot be told, or there is no memory or no moment; or a
--- reply that it is too large, where its body is longer than it may be
+-- reply that it is too large, where some text of it is; that this is the text that was made of it, this does not say
 abbrev pub IsNotAsked : Request → Answer → Type 0
 IsNotAsked q (Replied p) = HasText true q × Says (refused too_large) p
 IsNotAsked q NotSent = Unit {0}

@@ -26,7 +26,9 @@ pub(crate) struct Ringer<'a> {
 }
 
 impl Listener for Ringer<'_> {
-    ghost Hears = { λ kind before after. Unit {0} };
+    ghost use Rattle.loopback.specs.Asking.{Rings};
+
+    ghost Hears = { Rings };
 
     fn wrote<R: Wait>(&mut self, _rt: &R, kind: Kind) {
         self.bells.of(kind).ring();
