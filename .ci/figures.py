@@ -8,9 +8,13 @@ import functools
 import json
 import pathlib
 
+import model
+
 GUIDE = pathlib.Path(__file__).resolve().parent.parent / "docs" / "GATE.md"
 BEGIN, END = "<!-- figures begin -->\n", "<!-- figures end -->\n"
-KINDS = ("proofs", "tests", "negative tests", "programs")
+KINDS = ("proofs", "tests", "must fail", "tried after", "programs")
+# What else the gate runs, in its order.
+STAGES = ("rt ci", "negative tests", "conformance")
 
 
 def table(head, rows):
@@ -44,10 +48,7 @@ def whole_table(of):
     for kind in KINDS:
         span, seconds = of["spans"][kind], sum(it[kind] for it in of["crates"].values())
         rows.append([kind, *(span or ("", "")), seconds])
-    proved = max((span[1] for span in of["spans"].values() if span), default=0)
-    rows.append(["programs and tests run", proved, of["seconds"]["rt ci"], ""])
-    rows.append(["all of `rt ci`", 0, of["seconds"]["rt ci"], of["used"]])
-    rows.append(["conformance, after that", 0, of["seconds"]["conformance"], ""])
+    rows += [[f"all of {stage}", "", of["seconds"][stage], of["used"] if stage == "rt ci" else ""] for stage in STAGES]
     return table(["Work", "From second", "To second", "Processor seconds"], rows)
 
 
@@ -55,15 +56,24 @@ def crates_table(of):
     """Returns the lines of the table of crates, the dearest first."""
 
     def row(name, crate):
-        work = [crate[kind] for kind in KINDS[:3]]
         proved = "" if crate["proved"] is None else crate["proved"]
-        return [name, crate["lines"], *work, crate["pieces"], crate["others"], proved]
+        return [name, crate["lines"], *[crate[kind] for kind in KINDS[:4]], crate["pieces"], crate["others"], proved]
 
-    crates = sorted(of["crates"].items(), key=lambda it: -sum(it[1][kind] for kind in KINDS))
+    crates = sorted(of["crates"].items(), key=lambda it: -sum(it[1][kind] for kind in KINDS[:3]))
     rows = [row(f"`{name}`", crate) for name, crate in crates]
-    sums = [sum(crate[part] for _, crate in crates) for part in ("lines", *KINDS[:3], "pieces", "others")]
+    sums = [sum(crate[part] for _, crate in crates) for part in ("lines", *KINDS[:4], "pieces", "others")]
     rows.append(["all", *sums, ""])
-    return table(["Crate", "Lines", "Proof", "Tests", "Negative tests", "Tried", "Not tried", "Proved at second"], rows)
+    head = ["Crate", "Lines", "Proof", "Tests", "Must fail", "Tried after", "In must-fail", "In wrong-code", "Proved at second"]
+    return table(head, rows)
+
+
+def modelled(of):
+    """Says how long the whole takes by the model with these processors, with four and with two."""
+    after = of["seconds"]["negative tests"] + of["seconds"]["conformance"]
+    found = {count: model.seconds_with(of["crates"], count) for count in sorted({of["processors"], 4, 2}, reverse=True)}
+    said = ", ".join(f"{seconds:,.0f} seconds on {count} processors" for count, seconds in found.items())
+    whole = ", ".join(f"{seconds + after:,.0f} on {count}" for count, seconds in found.items())
+    return f"By the model (`.ci/model.py`) `rt ci` takes {said}; with all that follows it {whole}."
 
 
 def text_of(of):
@@ -82,6 +92,8 @@ def text_of(of):
         *crates_table(of),
         "",
         f"The longest chain of proofs takes {sum(of['crates'][name]['proofs'] for name in chain):,.0f} processor seconds: {steps}.",
+        "",
+        modelled(of),
     ]
     return "\n".join(lines)
 

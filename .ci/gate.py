@@ -1,5 +1,5 @@
-"""Runs the gate: whether the negative tests still apply and the made documents are the present ones, `rt ci`, the conformance cases, and
-schedules and the cases over HTTP with the program that `rt ci` built, one after another, whatever the others say.
+"""Runs the gate: whether the negative tests still apply and the made documents are the present ones, `rt ci`, negative tests over the
+libraries that it built, and with the program that it built the conformance cases, one after another, whatever the others say.
 
 It shows what they print, then what went wrong in each that failed, tables of what took how long, what the first of them named, and
 whether each passed. The last lines name those that failed, with the last that went wrong in each, and say 'N passed, M failed'.
@@ -20,6 +20,7 @@ sys.dont_write_bytecode = True
 ROOT = pathlib.Path(__file__).resolve().parent.parent
 PROGRAM = "crates/kcp/out/kcp"
 FOLLOWER = "crates/watch_example/out/watch_example"
+SECONDS_FOR_NEGATIVE_TESTS = 900
 RANDOM_HEADS = 5000
 RANDOM_SCHEDULES = 200
 RANDOM_TURNS = 100
@@ -30,7 +31,7 @@ MOST_WRONG, FEW_WRONG, LAST_LINES = 40, 5, 5
 sys.path[:0] = [str(ROOT / ".ci"), str(ROOT / "conformance")]
 import figures
 import sampler
-import wrong_code
+from negative import pieces
 
 
 class Run:
@@ -84,12 +85,12 @@ def commit():
     return ran.stdout.strip()
 
 
-def figures_of(proved, conforms, looking, used):
+def figures_of(proved, tried, asked, looking, used):
     """Returns the figures of a run, as figures.py shows them."""
     seen, crates = looking.end(), {}
-    for name, libraries in wrong_code.libraries().items():
-        of_crate = {"lines": lines_of(name), "uses": libraries, "pieces": len(wrong_code.pieces(name, "must-fail"))}
-        of_crate["others"] = len(wrong_code.pieces(name))
+    for name, libraries in pieces.libraries().items():
+        of_crate = {"lines": lines_of(name), "uses": libraries, "pieces": len(pieces.pieces(name, ["must-fail"]))}
+        of_crate["others"] = len(pieces.pieces(name, ["wrong-code"]))
         of_crate["proved"] = proved.second_of(f"rt: {name} proved")
         for kind in figures.KINDS:
             of_crate[kind] = sum(it["seconds"] for it in seen if it["crate"] == name and it["kind"] == kind)
@@ -98,11 +99,12 @@ def figures_of(proved, conforms, looking, used):
     for kind in figures.KINDS:
         runs = [it for it in seen if it["kind"] == kind]
         spans[kind] = [min(it["first"] for it in runs), max(it["last"] for it in runs)] if runs else None
+    counts = [run.counts() for run in asked.values()]
     return {
         "commit": commit(),
         "processors": len(os.sched_getaffinity(0)),
-        "seconds": {"rt ci": proved.seconds, "conformance": conforms.seconds},
-        "passed": {"rt ci": proved.counts(), "conformance": conforms.counts()},
+        "seconds": {"rt ci": proved.seconds, "negative tests": tried.seconds, "conformance": sum(run.seconds for run in asked.values())},
+        "passed": {"rt ci": proved.counts(), "negative tests": tried.counts(), "conformance": [sum(it) for it in zip(*counts)]},
         "used": used,
         "spans": spans,
         "crates": crates,
@@ -122,10 +124,11 @@ def asked_first(log):
 
 
 def asked_of_program(log):
-    """Runs what asks the program that `rt ci` built: schedules of a simulated cluster, a rollout and schedules of controllers, and over
+    """Runs what asks the program that `rt ci` built: request lines, schedules of a simulated cluster, a rollout and schedules of controllers, and over
     sockets cases, random heads, many clients at once, real clients where they are installed, a follower through a proxy and over
     recorded bytes, and the controllers at work."""
     words = {
+        "conformance": ["run.py"],
         "schedules": ["simulate/run.py", "--random", str(RANDOM_SCHEDULES)],
         "a rollout": ["simulate/rollout.py"],
         "schedules of controllers": ["simulate/schedules.py", "--count", str(RANDOM_TURNS)],
@@ -180,14 +183,15 @@ def main():
         first = asked_first(log)
         looking, before = sampler.Sampler(), used_by_children()
         looking.start()
-        proved = Run(["rt", "ci"], log)
-        looking.is_ended.set()
+        proved = Run([sys.executable, "-B", ".ci/rt.py", "ci"], log)
         used = used_by_children() - before
-        conforms = Run([sys.executable, "-B", "conformance/run.py"], log)
+        looking.stage = "tried after"
+        tried = Run([sys.executable, "-B", "conformance/wrong_code.py", "--within", str(SECONDS_FOR_NEGATIVE_TESTS)], log)
+        looking.is_ended.set()
         asked = asked_of_program(log)
-    runs = {**first, "rt ci": proved, "conformance": conforms, **asked}
+    runs = {**first, "rt ci": proved, "negative tests": tried, **asked}
     tell_wrong(runs, MOST_WRONG)
-    show(room, proved, conforms, looking, used)
+    show(room, proved, tried, asked, looking, used)
     print(f"kept: {room}/output.txt, {room}/figures.json\n")
     print("\n".join(line for _, line in first["negative tests apply"].lines))
     tell_end(runs)

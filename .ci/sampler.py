@@ -29,11 +29,11 @@ def is_below(process, top, found):
 
 
 def kind_of(words, folder):
-    """Returns what a run of the prover does."""
+    """Returns what a run of the prover that `rt ci` started does."""
     if "--crate-checked" in words:
         return "programs"
     if any(part.startswith("rt-edit-") for part in folder.split("/")):
-        return "negative tests"
+        return "must fail"
     return "tests" if "--test" in words else "proofs"
 
 
@@ -43,11 +43,14 @@ def proves(words):
 
 
 class Sampler(threading.Thread):
-    """Looks at all processes once a second, until it is ended. What it cannot read it leaves out."""
+    """Looks at all processes once a second, until it is ended. What it cannot read it leaves out.
+
+    `stage`, where it is set, is what all provers do from then on.
+    """
 
     def __init__(self):
         super().__init__(daemon=True)
-        self.began, self.is_ended, self.seen = time.monotonic(), threading.Event(), {}
+        self.began, self.is_ended, self.seen, self.stage = time.monotonic(), threading.Event(), {}, None
 
     def run(self):
         while not self.is_ended.wait(SECONDS_BETWEEN):
@@ -67,7 +70,7 @@ class Sampler(threading.Thread):
                     words = it.read().split("\0")
                 if not proves(words):
                     continue
-                kind = kind_of(words, os.readlink(f"/proc/{process}/cwd"))
+                kind = self.stage or kind_of(words, os.readlink(f"/proc/{process}/cwd"))
             except OSError:
                 continue
             crate = words[words.index("--crate-name") + 1]

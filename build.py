@@ -1,0 +1,118 @@
+#!/usr/bin/env python3
+"""Proves and builds the program kcp, from nothing or over what earlier runs left, with as many crates at once as there are processors and memory.
+
+    build.py [--jobs N]     --jobs: use so many processors
+
+It prints a line for each crate that is proved, with the time that is most likely left. The executable is crates/kcp/out/kcp. What a
+crate that is not proved printed is shown at the end, and the status is 0 only where the program was built.
+"""
+import argparse
+import os
+import pathlib
+import re
+import subprocess
+import sys
+import tempfile
+import threading
+import time
+
+sys.dont_write_bytecode = True
+ROOT = pathlib.Path(__file__).resolve().parent
+sys.path.insert(0, str(ROOT / ".ci"))
+import toolchain
+
+PROGRAM = "kcp"
+# What a crate takes of which no figure is known, in processor seconds.
+SECONDS_OF_A_CRATE = 60
+
+
+def known_seconds():
+    """Returns the processor seconds that the proof of each crate took, by the table of docs/GATE.md."""
+    rows = re.findall(r"(?m)^\| `(\w+)` +\| +[\d,]+ +\| +([\d,]+) +\|", (ROOT / "docs" / "GATE.md").read_text(encoding="utf-8"))
+    return {name: int(seconds.replace(",", "")) for name, seconds in rows}
+
+
+class Progress:
+    """Says which crates are proved, and how long the others will take if they go on at the rate of those."""
+
+    def __init__(self, crates):
+        known = known_seconds()
+        self.seconds = {it.name: known.get(it.name, SECONDS_OF_A_CRATE) for it in crates}
+        self.left, self.began, self.printing = set(self.seconds), time.monotonic(), threading.Lock()
+        self.worked = 0
+
+    def ended(self, crate, what, seconds):
+        with self.printing:
+            self.left.discard(crate.name)
+            self.worked += self.seconds[crate.name] if seconds else 0
+            passed, rest = time.monotonic() - self.began, sum(self.seconds[name] for name in self.left)
+            soon = f"; about {passed * rest / self.worked / 60:.0f} minutes left" if rest and self.worked else ""
+            count = len(self.seconds) - len(self.left)
+            print(f"[{count}/{len(self.seconds)}] {crate.name} {what}{f' in {seconds:.0f} s' if seconds else ''}{soon}", flush=True)
+
+
+def proved(crate, jobs, progress, wrong):
+    """Proves a library, unless it is proved as it stands, and returns whether it is."""
+    if crate.is_built():
+        progress.ended(crate, "is proved already", 0)
+        return True
+    began = time.monotonic()
+    os.makedirs(f"{crate.folder}/out", exist_ok=True)
+    with tempfile.TemporaryFile("w+", errors="replace") as crate.out:
+        try:
+            status = crate.build_rlib(["--jobs", str(jobs)], anew=False)
+        except SystemExit:
+            status = 1
+        crate.out.seek(0)
+        said = crate.out.read()
+    if status:
+        wrong.append(f"== {crate.name}\n{said}")
+    progress.ended(crate, "NOT PROVED" if status else "proved", time.monotonic() - began)
+    return not status
+
+
+def task(crate, progress, wrong):
+    """Returns the proof of a library as the toolchain's lanes take it: what it waits for, its work, and a call that does it."""
+    waits = [it.name for it in crate.below()]
+
+    def work(given, jobs):
+        if not all(given[name] for name in waits):
+            progress.ended(crate, "NOT PROVED, since a crate below it was not", 0)
+            return False
+        return proved(crate, jobs, progress, wrong)
+
+    return waits, progress.seconds[crate.name], work
+
+
+def link_program(jobs):
+    """Proves the program itself, links it and runs it on no lines, and returns the status of that."""
+    words = [sys.executable, "-B", str(ROOT / ".ci" / "rt.py"), "run", "--jobs", str(jobs), "--", "replay"]
+    return subprocess.run(words, cwd=ROOT / "crates" / PROGRAM, stdin=subprocess.DEVNULL).returncode
+
+
+def main():
+    parser = argparse.ArgumentParser(description=__doc__.splitlines()[0])
+    parser.add_argument("--jobs", type=int, help="how many processors to use")
+    asked = parser.parse_args()
+    rt, wrong = toolchain.load(), []
+    rt.rtlib.guarded()
+    program = next(it for it in rt.rtlib.crates_below(str(ROOT)) if it.name == PROGRAM)
+    libraries = program.below()
+    held = rt.rtlib.lock([*libraries, program])
+    progress = Progress(libraries)
+    tasks = {it.name: (waits, work, rt.need(it), call) for it in libraries for waits, work, call in [task(it, progress, wrong)]}
+    if asked.jobs:
+        rt.processors = lambda: asked.jobs
+    given = rt.in_lanes(tasks)
+    for it in held:
+        os.close(it)
+    if not all(given.values()):
+        print("\n".join(wrong))
+        sys.exit(1)
+    status = link_program(min(4, asked.jobs or rt.processors()))
+    print(f"{f'crates/{PROGRAM}/out/{PROGRAM} is proved and built' if not status else 'the program was not built'}, after {(time.monotonic() - progress.began) / 60:.0f} minutes")
+    sys.exit(status)
+
+
+if __name__ == "__main__":
+    main()
