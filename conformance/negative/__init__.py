@@ -1,0 +1,1 @@
+"""The negative tests: pieces of wrong code that the prover has to refuse."""
