@@ -9,7 +9,6 @@ crate that is not proved printed is shown at the end, and the status is 0 only w
 import argparse
 import os
 import pathlib
-import re
 import subprocess
 import sys
 import tempfile
@@ -19,6 +18,7 @@ import time
 sys.dont_write_bytecode = True
 ROOT = pathlib.Path(__file__).resolve().parent
 sys.path.insert(0, str(ROOT / ".ci"))
+import figures
 import toolchain
 
 PROGRAM = "kcp"
@@ -26,18 +26,12 @@ PROGRAM = "kcp"
 SECONDS_OF_A_CRATE = 60
 
 
-def known_seconds():
-    """Returns the processor seconds that the proof of each crate took, by the table of docs/GATE.md."""
-    rows = re.findall(r"(?m)^\| `(\w+)` +\| +[\d,]+ +\| +([\d,]+) +\|", (ROOT / "docs" / "GATE.md").read_text(encoding="utf-8"))
-    return {name: int(seconds.replace(",", "")) for name, seconds in rows}
-
-
 class Progress:
     """Says which crates are proved, and how long the others will take if they go on at the rate of those."""
 
     def __init__(self, crates):
-        known = known_seconds()
-        self.seconds = {it.name: known.get(it.name, SECONDS_OF_A_CRATE) for it in crates}
+        known = figures.known_seconds()
+        self.seconds = {it.name: known.get(it.name, (SECONDS_OF_A_CRATE, 0))[0] for it in crates}
         self.left, self.began, self.printing = set(self.seconds), time.monotonic(), threading.Lock()
         self.worked = 0
 
@@ -100,7 +94,7 @@ def main():
     libraries = program.below()
     held = rt.rtlib.lock([*libraries, program])
     progress = Progress(libraries)
-    tasks = {it.name: (waits, work, rt.need(it), call) for it in libraries for waits, work, call in [task(it, progress, wrong)]}
+    tasks = {it.name: (waits, seconds, rt.need(it), call) for it in libraries for waits, seconds, call in [task(it, progress, wrong)]}
     if asked.jobs:
         rt.processors = lambda: asked.jobs
     given = rt.in_lanes(tasks)

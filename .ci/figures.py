@@ -7,6 +7,7 @@ import argparse
 import functools
 import json
 import pathlib
+import re
 
 import model
 
@@ -15,6 +16,13 @@ BEGIN, END = "<!-- figures begin -->\n", "<!-- figures end -->\n"
 KINDS = ("proofs", "tests", "must fail", "tried after", "programs")
 # What else the gate runs, in its order.
 STAGES = ("rt ci", "negative tests", "conformance")
+
+
+def known_seconds():
+    """Returns for each crate of the table in docs/GATE.md the processor seconds of its proof and of its tests' proof."""
+    row = r"(?m)^\| `(\w+)` +\| +[\d,]+ +\| +([\d,]+) +\| +([\d,]+) +\|"
+    found = re.findall(row, GUIDE.read_text(encoding="utf-8"))
+    return {name: tuple(int(it.replace(",", "")) for it in seconds) for name, *seconds in found}
 
 
 def table(head, rows):

@@ -1,6 +1,30 @@
-"""Runs the toolchain's `rt`, with each crate's stamp computed once: rt.py ci, and in a crate's folder rt.py check, rt.py test and the like."""
+"""Runs the toolchain's `rt`, with each crate's stamp computed once: rt.py ci, and in a crate's folder rt.py check, rt.py test and the like.
+
+`rt ci` begins with the work that has the longest chain of other work behind it, which it measures in lines. Here it is measured in the seconds
+that docs/GATE.md has of a crate, where it has some.
+"""
 import sys
 
+import figures
 import toolchain
 
-sys.exit(toolchain.load().main(sys.argv[1:]))
+# What a line takes where nothing else is known, in processor seconds.
+SECONDS_OF_A_LINE = 0.15
+
+
+def by_seconds(in_lanes):
+    """Returns `rt`'s lanes for tasks whose work is said in lines, with it said in seconds."""
+    known = figures.known_seconds()
+
+    def seconds(key, lines):
+        name, kind = key
+        if name not in known or not lines:
+            return lines * SECONDS_OF_A_LINE
+        return known[name][kind == "tests"] or lines * SECONDS_OF_A_LINE
+
+    return lambda tasks: in_lanes({key: (waits, seconds(key, lines), *rest) for key, (waits, lines, *rest) in tasks.items()})
+
+
+rt = toolchain.load()
+rt.in_lanes = by_seconds(rt.in_lanes)
+sys.exit(rt.main(sys.argv[1:]))
