@@ -140,6 +140,7 @@ def asked_of_program(log):
         "controllers": ["controllers/run.py", "--short"],
     }
     ran = {name: Run([sys.executable, "-B", f"conformance/{script}", "--program", PROGRAM, *rest], log) for name, (script, *rest) in words.items()}
+    ran["pictures"] = Run([sys.executable, "-B", "conformance/simulate/pictures.py"], log)
     ran["recorded bytes"] = Run([sys.executable, "-B", "conformance/recorded/run.py", "--follower", FOLLOWER], log)
     return ran
 
