@@ -13,8 +13,10 @@ import model
 
 GUIDE = pathlib.Path(__file__).resolve().parent.parent / "docs" / "GATE.md"
 BEGIN, END = "<!-- figures begin -->\n", "<!-- figures end -->\n"
-KINDS = ("proofs", "tests", "must fail", "tried after", "programs")
-# What else the gate runs, in its order.
+KINDS = ("proofs", "tests", "programs", "negative tests")
+# Those that the table of crates shows.
+SHOWN = ("proofs", "tests", "negative tests")
+# What the gate runs, in its order.
 STAGES = ("rt ci", "negative tests", "conformance")
 
 
@@ -65,13 +67,13 @@ def crates_table(of):
 
     def row(name, crate):
         proved = "" if crate["proved"] is None else crate["proved"]
-        return [name, crate["lines"], *[crate[kind] for kind in KINDS[:4]], crate["pieces"], crate["others"], proved]
+        return [name, crate["lines"], *[crate[kind] for kind in SHOWN], crate["pieces"], crate["others"], proved]
 
-    crates = sorted(of["crates"].items(), key=lambda it: -sum(it[1][kind] for kind in KINDS[:3]))
+    crates = sorted(of["crates"].items(), key=lambda it: -sum(it[1][kind] for kind in SHOWN))
     rows = [row(f"`{name}`", crate) for name, crate in crates]
-    sums = [sum(crate[part] for _, crate in crates) for part in ("lines", *KINDS[:4], "pieces", "others")]
+    sums = [sum(crate[part] for _, crate in crates) for part in ("lines", *SHOWN, "pieces", "others")]
     rows.append(["all", *sums, ""])
-    head = ["Crate", "Lines", "Proof", "Tests", "Must fail", "Tried after", "In must-fail", "In wrong-code", "Proved at second"]
+    head = ["Crate", "Lines", "Proof", "Tests", "Negative tests", "In must-fail", "In wrong-code", "Proved at second"]
     return table(head, rows)
 
 

@@ -184,9 +184,9 @@ def main():
         first = asked_first(log)
         looking, before = sampler.Sampler(), used_by_children()
         looking.start()
-        proved = Run([sys.executable, "-B", ".ci/rt.py", "ci"], log)
+        proved = Run([sys.executable, "-B", ".ci/rt.py", "ci", "--edits-later"], log)
         used = used_by_children() - before
-        looking.stage = "tried after"
+        looking.stage = "negative tests"
         tried = Run([sys.executable, "-B", "conformance/wrong_code.py", "--within", str(SECONDS_FOR_NEGATIVE_TESTS)], log)
         looking.is_ended.set()
         asked = asked_of_program(log)

@@ -7,16 +7,13 @@ MOST_JOBS = 4
 
 
 def tasks_of(crates):
-    """Returns each piece of work with its processor seconds and what it waits for: a proof and its tests wait for the proofs below, and
-    negative tests for both."""
+    """Returns each piece of work with its processor seconds and what it waits for: a proof and its tests wait for the proofs below."""
     tasks = {}
     for name, crate in crates.items():
         under = [(it, "proofs") for it in below(name, crates)]
         tasks[name, "proofs"] = crate["proofs"], under
         if crate["tests"]:
             tasks[name, "tests"] = crate["tests"], under
-        if crate["must fail"]:
-            tasks[name, "must fail"] = crate["must fail"], [it for it in ((name, "proofs"), (name, "tests")) if it in tasks]
     return tasks
 
 
@@ -57,7 +54,7 @@ def seconds_with(crates, processors):
         for at, key in enumerate(ready):
             if free <= 0:
                 break
-            jobs = 1 if key[1] == "must fail" else max(1, min(MOST_JOBS, free // (len(ready) - at)))
+            jobs = max(1, min(MOST_JOBS, free // (len(ready) - at)))
             left.remove(key)
             free -= jobs
             heapq.heappush(running, (now + tasks[key][0] / (1 + GAIN_OF_A_JOB * (jobs - 1)), key, jobs))

@@ -2,8 +2,8 @@
 """Tries the negative tests: the wrong code in crates/NAME/must-fail and crates/NAME/wrong-code, which the prover has to refuse.
 
     wrong_code.py [--jobs N] [NAME..]    tries the pieces of these crates, or of all that have changed since, and keeps in tried.txt what was refused
-    wrong_code.py --within SECONDS       what the gate does: tries those of crates that have changed, then one piece of each other crate, by
-                                         turns, within that time, says what was not tried, and keeps nothing
+    wrong_code.py --within SECONDS       what the gate does: tries all of must-fail, and within that time those of crates that have changed, then one
+                                         piece of each other crate, by turns; says what was not tried, and keeps nothing
     wrong_code.py --check                tries nothing, and says in a few seconds what has changed since it was tried
     wrong_code.py --plan                 says how many pieces can be tried beside others
 
@@ -73,13 +73,17 @@ def turned(found, seed):
 
 
 def work_within():
-    """Returns for each crate the pieces that the gate tries, those of crates that have changed first, and which these are."""
+    """Returns for each crate the pieces that the gate tries whatever time it takes, those that it tries while there is time, of crates that have
+    changed first, and which these are."""
     known, lines = libraries(), tried.read()
     seed = subprocess.run(["git", "rev-parse", "HEAD"], cwd=pieces.ROOT, capture_output=True, text=True).stdout.strip()
     changed = [name for name in with_pieces(known) if not tried.is_standing(name, known, lines)]
     others = turned([name for name in with_pieces(known) if name not in changed], seed)
-    work = [(name, pieces.pieces(name)) for name in sorted(changed, key=lambda it: -len(pieces.pieces(it)))]
-    return work + [(name, turned(pieces.pieces(name), seed)[:1]) for name in others], set(changed)
+    first = {name: pieces.pieces(name, ["must-fail"]) for name in known}
+    rest = {name: pieces.pieces(name, ["wrong-code"]) for name in known}
+    work = [(name, rest[name]) for name in sorted(changed, key=lambda it: -len(rest[it]))]
+    work += [(name, turned(rest[name], seed)[:1]) for name in others]
+    return [(name, found) for name, found in first.items() if found], [(name, found) for name, found in work if found], set(changed)
 
 
 def try_all(work, changed, jobs, until, is_kept):
@@ -129,18 +133,26 @@ def main():
     asked = parser.parse_args()
     if asked.check or asked.plan:
         sys.exit(0 if (check() if asked.check else plan()) else 1)
-    known, until = libraries(), None
+    known = libraries()
     unknown = [name for name in asked.names if name not in known]
     if unknown:
         parser.error(f"crates.txt names no {', '.join(unknown)}")
-    if asked.within is not None:
-        until = time.monotonic() + asked.within
-        work, changed = work_within()
-    else:
-        lines = tried.read()
-        changed = set(asked.names or [name for name in with_pieces(known) if not tried.is_standing(name, known, lines)])
-        work = [(name, pieces.pieces(name)) for name in changed]
-    sys.exit(0 if tell(try_all(work, changed, asked.jobs, until, asked.within is None)) else 1)
+    sys.exit(0 if tell(within(asked) if asked.within is not None else kept(asked, known)) else 1)
+
+
+def within(asked):
+    """Tries what the gate tries, and returns what became of each piece."""
+    until = time.monotonic() + asked.within
+    first, rest, changed = work_within()
+    return try_all(first, changed, asked.jobs, None, False) + try_all(rest, changed, asked.jobs, until, False)
+
+
+def kept(asked, known):
+    """Tries the crates that are named, or that have changed, notes which were refused, and returns what became of each piece."""
+    lines = tried.read()
+    changed = asked.names or [name for name in with_pieces(known) if not tried.is_standing(name, known, lines)]
+    work = sorted(((name, pieces.pieces(name)) for name in changed), key=lambda it: -len(it[1]))
+    return try_all(work, set(changed), asked.jobs, None, True)
 
 
 if __name__ == "__main__":

@@ -50,7 +50,7 @@ def main():
     pages, failed = {case: made(case) for case in cases}, []
     failed += [case for case in cases if shown(pages[case]) != lines_of(case)]
     browser = shutil.which("chromium")
-    print(f"a browser opens {MOST_OPENED} pages" if browser else "chromium is not installed: no page was opened")
+    print(f"a browser opens the {MOST_OPENED} longest pages" if browser else "chromium is not installed: no page was opened")
     for case in sorted(cases, key=lambda it: -len(lines_of(it)))[: MOST_OPENED if browser else 0]:
         failed += [] if shown(opened(browser, pages[case])) == lines_of(case) else [f"{case} in the browser"]
     drawn = sorted((ROOT / "docs" / "pictures").glob("*.svg"))
