@@ -3,8 +3,8 @@
 
 It is as plain as can be: the server is a list of all changes, and what follows it reads whole frames with Python's own JSON. Of
 the API it knows only what schedules mostly need, and stops at anything else: creates of each kind by name; updates of ConfigMaps and
-Pods that change labels, data or a Pod's spec; gets, lists and watches without selectors and pages; deletes without options of objects
-without finalizers.
+Pods that change labels, data or a Pod's spec; gets, lists and watches without selectors and pages, lists at an exact revision too;
+deletes without options of objects without finalizers.
 Usage: oracle.py < LINES
 """
 import json
@@ -82,6 +82,14 @@ class Server:
     def listed(self, plural):
         return [self.objects[key] for key in sorted(self.objects) if key[0] == plural]
 
+    def listed_at(self, plural, revision):
+        """Returns what was there of a kind at a revision."""
+        there = {}
+        for changed, _, key, _, shown, is_gone in self.of_kind(plural):
+            if changed <= revision:
+                there[key] = None if is_gone else shown
+        return [there[key] for key in sorted(there) if there[key]]
+
     def write(self, key, after):
         """Writes an object, or removes one, at the next revision, and returns it as a watch shows it."""
         revision, before = self.present() + 1, self.objects.get(key)
@@ -140,17 +148,18 @@ class Server:
         if namespace:
             raise NotKnown("a list of a namespace")
         watched = re.fullmatch(r"watch=true&resourceVersion=([1-9][0-9]*)", query)
-        if query and not watched:
+        exact = re.fullmatch(r"resourceVersion=([1-9][0-9]*)&resourceVersionMatch=Exact", query)
+        if query and not watched and not exact:
             raise NotKnown(query)
-        if not watched:
-            items = [{name: value for name, value in it.items() if name not in ("apiVersion", "kind")} for it in self.listed(plural)]
-            version, kind = KINDS[plural][:2]
-            return reply(200, {"apiVersion": version, "items": items, "kind": f"{kind}List", "metadata": {"resourceVersion": str(self.present())}})
-        asked, floor = int(watched[1]), self.floor(plural)
+        if not query:
+            return list_reply(plural, self.listed(plural), self.present())
+        asked, floor = int((watched or exact)[1]), self.floor(plural)
         if asked > self.present():
             return reply(*too_new(asked, self.present()))
         if asked < floor:
             return reply(*too_old(asked, floor))
+        if exact:
+            return list_reply(plural, self.listed_at(plural, asked), asked)
         frames = [frame for _, frame in self.frames(plural, asked)]
         return f"200 watch {len(frames)}\n" + "".join(frames)
 
@@ -233,6 +242,12 @@ def with_defaults(plural, made):
         strategy = {"rollingUpdate": {"maxSurge": "25%", "maxUnavailable": "25%"}, "type": "RollingUpdate"}
         return {**made, "spec": {"replicas": 1, "revisionHistoryLimit": 10, "strategy": strategy, **spec}, "status": {}}
     return made
+
+
+def list_reply(plural, objects, revision):
+    items = [{name: value for name, value in it.items() if name not in ("apiVersion", "kind")} for it in objects]
+    version, kind = KINDS[plural][:2]
+    return reply(200, {"apiVersion": version, "items": items, "kind": f"{kind}List", "metadata": {"resourceVersion": str(revision)}})
 
 
 def reply(code, body):

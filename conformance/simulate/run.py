@@ -2,7 +2,8 @@
 """Runs `kcp simulate` on each case and compares what it writes.
 
 A case is a pair of files in cases/: NAME.simulate has the lines, NAME.expect what is written for them. Beside these, the worked example
-of a letter that is cut is run with the cut after each byte of its frame in turn. With `--random N` come N schedules of a hundred random
+of a letter that is cut is run with the cut after each byte of its frame in turn, and 2,000 changes in windows of several sizes, with exact
+lists and watches from below each window to above the present, whose text is the oracle's. With `--random N` come N schedules of a hundred random
 steps each, whose text is the oracle's; `--oracle` runs nothing, and compares the cases without workers with what the oracle says.
 
 The program is built from the sources by `rt try`, which proves nothing; `--program PATH` runs one that is built already.
@@ -24,6 +25,10 @@ WORKED = "a-letter-is-cut"
 CUT_IN_THE_LETTER = b"deliver configmaps 43\n"
 STEPS = 100
 NAMES = "abcdef"
+WINDOWS = [1, 2, 4, 1024]
+CHANGES = 2000
+ASKED_AFTER = 1000
+MAPS, PODS = "/api/v1/namespaces/default/configmaps", "/api/v1/namespaces/default/pods"
 LETTERS = ["v", "w", "é", "語", "😀"]
 
 
@@ -90,6 +95,38 @@ def random_cases(count, seed):
     return [run.Case(f"random-{number:05}", given, oracle.simulate(given)) for number, given in enumerate(schedules)]
 
 
+def change(chosen, server):
+    """Returns a request that changes one of three ConfigMaps; one in three removes it, if it is there."""
+    name = chosen.choice("abc")
+    body = f'{{"metadata":{{"name":"{name}"}},"data":{{"k":"{server.present()}"}}}}'
+    if ("configmaps", "default", name) not in server.objects:
+        return f"POST {MAPS} {body}"
+    return f"DELETE {MAPS}/{name}" if chosen.randrange(3) == 0 else f"PUT {MAPS}/{name} {body}"
+
+
+def looks(chosen, server):
+    """Returns exact lists and watches about the floor, about the present and between."""
+    floor, present = server.floor("configmaps"), server.present()
+    near = [at + it for at in (floor, present) for it in range(-2, 3)]
+    asked = near + [1 + present * it // 5 for it in range(5)] + [chosen.randrange(1, present + 1) for _ in range(5)]
+    queries = [f"resourceVersion={it}&resourceVersionMatch=Exact" for it in asked if it > 0] + [f"watch=true&resourceVersion={it}" for it in asked if it > 0]
+    return [f"GET /api/v1/configmaps?{query}" for query in queries]
+
+
+def window_case(window, chosen):
+    """Returns many changes of three ConfigMaps and looks at them; one in four comes some revisions later, after changes of a Pod."""
+    server, lines = oracle.Server(window), [f"config window={window} workers=1"]
+    for number in range(1, CHANGES + 1):
+        pod = [f'POST {PODS} {{"metadata":{{"name":"p"}}}}', f"DELETE {PODS}/p"] * 2 if chosen.randrange(4) == 0 else []
+        for asked in pod + [change(chosen, server)]:
+            server.answer(asked.encode())
+            lines.append(f"request {asked}")
+        if number % ASKED_AFTER == 0:
+            lines += [f"request {asked}" for asked in looks(chosen, server)]
+    given = "".join(f"{line}\n" for line in lines).encode()
+    return run.Case(f"a-window-of-{window:04}-serves-as-a-plain-list", given, oracle.simulate(given))
+
+
 def has_workers(case):
     """Returns whether a worker has a part in a case."""
     return any(line.startswith(b"take ") for line in case.given.split(b"\n"))
@@ -113,7 +150,9 @@ def main():
     parser.add_argument("--seed", type=int, default=1)
     parser.add_argument("word", nargs="?", default="")
     asked = parser.parse_args()
-    made = cut_after_each_byte() + random_cases(asked.random, asked.seed)
+    chosen = random.Random(asked.seed)
+    windows = [window_case(window, chosen) for window in WINDOWS]
+    made = cut_after_each_byte() + windows + random_cases(asked.random, asked.seed)
     wanted = run.cases(CASES, "simulate", asked.word) + [case for case in made if asked.word in case.name]
     if asked.oracle:
         by_oracle(wanted)

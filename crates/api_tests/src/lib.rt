@@ -1,4 +1,4 @@
-//! Tests of `api`: connections over memory, byte for byte, and devices that fail once.
+//! Tests of `api`: connections over memory whose devices fail once, and requests whose growths are refused.
 #![tactic(auto)]
 
 #[cfg(test)]
@@ -7,9 +7,5 @@ mod exchanges;
 mod failing_tests;
 #[cfg(test)]
 mod memory_tests;
-#[cfg(test)]
-mod refusal_tests;
-#[cfg(test)]
-mod reply_tests;
 #[cfg(test)]
 mod texts;

@@ -1,15 +1,8 @@
-//! Tests of objects, their keys and what is done to them: expected texts from outside, and that calls succeed.
+//! Tests of texts and objects on what no line of a request can say: revisions and clusters of any size, values that nest deeper than a
+//! body, and how an object is laid out.
 #![tactic(auto)]
 
 #[cfg(test)]
-mod lifecycle_tests;
+mod stored_objects;
 #[cfg(test)]
-mod meta_tests;
-#[cfg(test)]
-mod pages_tests;
-#[cfg(test)]
-mod reply_tests;
-#[cfg(test)]
-mod selector_tests;
-#[cfg(test)]
-mod validate_tests;
+mod uids;

@@ -1,7 +1,5 @@
-//! Tests of `request_heads`: heads over readers that give pieces of any size, and that fail once.
+//! Tests of `request_heads`: heads over readers that fail once, or are interrupted.
 #![tactic(auto)]
 
 #[cfg(test)]
 mod reading_tests;
-#[cfg(test)]
-mod value_tests;

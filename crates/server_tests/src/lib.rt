@@ -1,6 +1,9 @@
-//! Tests of a server on the calls that the program does not make. Its other calls are run by the program's own lines and by
-//! the conformance cases.
+//! Tests of what a server keeps and of the frames of its watches, on input that no line of a request and no simulated step can give.
 #![tactic(auto)]
 
 #[cfg(test)]
-mod desk_tests;
+mod frames;
+#[cfg(test)]
+mod journals;
+#[cfg(test)]
+mod reflectors;

@@ -1,0 +1,48 @@
+//! Objects that nest deeper than a body may, and how they are laid out.
+use definitions::kinds::Kind;
+use json_values::values::has_float;
+use meta::{Object, StoredObject};
+use serde_json::{Map, Value};
+use std::alloc::{AllocError, Global};
+use std::mem::size_of;
+
+/// Returns a value that nests deeper than a text that is read back.
+fn deep(alloc: Global) -> Result<Value, AllocError> {
+    let mut value = Value::Null;
+    for _ in 0..200u32 {
+        let mut items = Vec::new(alloc);
+        items.push(value)?;
+        value = Value::Array(items);
+    }
+    let mut members = Map::new(alloc);
+    members.insert(String::from_str(alloc, "deep")?, value)?;
+    Ok(Value::Object(members))
+}
+
+/// Returns whether an object that nests deep is the same after it was stored and opened, by its text.
+fn is_opened(alloc: Global) -> Result<bool, AllocError> {
+    let value = deep(alloc)?;
+    if has_float(&value) || !value.is_object() {
+        return Ok(false);
+    }
+    let object = Object::from_whole(Kind::ConfigMap, value);
+    let stored = StoredObject::new(alloc, &object)?;
+    let text = stored.open(alloc)?.text(alloc)?;
+    Ok(text.as_str() == stored.text())
+}
+
+// No body nests as deep, but an object that does is opened all the same.
+#[test]
+fn an_object_that_nests_deep_is_stored(rt: HostRuntime) {
+    assert_eq!(rt; is_opened(rt.alloc()), Ok(true));
+}
+
+/// Takes a type whose values threads send and share.
+fn goes_between_threads<T: Send + Sync>() {}
+
+// The store keeps one beside each key, and threads send them.
+#[test]
+fn a_stored_object_is_one_word(rt: HostRuntime) {
+    goes_between_threads::<StoredObject>();
+    assert_eq!(rt; size_of::<StoredObject>(), 8);
+}

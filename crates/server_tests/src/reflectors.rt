@@ -1,0 +1,79 @@
+//! Reflectors that are given bodies and frames which no server of ours writes.
+use controllers::reflectors::{Ask, End};
+use definitions::kinds::Kind;
+use reflector::faults::ListFault;
+use reflector::reflectors::Reflector;
+use std::alloc::Global;
+
+const LIST: &str =
+    "{\"apiVersion\":\"v1\",\"items\":[{\"data\":{\"k\":\"v\"},\"metadata\":{\"creationTimestamp\":\"2026-01-01T00:00:00Z\",\"name\":\"a\",\"namespace\":\"default\",\"resourceVersion\":\"2\",\"uid\":\"00000000-0000-8000-8000-000000000002\"}}],\"kind\":\"ConfigMapList\",\"metadata\":{\"resourceVersion\":\"2\"}}";
+
+/// A frame after the list, what ends the watch, and what is then asked for.
+const FRAMES: [(&str, Option<End>, Ask); 3] = [
+    (
+        "{\"object\":{\"code\":410},\"type\":\"ERROR\"}\n",
+        Some(End::Expired),
+        Ask::List,
+    ),
+    (
+        "{\"object\":{\"metadata\":{\"name\":\"a\",\"namespace\":\"d\",\"uid\":\"u\",\"resourceVersion\":\"2\"}},\"type\":\"ADDED\"}\n",
+        Some(End::Unreadable),
+        Ask::List,
+    ),
+    (
+        "{\"object\":{\"apiVersion\":\"v1\",\"kind\":\"ConfigMap\",\"metadata\":{\"resourceVersion\":\"5\"}},\"type\":\"BOOKMARK\"}\n",
+        None,
+        Ask::Watch(5),
+    ),
+];
+
+/// Returns whether a frame ends the watch so, and this is asked for next.
+fn ends_so(alloc: Global, text: &str, end: Option<End>, next: Ask) -> bool {
+    let mut reflector = Reflector::new(alloc, Kind::ConfigMap);
+    if reflector.on_list(alloc, LIST.as_bytes()).is_err() {
+        return false;
+    }
+    match reflector.feed(alloc, text.as_bytes()) {
+        Ok(fed) => fed.end == end && reflector.next() == next,
+        Err(_) => false,
+    }
+}
+
+/// Returns the first frame that does not end the watch as it has to.
+fn first_unlike(alloc: Global) -> Option<usize> {
+    for (place, frame) in FRAMES.iter().enumerate() {
+        if !ends_so(alloc, frame.0, frame.1, frame.2) {
+            return Some(place);
+        }
+    }
+    None
+}
+
+#[test]
+fn watches_end(rt: HostRuntime) {
+    assert_eq!(rt; first_unlike(rt.alloc()), None);
+}
+
+/// What is no list of ConfigMaps.
+const OTHERS: [&str; 3] = [
+    "{",
+    "{\"apiVersion\":\"v1\",\"items\":[],\"kind\":\"PodList\",\"metadata\":{\"resourceVersion\":\"2\"}}",
+    "{\"apiVersion\":\"v1\",\"items\":[{}],\"kind\":\"ConfigMapList\",\"metadata\":{\"resourceVersion\":\"2\"}}",
+];
+
+/// Returns the first body that is not refused.
+fn first_accepted(alloc: Global) -> Option<usize> {
+    for (place, body) in OTHERS.iter().enumerate() {
+        let mut reflector = Reflector::new(alloc, Kind::ConfigMap);
+        match reflector.on_list(alloc, body.as_bytes()) {
+            Err(ListFault::Unreadable) => {}
+            _ => return Some(place),
+        }
+    }
+    None
+}
+
+#[test]
+fn lists_are_refused(rt: HostRuntime) {
+    assert_eq!(rt; first_accepted(rt.alloc()), None);
+}
