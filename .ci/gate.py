@@ -138,6 +138,7 @@ def asked_of_program(log):
         "clients": ["clients/run.py"],
         "following": ["following/run.py", "--follower", FOLLOWER, "--short"],
         "controllers": ["controllers/run.py", "--short"],
+        "README": ["readme.py"],
     }
     ran = {name: Run([sys.executable, "-B", f"conformance/{script}", "--program", PROGRAM, *rest], log) for name, (script, *rest) in words.items()}
     ran["pictures"] = Run([sys.executable, "-B", "conformance/simulate/pictures.py"], log)

@@ -57,7 +57,7 @@ def run_commands(program, text):
     wrong, rest = [], printed
     for number, (_, wanted) in enumerate(steps):
         own, mark, rest = rest.partition(f"\n@{number}\n")
-        wrong += [line for line in wanted if not mark or not re.search(f"(?m)^{pattern(line)}$", own)]
+        wrong += [line for line in wanted if not mark or not re.search(pattern(line), own)]
     return wrong, sum(len(wanted) for _, wanted in steps)
 
 
