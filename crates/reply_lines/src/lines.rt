@@ -11,7 +11,7 @@ ghost use Rattle.meta.specs.Members.{member_of};
 ghost use Rattle.keys.specs.declared.fault.Fault.TheVariants as faults;
 ghost use Rattle.revisions.specs.Events.{event_seen};
 ghost use Rattle.revisions.specs.Watches.{last_bookmark};
-ghost use Rattle.session.specs.Shown.{line_seen};
+ghost use Rattle.reply_lines.specs.Shown.{line_seen};
 
 use definitions::kinds::Kind;
 use keys::Fault;

@@ -3,8 +3,8 @@ use Rattle.definitions.specs.Streams as streams
 use Rattle.definitions.specs.Streams.{event as change, bookmark, initial}
 use Rattle.meta.specs.Members.{member_of}
 use Rattle.revisions.specs.Events.{event_seen}
-use Rattle.session.specs.declared.lines.Shown.{Shown}
-use Rattle.session.specs.declared.lines.Shown.TheVariants.{Change, Bookmark, Initial}
+use Rattle.reply_lines.specs.declared.lines.Shown.{Shown}
+use Rattle.reply_lines.specs.declared.lines.Shown.TheVariants.{Change, Bookmark, Initial}
 
 -- the line as the definitions say it
 abbrev pub line_seen : Shown → streams.Line
