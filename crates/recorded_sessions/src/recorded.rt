@@ -20,7 +20,7 @@ pub struct RecordedSession {
 }
 
 impl Model for RecordedSession {
-    ghost use Rattle.cluster.specs.RecordedStates.{RecordedState, coded_recorded};
+    ghost use Rattle.recorded_sessions.specs.RecordedStates.{RecordedState, coded_recorded};
 
     ghost Value = { RecordedState };
 
@@ -40,7 +40,7 @@ impl RecordedSession {
     ghost use Rattle.session.specs.SessionStates as sessions;
     ghost use Rattle.session.specs.SessionStates.{HasRoom, accepted, changed_by, of_write, reply_to, state_after};
     ghost use Rattle.requests.specs.Requests.{request_of};
-    ghost use Rattle.cluster.specs.RecordedStates.{begun, write_in, journal_after};
+    ghost use Rattle.recorded_sessions.specs.RecordedStates.{begun, write_in, journal_after};
 
     /// Returns a session that has written nothing, whose windows have this size. The error is running out of memory.
     pub fn new(alloc: Global, window: usize) -> Result<RecordedSession, AllocError>

@@ -3,8 +3,8 @@ use Rattle.line_protocol.specs.Lines.{line_of}
 use Rattle.session.specs.Effects.{effect_of}
 use Rattle.session.specs.SessionStates.{changed_by, effect_on, HasRoom}
 use Rattle.session.proofs.Changes.{effects_change, effects_fit}
-use Rattle.cluster.specs.RecordedStates.{RecordedState}
-use Rattle.cluster.proofs.recorded.RecordedSession.serve_text.Goals as goal
+use Rattle.recorded_sessions.specs.RecordedStates.{RecordedState}
+use Rattle.recorded_sessions.proofs.recorded.RecordedSession.serve_text.Goals as goal
 
 pub commit-requires : goal.commit-requires
 commit-requires c =

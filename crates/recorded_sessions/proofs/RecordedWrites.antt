@@ -20,7 +20,7 @@ use Rattle.server_state.specs.Servers.{Server, list_by, compact_by, watch_served
 use Rattle.session.proofs.Followed.{same_outcome}
 use Rattle.session.specs.Laws.{Follows}
 use Rattle.session.specs.SessionStates.{SessionState, reply_for, of_write, written_by, of_compaction}
-use Rattle.cluster.specs.RecordedStates.{write_in, journal_after}
+use Rattle.recorded_sessions.specs.RecordedStates.{write_in, journal_after}
 
 -- ---- what is asked
 
