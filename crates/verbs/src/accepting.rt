@@ -10,11 +10,11 @@ use deletes::delete::delete;
 use keys::Fault;
 use meta::Write;
 use replacements::patch::patch;
-use replacements::status::update_status;
 use replacements::update::update;
 use reply::Reply;
 use requests::Request;
 use stamps::moments::Moment;
+use status_updates::update_status;
 use std::alloc::Global;
 use store::Store;
 

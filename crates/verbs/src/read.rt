@@ -6,7 +6,7 @@ ghost use Rattle.keys.specs.Keys.{key_of};
 ghost use Rattle.selector.specs.Views.{view_of};
 ghost use Rattle.answers.specs.Serves.{Serves};
 
-use answers::list_texts::page_text;
+use list_texts::page_text;
 use keys::{Fault, Key};
 use meta::Write;
 use reply::Reply;
