@@ -7,16 +7,16 @@ ghost use Rattle.reconciling.specs.OutcomeTexts.{outcome_text, answer_text, verb
 ghost use Rattle.reconciling.specs.Outcomes as outcomes;
 ghost use Rattle.turns.specs.Commands.{command_of};
 ghost use Rattle.work_keys.specs.WorkKeys.{work_key_of};
-ghost use Rattle.workers.specs.Seen.{answer_of};
+ghost use Rattle.turn_parts.specs.Seen.{answer_of};
 ghost use Rattle.std.specs.Prelude.{◌++◌, ◌∷◌, OnOk};
 
 use crate::words::{begin, controller, end, push, push_key, push_named, push_number};
 use definitions::kinds::Kind;
 use keys::Key;
 use std::alloc::{AllocError, Global};
+use turn_parts::Answer;
 use turns::Command;
 use work_keys::WorkKey;
-use workers::Answer;
 
 /// Returns the line of a step that was not open. The error is running out of memory.
 pub fn no_step(alloc: Global) -> Result<Vec<u8>, AllocError>

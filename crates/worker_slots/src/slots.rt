@@ -1,7 +1,7 @@
 //! Slots of workers.
 ghost use Rattle.std.specs.Prelude.{◌≡◌, true, OnOk, OnErr, Some, None, map, option_map, option_and_then, is_some};
 ghost use Rattle.reconciling.specs.Turns.{with_expected, with_sight};
-ghost use Rattle.managers.specs.Slots.{next_in};
+ghost use Rattle.worker_slots.specs.Slots.{next_in};
 ghost use Rattle.workers.specs.Seen.{sight_of, step_of, key_read, found_under};
 
 use meta::Object;
@@ -11,13 +11,13 @@ use workers::{Sight, Turn};
 
 /// For each worker its turn, or none.
 #[derive(Drop)]
-pub(crate) struct Slots {
+pub struct Slots {
     turns: Vec<Option<Turn>>,
 }
 
 impl Model for Slots {
-    ghost use Rattle.managers.specs.Codes.{coded_slots};
-    ghost use Rattle.managers.specs.Slots as slots;
+    ghost use Rattle.worker_slots.specs.Codes.{coded_slots};
+    ghost use Rattle.worker_slots.specs.Slots as slots;
 
     ghost Value = { slots.Slots };
 
@@ -29,11 +29,11 @@ impl Model for Slots {
 impl Slots {
     ghost use Rattle.std.specs.Prelude.{◌≡◌, ◌<◌, true, IfOk, OnOk, OnErr, Some, None, length, map, option_map, option_and_then, is_some, replicate, slice_set};
     ghost use Rattle.reconciling.specs.Turns.{with_expected, with_sight};
-    ghost use Rattle.managers.specs.Slots.{is_idle, turn_of, next_in, gone_on};
+    ghost use Rattle.worker_slots.specs.Slots.{is_idle, turn_of, next_in, gone_on};
     ghost use Rattle.workers.specs.Seen.{sight_of, step_of, key_read, found_under};
 
     /// Returns the slots of so many workers, none of which is in a turn. The error is running out of memory.
-    pub(crate) fn new(alloc: Global, workers: usize) -> Result<Slots, AllocError>
+    pub fn new(alloc: Global, workers: usize) -> Result<Slots, AllocError>
         ensures { IfOk result (λ s. s ≡ replicate workers None) }
     {
         let mut turns = Vec::with_capacity(alloc, workers)?;
@@ -44,14 +44,14 @@ impl Slots {
     }
 
     /// Ends all turns. It takes no memory.
-    pub(crate) fn clear(&mut self)
+    pub fn clear(&mut self)
         ensures { self.new ≡ map (λ t. None) self.old }
     {
         end_all(self.turns.as_mut_slice());
     }
 
     /// Returns whether there is such a worker, and it is in no turn. It takes no memory.
-    pub(crate) fn is_idle(&self, worker: u64) -> bool
+    pub fn is_idle(&self, worker: u64) -> bool
         ensures { result ≡ is_idle worker self.now }
     {
         match self.turns.get(worker as usize) {
@@ -61,7 +61,7 @@ impl Slots {
     }
 
     /// Returns the turn that a worker is in, if there is such a worker and it is in one. It takes no memory.
-    pub(crate) fn get(&self, worker: u64) -> Option<&Turn>
+    pub fn get(&self, worker: u64) -> Option<&Turn>
         ensures { option_map (λ t. t.now) result ≡ turn_of worker self.now }
     {
         match self.turns.get(worker as usize) {
@@ -71,7 +71,7 @@ impl Slots {
     }
 
     /// Puts a turn, or none, in a worker's slot. It takes no memory.
-    pub(crate) fn set(&mut self, worker: u64, turn: Option<Turn>)
+    pub fn set(&mut self, worker: u64, turn: Option<Turn>)
         requires { worker < length self.old }
         ensures { self.new ≡ slice_set self.old worker turn }
     {
@@ -80,7 +80,7 @@ impl Slots {
 
     /// Adds to a worker's turn what it saw, which is what comes next in it. The error is running out of memory, and then nothing has
     /// changed.
-    pub(crate) fn see(&mut self, worker: u64, sight: Sight) -> Result<(), AllocError>
+    pub fn see(&mut self, worker: u64, sight: Sight) -> Result<(), AllocError>
         requires { next_in (turn_of worker self.old) ≡ Some (step_of sight) }
         ensures ok { OnOk result (self.new ≡ gone_on (with_sight (sight_of sight)) worker self.old) }
         ensures err { OnErr result (self.new ≡ self.old) }
@@ -90,7 +90,7 @@ impl Slots {
 
     /// Adds to a worker's turn what was found under the key that it reads live next. The error is running out of memory, and then nothing
     /// has changed.
-    pub(crate) fn add_read(&mut self, worker: u64, found: Option<Object>) -> Result<(), AllocError>
+    pub fn add_read(&mut self, worker: u64, found: Option<Object>) -> Result<(), AllocError>
         requires { is_some (option_and_then key_read (next_in (turn_of worker self.old))) ≡ true }
         ensures ok { OnOk result (self.new ≡ gone_on (found_under (option_and_then key_read (next_in (turn_of worker self.old))) (option_map (λ o. o.value) found)) worker self.old) }
         ensures err { OnErr result (self.new ≡ self.old) }
@@ -99,7 +99,7 @@ impl Slots {
     }
 
     /// Notes in a worker's turn that what its plan makes of pods is expected. It takes no memory.
-    pub(crate) fn expect(&mut self, worker: u64)
+    pub fn expect(&mut self, worker: u64)
         requires { is_some (turn_of worker self.old) ≡ true }
         ensures { self.new ≡ gone_on with_expected worker self.old }
     {

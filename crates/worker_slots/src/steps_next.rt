@@ -8,7 +8,7 @@ use steps::Action;
 use workers::{NextStep, Turn};
 
 /// Returns whether an action is the step that comes next in a turn. It takes no memory.
-pub(crate) fn is_next(turn: &Turn, action: Action) -> bool
+pub fn is_next(turn: &Turn, action: Action) -> bool
     ensures { result ≡ is_for (action_of action) (next turn.now) }
 {
     match (turn.next(), action) {

@@ -2,7 +2,7 @@
 use Rattle.std.proofs.Common.{◌≡◌, ◌∙◌, ◌≤◌, ℕ, length, map, replicate, take, Option, None, sym, arith}
 use Rattle.std.proofs.lemmas.List.{take_all}
 use Rattle.std.proofs.lemmas.Simd.{splat_is_map}
-use Rattle.managers.specs.Slots.{Slots}
+use Rattle.worker_slots.specs.Slots.{Slots}
 use Rattle.reconciling.specs.Turns.{Turn}
 
 -- where all up to the end are none, all are

@@ -30,7 +30,7 @@ fn version(version: &Option<Version>) -> Result<Option<Version>, AllocError>
 }
 
 /// Returns a copy of a command. The error is running out of memory.
-pub(crate) fn command(command: &Command) -> Result<Command, AllocError>
+pub fn command(command: &Command) -> Result<Command, AllocError>
     ensures { IfOk result (λ copy. command_of copy ≡ command_of command.now) }
 {
     match command {
@@ -61,7 +61,7 @@ pub(crate) fn command(command: &Command) -> Result<Command, AllocError>
 }
 
 /// Returns a copy of an answer. The error is running out of memory.
-pub(crate) fn answer(answer: &Answer) -> Result<Answer, AllocError>
+pub fn answer(answer: &Answer) -> Result<Answer, AllocError>
     ensures { IfOk result (λ copy. answer_of copy ≡ answer_of answer.now) }
 {
     match answer {
