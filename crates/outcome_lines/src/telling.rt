@@ -3,8 +3,8 @@ ghost use Rattle.std.specs.Prelude.{◌≡◌, codes, ◌++◌, ◌∷◌, ◌+�
 ghost use Rattle.definitions.specs.Kinds.{plural};
 ghost use Rattle.simulation.specs.OutcomeTexts.{outcome_text, end_words, words_line};
 ghost use Rattle.followers.specs.Outcomes.{outcome_of};
-ghost use Rattle.followers.specs.Texts.{after_words};
-ghost use Rattle.simulations.specs.Ready.{IsReady};
+ghost use Rattle.outcome_lines.specs.Texts.{after_words};
+ghost use Rattle.outcome_lines.specs.Ready.{IsReady};
 
 use controllers::reflectors::End;
 use definitions::kinds::Kind;
@@ -16,7 +16,7 @@ use std::alloc::{AllocError, Global};
 const LONGEST: usize = 128;
 
 /// Returns an empty line, with room for each outcome that is no reply. The error is running out of memory.
-pub(crate) fn ready(alloc: Global) -> Result<Vec<u8>, AllocError>
+pub fn ready(alloc: Global) -> Result<Vec<u8>, AllocError>
     ensures { IfOk result IsReady }
 {
     Vec::with_capacity(alloc, LONGEST)
@@ -148,7 +148,7 @@ fn expired(line: Vec<u8>, kind: Kind) -> Vec<u8>
 }
 
 /// Returns the line by which an outcome is told, written into an empty line with room for it; a reply is a line already, or nothing.
-pub(crate) fn told(line: Vec<u8>, outcome: Outcome) -> Vec<u8>
+pub fn told(line: Vec<u8>, outcome: Outcome) -> Vec<u8>
     requires ready { IsReady line }
     ensures { result.items ≡ outcome_text (outcome_of outcome) }
 {

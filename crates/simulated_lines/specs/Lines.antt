@@ -30,3 +30,10 @@ module _ {W : Type 0} (opened : Config → W) (after : W → Step → W) (told :
 
   abbrev pub next : Option W → List ℕ → Option W
   next s t = if length t == 0 then s else Some (world_after s t)
+
+-- neither has begun, or the one stands for the other
+abbrev pub FollowsBy : {W C : Type 0} → (W → C → Type 0) → Option W → Option C → Type 0
+FollowsBy R None None = Unit {0}
+FollowsBy R None (Some c) = ⊥
+FollowsBy R (Some w) None = ⊥
+FollowsBy R (Some w) (Some c) = R w c
