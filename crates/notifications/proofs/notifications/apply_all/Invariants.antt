@@ -2,8 +2,8 @@ use Rattle.std.proofs.Common.{◌≡◌, ◌++◌, map, drop}
 use Rattle.controllers.specs.Informers.{all_applied}
 use Rattle.reflector.specs.Deltas.{deltas_of}
 use Rattle.simulation.specs.Followers.{notifications}
-use Rattle.followers.specs.Notified.{notification_of}
-use Rattle.followers.proofs.notifications.apply_all.Given as goal
+use Rattle.notifications.specs.Notified.{notification_of}
+use Rattle.notifications.proofs.notifications.apply_all.Given as goal
 
 -- with what is still to be applied, it is all
 abbrev pub invariant-loop-delta : goal.invariant-loop-delta
