@@ -1,1 +1,1 @@
-pub mod PageTexts
+pub mod Replacing

@@ -1,4 +1,3 @@
 pub mod Bodies
 pub mod Naming
 pub mod Serves
-pub mod PageTexts

@@ -16,8 +16,8 @@ use Rattle.simulation.specs.Followers.{Follower, begun}
 use Rattle.simulation.specs.Moves as moving
 use Rattle.simulation.specs.Moves.{Move, answers_by, listed_of, move_by}
 use Rattle.simulation_laws.proofs.Serving.{same_answers}
-use Rattle.cluster.specs.RecordedStates as recorded
-use Rattle.cluster.specs.RecordedStates.{RecordedState, journal_after}
+use Rattle.recorded_sessions.specs.RecordedStates as recorded
+use Rattle.recorded_sessions.specs.RecordedStates.{RecordedState, journal_after}
 use Rattle.cluster.specs.Standing.{Stands}
 use Rattle.cluster.specs.ClusterStates.{ClusterState, follower, with_follower, step}
 use Rattle.cluster.proofs.Stood.{same_follower, stood, stands_opened}

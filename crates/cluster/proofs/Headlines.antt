@@ -25,7 +25,7 @@ use Rattle.steps.specs.Steps.{step_of}
 use Rattle.steps.specs.declared.steps.Step.{Step}
 use Rattle.cluster.specs.declared.stopped.Stopped.{Stopped}
 use Rattle.cluster.specs.Headline.{ShowsLists, RevisionsRise, ReplacesNamedVersion, ReplacesNamedVersions}
-use Rattle.cluster.specs.RecordedStates.{write_in, journal_after}
+use Rattle.recorded_sessions.specs.RecordedStates.{write_in, journal_after}
 use Rattle.cluster.specs.Standing.{StandsFor, Stands}
 use Rattle.cluster.specs.ClusterStates.{ClusterState, published, step, run}
 use Rattle.cluster.proofs.Taking.{run_last}

@@ -1,4 +1,3 @@
-pub mod RecordedWrites
 pub mod Stood
 pub mod Headlines
 pub mod Answered

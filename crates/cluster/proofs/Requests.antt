@@ -21,7 +21,7 @@ use Rattle.simulation_laws.specs.ClusterLaws.{IsFollowed}
 use Rattle.simulation_laws.specs.FollowerLaws.{IsFollowing}
 use Rattle.simulation_laws.proofs.Growing.{stand}
 use Rattle.simulation_laws.proofs.Runs.{with_session}
-use Rattle.cluster.specs.RecordedStates.{RecordedState}
+use Rattle.recorded_sessions.specs.RecordedStates.{RecordedState}
 use Rattle.cluster.specs.Requested.{IsWriteOf, IsRead, written}
 use Rattle.cluster.specs.Standing.{StandsFor, Stands}
 use Rattle.cluster.specs.ClusterStates.{ClusterState}

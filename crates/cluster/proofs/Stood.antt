@@ -14,7 +14,7 @@ use Rattle.simulation_laws.proofs.Runs.{keeps, runs_followed}
 use Rattle.simulation_laws.proofs.Serving.{servers_serve}
 use Rattle.cluster.specs.Standing.{StandsFor, Stands}
 use Rattle.cluster.specs.ClusterStates.{ClusterState, opened, answered_line, follower, with_follower, step, run}
-use Rattle.cluster.proofs.RecordedWrites.{line_recorded, compacted}
+use Rattle.recorded_sessions.proofs.RecordedWrites.{line_recorded, compacted}
 
 -- ---- one step
 

@@ -15,7 +15,7 @@ use Rattle.simulation.specs.Codes.{coded_follower}
 use Rattle.simulation.specs.Followers as followers
 use Rattle.simulation.specs.Followers.{Follower}
 use Rattle.simulation.specs.Moves.{Moved, Outcome, replied, restarted, answers_by, move_by}
-use Rattle.cluster.specs.RecordedStates.{journal_after}
+use Rattle.recorded_sessions.specs.RecordedStates.{journal_after}
 
 -- a session, all that it wrote, the oldest first, and what follows each kind
 pub record ClusterState : Type 0 where

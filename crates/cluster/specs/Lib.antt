@@ -1,4 +1,3 @@
-pub mod RecordedStates
 pub mod ClusterStates
 pub mod Standing
 pub mod Requested

@@ -1,9 +1,9 @@
 //! Clusters.
-use crate::recorded::RecordedSession;
 use crate::stopped::Stopped;
 use definitions::kinds::Kind;
 use followers::{Follower, Outcome};
 use indexer::Indexed;
+use recorded_sessions::RecordedSession;
 use revisions::Journal;
 use std::alloc::{AllocError, Global};
 use std::marker::Model;

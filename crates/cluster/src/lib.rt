@@ -8,7 +8,6 @@
 
 pub mod changes;
 pub mod clusters;
-pub mod recorded;
 pub mod requested;
 pub mod stopped;
 

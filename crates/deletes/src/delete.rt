@@ -12,13 +12,13 @@ ghost use Rattle.keys.specs.Keys.{key_of};
 ghost use Rattle.answers.specs.Serves.{Serves};
 
 use answers::generations::at_revision;
-use answers::placing::is_full;
 use answers::stored_texts::stored_with_text;
 use definitions::kinds::Kind;
 use definitions::policies::Policy;
 use keys::{Fault, Key};
 use lifecycle::{DeleteFault, DeleteOptions, Fate, decide_delete};
 use meta::{Object, Write};
+use placing::is_full;
 use reply::{Reply, success_text};
 use stamps::moments::Moment;
 use std::alloc::{AllocError, Global};

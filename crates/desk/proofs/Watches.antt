@@ -13,7 +13,7 @@ use Rattle.definitions.specs.Versions.{watched, last_change}
 use Rattle.definitions.specs.Windows.{Change as Kept, within}
 use Rattle.server_state.specs.Recorded.{Window, above, event_recorded, events_recorded, recorded_since}
 use Rattle.revisions.specs.Events.{event_seen}
-use Rattle.revisions.specs.declared.events.Event.{Event}
+use Rattle.events.specs.declared.event.Event.{Event}
 use Rattle.watch_cache.specs.Served.{Serves}
 use Rattle.revisions.specs.Watches.{watched_of}
 use Rattle.revisions.specs.declared.watched.Watched.{Watched}

@@ -10,10 +10,10 @@ ghost use Rattle.store.specs.Chunks.{after_key};
 ghost use Rattle.desk.specs.Pages.{ShowsPage};
 
 use crate::servers::Server;
-use answers::list_texts::page_text;
 use definitions::kinds::Kind;
 use definitions::versions::At;
 use keys::{Fault, Key};
+use list_texts::page_text;
 use meta::Member;
 use pages::{Token, page_of};
 use reply::Reply;

@@ -4,8 +4,8 @@ ghost use Rattle.std.specs.Prelude.{◌≡◌, IfOk, option_map};
 use crate::servers::Server;
 use keys::Fault;
 use meta::{StoredObject, Write};
+use object_requests::Request;
 use reply::Reply;
-use requests::Request;
 use stamps::moments::Moment;
 use std::alloc::{AllocError, Global};
 use watch_cache::Change;
@@ -18,7 +18,7 @@ impl Server {
     ghost use Rattle.definitions.specs.Verbs.{accept_at, overflows};
     ghost use Rattle.meta.specs.Writes.{write_of};
     ghost use Rattle.keys.specs.declared.fault.Fault.TheVariants as fault;
-    ghost use Rattle.requests.specs.Requests.{request_of};
+    ghost use Rattle.object_requests.specs.Requests.{request_of};
     ghost use Rattle.desk.specs.Replies.{Replies};
 
     /// Answers a request at a moment, applies what it writes, and returns the reply. An error, a refusal or running out of

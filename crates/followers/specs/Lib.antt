@@ -1,4 +1,4 @@
 pub mod Answered
-pub mod Notified
+pub mod Listed
+pub use Rattle.notifications.specs.Notified
 pub mod Outcomes
-pub mod Texts

@@ -1,17 +1,17 @@
 //! What follows one kind.
 ghost use Rattle.std.specs.Prelude.{◌≡◌};
 ghost use Rattle.reflector.specs.Deltas.{delta_of};
-ghost use Rattle.followers.specs.Notified.{listed_count};
+ghost use Rattle.followers.specs.Listed.{listed_count};
 
-use crate::links::Link;
-use crate::notifications::{Notification, apply_all};
 use crate::outcomes::Outcome;
 use controllers::reflectors::Ask;
 use definitions::versions::At;
 use desk::Server;
 use indexer::Indexed;
 use keys::Fault;
+use links::Link;
 use meta::Kind;
+use notifications::{Notification, apply_all};
 use reflector::{Delta, Fed, Reflector};
 use revisions::Watched;
 use selector::View;
@@ -38,7 +38,7 @@ impl Model for Follower {
     ghost use Rattle.reflector.specs.Deltas.{deltas_of};
     ghost use Rattle.simulation.specs.Followers as followers;
     ghost use Rattle.simulation.specs.Codes.{coded_follower};
-    ghost use Rattle.followers.specs.Notified.{notification_of};
+    ghost use Rattle.notifications.specs.Notified.{notification_of};
 
     ghost Value = { followers.Follower };
 
@@ -63,7 +63,7 @@ impl Follower {
     ghost use Rattle.definitions.specs.History.{unfiltered};
     ghost use Rattle.selector.specs.Views.{view_of};
     ghost use Rattle.followers.specs.Answered.{AnswersLists};
-    ghost use Rattle.followers.specs.Notified.{notification_of};
+    ghost use Rattle.notifications.specs.Notified.{notification_of};
     ghost use Rattle.followers.specs.Outcomes.{outcome_of};
     ghost use Rattle.steps.specs.Steps.{move_of};
 

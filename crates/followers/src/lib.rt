@@ -5,9 +5,6 @@
 #![tactic(auto)]
 
 pub mod followers;
-pub mod links;
-pub mod notifications;
-pub mod outcome_texts;
 pub mod outcomes;
 
 pub use followers::Follower;

@@ -1,7 +1,7 @@
 -- What a watch sends for an event.
 use Rattle.definitions.specs.Frames.{Frame, frame_kind}
-use Rattle.revisions.specs.declared.events.Event as revisions
+use Rattle.events.specs.declared.event.Event as code
 
 -- the frame that shows an event
-abbrev pub event_seen : revisions.Event → Frame
+abbrev pub event_seen : code.Event → Frame
 event_seen e = record { kind = frame_kind e.kind; object = e.object.value }

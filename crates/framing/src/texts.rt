@@ -11,9 +11,9 @@ ghost use Rattle.framing.specs.Texts.{framed_text, IsWithin, ReadsAs};
 
 use definitions::frames::FrameKind;
 use definitions::kinds::Kind;
+use events::Event;
 use keys::Fault;
 use meta::StoredObject;
-use revisions::Event;
 use serde_json::{Value, json};
 use std::alloc::{AllocError, Global};
 

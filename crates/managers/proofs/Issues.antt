@@ -18,7 +18,7 @@ use Rattle.session.specs.SessionStates.{SessionState, accepted}
 use Rattle.workers.specs.Seen.{command_issued}
 use Rattle.managers.specs.Issuing.{Coming, coming}
 use Rattle.managers.specs.Reached.{client_of, after_request, write_reaching}
-use Rattle.managers.specs.Slots.{Slots, in_slot, turn_of}
+use Rattle.worker_slots.specs.Slots.{Slots, in_slot, turn_of}
 
 -- ---- a turn in its slot
 

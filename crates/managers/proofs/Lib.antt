@@ -1,4 +1,3 @@
-pub mod InSlots
 pub mod Served
 pub mod Asking
 pub mod Issues

@@ -1,14 +1,12 @@
--- Codes by which models may store turns in slots, and a manager.
+-- A code by which a model may store a manager.
 use Rattle.std.specs.Prelude.{List, refl}
-use Rattle.std.specs.Coded.{Coded, code_by, coded×, coded_list, coded_option}
+use Rattle.std.specs.Coded.{Coded, code_by, coded×, coded_list}
 use Rattle.control.specs.Boards.{Board}
 use Rattle.control_desk.specs.Seen.{board_code}
-use Rattle.reconciling.specs.Codes.{coded_turn, coded_issued}
+use Rattle.reconciling.specs.Codes.{coded_issued}
 use Rattle.reconciling.specs.Managers.{Issued, Manager}
-use Rattle.managers.specs.Slots.{Slots}
-
-abbrev pub coded_slots : Coded Slots
-coded_slots = coded_list (coded_option coded_turn)
+use Rattle.worker_slots.specs.Codes.{coded_slots}
+use Rattle.worker_slots.specs.Slots.{Slots}
 
 abbrev pub coded_manager : Coded Manager
 coded_manager =

@@ -10,7 +10,7 @@ use Rattle.reconciling.specs.Outcomes as outcomes
 use Rattle.reconciling.specs.Turns.{Turn, with_issue}
 use Rattle.session.specs.SessionStates.{SessionState, accepted}
 use Rattle.managers.specs.Reached.{write_reaching}
-use Rattle.managers.specs.Seen.{issued_of}
+use Rattle.worker_slots.specs.Seen.{issued_of}
 use Rattle.managers.specs.declared.issuing.Issuing.{Issuing}
 
 -- the turn after it, what is recorded of it, what the server writes, if it writes anything, and the line that tells of it

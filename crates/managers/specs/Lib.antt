@@ -1,5 +1,3 @@
-pub mod Slots
-pub mod Seen
 pub mod Reached
 pub mod Codes
 pub mod Told

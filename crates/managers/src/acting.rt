@@ -1,10 +1,10 @@
 //! What workers do on the board, and all that they do.
-use crate::lines;
 use crate::manager::Manager;
-use crate::steps_next::is_next;
 use cluster::Cluster;
 use std::alloc::{AllocError, Global};
 use steps::Action;
+use worker_lines::lines;
+use worker_slots::is_next;
 use workers::{Expected, Turn};
 
 impl Manager {

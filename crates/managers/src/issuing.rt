@@ -1,5 +1,5 @@
 //! Commands that workers issue.
-ghost use Rattle.std.specs.Prelude.{◌≡◌, IfOk, OnOk, OnErr, IfSome, Some, true, is_some, option_map, string_bytes};
+ghost use Rattle.std.specs.Prelude.{◌≡◌, IfOk, OnOk, OnErr, IfSome, Some, option_map};
 ghost use Rattle.std.specs.Arc.{arc_value};
 ghost use Rattle.answer_laws.specs.AnswerLaws.{IsOfObject};
 ghost use Rattle.cluster.specs.Requested.{IsWriteOf, written};
@@ -7,30 +7,28 @@ ghost use Rattle.definitions.specs.Reached.{CanBeRead};
 ghost use Rattle.definitions.specs.Verbs as verbs;
 ghost use Rattle.managers.specs.Issuing.{coming, coming_of};
 ghost use Rattle.managers.specs.Reached.{asked_by, write_reaching};
-ghost use Rattle.managers.specs.Seen.{issued_of};
+ghost use Rattle.worker_slots.specs.Seen.{issued_of};
 ghost use Rattle.meta.specs.Writes.{write_of};
 ghost use Rattle.reconciling.specs.Managers as managers;
 ghost use Rattle.reconciling.specs.Managers.{learnt, reaching};
 ghost use Rattle.reconciling.specs.NextSteps.{next};
-ghost use Rattle.reconciling.specs.Turns as turns;
 ghost use Rattle.requests.specs.Requests.{request_of};
 ghost use Rattle.session.specs.SessionStates.{accepted};
 ghost use Rattle.steps.specs.Actions.{delivery_of};
-ghost use Rattle.turns.specs.Commands.{command_of};
-ghost use Rattle.workers.specs.Seen.{answer_of, answered_to, command_issued, data_of};
+ghost use Rattle.workers.specs.Seen.{answer_of, command_issued};
 
-use crate::issued::Issued;
 use crate::manager::Manager;
-use crate::{copies, lines};
 use cluster::Cluster;
 use keys::Fault;
 use meta::Write;
-use reply::Reply;
 use requests::Request;
 use std::alloc::{AllocError, Global};
 use std::sync::Arc;
 use steps::Delivery;
-use turns::Command;
+use worker_lines::lines;
+use worker_slots::Issued;
+use worker_slots::answering::{acceptance, answered_turn};
+use worker_slots::issued::recorded;
 use workers::{Answer, NextStep, Turn};
 
 /// What a worker learns of its command, and what the server is to write.
@@ -38,16 +36,6 @@ use workers::{Answer, NextStep, Turn};
 struct Answered {
     answer: Answer,
     write: Option<Write>,
-}
-
-/// Returns what a worker learns where its command is accepted with a reply. It takes no memory.
-fn acceptance(reply: Reply) -> Answer
-    ensures { answer_of result ≡ turns.accepted reply.code (data_of (string_bytes reply.text)) }
-{
-    Answer::Accepted {
-        code: reply.code,
-        text: reply.text,
-    }
 }
 
 /// Returns what the server answers to a request. The error is running out of memory.
@@ -123,33 +111,6 @@ pub(crate) struct Issuing {
     pub(crate) write: Option<Write>,
 }
 
-/// Returns what is recorded of a command that was issued. The error is running out of memory.
-fn recorded(
-    alloc: Global,
-    turn: &Turn,
-    command: &Command,
-    answer: &Answer,
-) -> Result<Arc<Issued, Global>, AllocError>
-    ensures { IfOk result (λ i. issued_of (arc_value i) ≡ record { turn = turn.now; command = command_of command.now; answer = answer_of answer.now }) }
-{
-    let issued = Issued {
-        turn: turn.try_copy()?,
-        command: copies::command(command)?,
-        answer: copies::answer(answer)?,
-    };
-    Ok(Arc::new(alloc, issued)?)
-}
-
-/// Returns a turn once its next command was answered. The error is running out of memory.
-fn answered_turn(turn: &Turn, answer: Answer) -> Result<Turn, AllocError>
-    requires { is_some (command_issued (next turn.now)) ≡ true }
-    ensures { IfOk result (λ t. t ≡ answered_to (command_issued (next turn.now)) (answer_of answer) turn.now) }
-{
-    let mut turn = turn.try_copy()?;
-    turn.answer(answer)?;
-    Ok(turn)
-}
-
 /// Returns what comes of the command that a turn issues next, if it issues one. Nothing has changed yet. The error is running out of memory.
 fn next_issue(
     alloc: Global,
@@ -183,7 +144,7 @@ impl Manager {
     ghost use Rattle.std.specs.Arc.{arc_value};
     ghost use Rattle.cluster.specs.Requested.{IsWriteOf, written};
     ghost use Rattle.meta.specs.Writes.{write_of};
-    ghost use Rattle.managers.specs.Seen.{issued_of};
+    ghost use Rattle.worker_slots.specs.Seen.{issued_of};
     ghost use Rattle.reconciling.specs.Managers as managers;
     ghost use Rattle.reconciling.specs.Managers.{act};
     ghost use Rattle.reconciling.specs.OutcomeTexts.{outcome_text};

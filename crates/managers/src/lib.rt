@@ -3,15 +3,10 @@
 #![tactic(auto)]
 
 mod acting;
-mod copies;
-pub mod issued;
 mod issuing;
-pub mod lines;
 pub mod manager;
 mod seeing;
-mod slots;
-mod steps_next;
-mod words;
 
-pub use issued::Issued;
 pub use manager::Manager;
+pub use worker_lines::lines;
+pub use worker_slots::Issued;

@@ -1,12 +1,11 @@
 //! The controller manager.
-use crate::issued::Issued;
-use crate::lines;
-use crate::slots::Slots;
 use control_desk::{Board, Observation};
 use std::alloc::{AllocError, Global};
 use std::marker::Model;
 use std::sync::Arc;
 use work_keys::WorkKey;
+use worker_lines::lines;
+use worker_slots::{Issued, Slots};
 
 /// The board, for each worker its turn or none, and all commands that were issued, in order.
 #[derive(Drop)]
@@ -21,7 +20,7 @@ impl Model for Manager {
     ghost use Rattle.std.specs.Arc.{arc_value};
     ghost use Rattle.reconciling.specs.Managers as managers;
     ghost use Rattle.managers.specs.Codes.{coded_manager};
-    ghost use Rattle.managers.specs.Seen.{issued_of};
+    ghost use Rattle.worker_slots.specs.Seen.{issued_of};
 
     ghost Value = { managers.Manager };
 
@@ -36,7 +35,7 @@ impl Manager {
     ghost use Rattle.control.specs.Boards.{observed, ticked};
     ghost use Rattle.control_desk.specs.Seen.{observation_of};
     ghost use Rattle.reconciling.specs.Managers.{begun, restarted};
-    ghost use Rattle.managers.specs.Seen.{issued_of};
+    ghost use Rattle.worker_slots.specs.Seen.{issued_of};
     ghost use Rattle.managers.specs.Told.{told_of_tick};
     ghost use Rattle.reconciling.specs.OutcomeTexts.{outcome_text};
     ghost use Rattle.work_keys.specs.WorkKeys.{work_key_of};

@@ -4,15 +4,15 @@ ghost use Rattle.definitions.specs.Metadata.{version};
 ghost use Rattle.keys.specs.Keys.{key_of};
 ghost use Rattle.managers.specs.Reached.{client_of};
 
-use crate::lines;
 use crate::manager::Manager;
-use crate::steps_next::is_next;
 use cluster::Cluster;
 use definitions::kinds::Kind;
 use keys::Key;
 use meta::Object;
 use std::alloc::{AllocError, Global};
 use steps::Action;
+use worker_lines::lines;
+use worker_slots::is_next;
 use workers::{NextStep, Sight};
 
 /// Returns what is there under a key at a cluster's server. The error is running out of memory.

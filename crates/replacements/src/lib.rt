@@ -1,7 +1,5 @@
-//! Objects in the place of others: updates, updates of the status, and patches.
+//! Objects in the place of others: updates and patches.
 #![tactic(auto)]
 
-pub(crate) mod existing;
 pub mod patch;
-pub mod status;
 pub mod update;

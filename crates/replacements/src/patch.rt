@@ -9,9 +9,9 @@ ghost use Rattle.definitions.proofs.VerbSteps.{patch_read};
 ghost use Rattle.keys.specs.Keys.{key_of};
 ghost use Rattle.answers.specs.Serves.{Serves};
 
-use crate::existing::Existing;
 use crate::update::replace_existing;
 use answers::bodies::object_in;
+use answers::existing::Existing;
 use answers::names_given::names_path;
 use definitions::refusals::Part;
 use json_values::merge;

@@ -11,15 +11,15 @@ ghost use Rattle.definitions.proofs.VerbSteps.{replace_with, replace_changed};
 ghost use Rattle.keys.specs.Keys.{key_of};
 ghost use Rattle.answers.specs.Serves.{Serves};
 
-use crate::existing::Existing;
 use answers::bodies::object_in;
+use answers::existing::Existing;
 use answers::generations::updated;
 use answers::names_given::{mismatch, names_path};
-use answers::placing::{replaced, unchanged};
 use definitions::refusals::Part;
 use drafts::Draft;
 use keys::{Fault, Key};
 use meta::{Object, StoredObject, Write};
+use placing::{replaced, unchanged};
 use reply::Reply;
 use serde_json::Value;
 use std::alloc::{AllocError, Global};

@@ -10,7 +10,6 @@ pub mod line;
 pub mod list_options;
 pub(crate) mod members;
 pub mod query;
-pub mod request;
 pub mod watch_options;
 
-pub use request::Request;
+pub use object_requests::Request;

@@ -8,9 +8,9 @@ ghost use Rattle.revisions.specs.Events.{event_seen};
 ghost use Rattle.revisions.specs.Journals.{history_of};
 ghost use Rattle.revisions.specs.Seen.{seen};
 
-use crate::events::Event;
 use crate::making::{push_change, shown};
 use crate::past::{apply, state_at, up_to};
+use events::Event;
 use keys::Key;
 use meta::stored::StoredObject;
 use meta::writes::Write;

@@ -1,7 +1,7 @@
 //! A journal.
 use crate::changes::changes_between;
-use crate::events::Event;
 use crate::past::{put_in, state_at};
+use events::Event;
 use meta::lent_members::Member;
 use meta::stored::StoredObject;
 use meta::writes::Write;

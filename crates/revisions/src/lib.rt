@@ -2,7 +2,6 @@
 #![tactic(auto)]
 
 mod changes;
-pub mod events;
 pub mod journal;
 pub mod making;
 pub mod past;

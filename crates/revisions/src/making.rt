@@ -6,9 +6,9 @@ ghost use Rattle.keys.specs.Keys.{key_of};
 ghost use Rattle.selector.specs.Views.{view_of};
 ghost use Rattle.revisions.specs.Events.{event_seen};
 
-use crate::events::Event;
 use definitions::frames::ChangeKind;
 use drafts::Draft;
+use events::Event;
 use keys::Key;
 use meta::objects::Object;
 use meta::stored::StoredObject;

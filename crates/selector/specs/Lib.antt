@@ -1,4 +1,1 @@
-pub mod Cuts
-pub mod Reading
-pub mod Seen
 pub mod Views

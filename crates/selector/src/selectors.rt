@@ -4,14 +4,13 @@ ghost use Rattle.serde_json.specs.View.{view};
 ghost use Rattle.definitions.specs.Metadata.{labels_of};
 ghost use Rattle.definitions.specs.SelectorTexts.{selector_of_text};
 ghost use Rattle.definitions.specs.SelectorValues.{selector_of_value};
-ghost use Rattle.definitions.specs.Selectors.{meets_all};
-ghost use Rattle.selector.specs.Seen.{RefusesText, RefusesValue, labels_in, requirements_of};
+ghost use Rattle.definitions.specs.Selectors.{meets, meets_all};
+ghost use Rattle.requirements.specs.Seen.{RefusesText, RefusesValue, labels_in, requirement_of, requirements_of};
 
-use crate::faults::{Fault, Stop};
-use crate::requirements::Requirement;
-use crate::texts::requirements;
 use crate::values;
 use meta::stored::StoredObject;
+use requirements::texts::requirements;
+use requirements::{Fault, Requirement, Stop};
 use serde_json::Value;
 use std::alloc::Global;
 use std::marker::Model;
@@ -26,7 +25,7 @@ impl Model for Selector {
     ghost use Rattle.std.specs.Prelude.{List};
     ghost use Rattle.codes.specs.SelectorCodes.{coded_requirements};
     ghost use Rattle.definitions.specs.Selectors as meaning;
-    ghost use Rattle.selector.specs.Seen.{requirements_of};
+    ghost use Rattle.requirements.specs.Seen.{requirements_of};
 
     ghost Value = { List meaning.Requirement };
 
@@ -47,12 +46,19 @@ fn all_are_met(requirements: &Vec<Requirement>, labels: Option<&Value>) -> bool
     true
 }
 
+/// Returns whether an object's labels meet a requirement.
+fn is_met_by(requirement: &Requirement, object: &StoredObject) -> bool
+    ensures { result ≡ meets (requirement_of requirement.now) (labels_of object.now.value) }
+{
+    requirement.holds(object.label(requirement.key.as_str()))
+}
+
 /// Returns whether an object's labels meet each requirement.
 fn all_are_met_by(requirements: &Vec<Requirement>, object: &StoredObject) -> bool
     ensures { result ≡ meets_all (requirements_of requirements.now.items) (labels_of object.now.value) }
 {
     for requirement in requirements {
-        if !requirement.is_met_by(object) {
+        if !is_met_by(requirement, object) {
             return false;
         }
     }

@@ -3,11 +3,11 @@ ghost use Rattle.std.specs.Prelude.{◌≡◌};
 ghost use Rattle.definitions.specs.History.{in_view};
 ghost use Rattle.keys.specs.Keys.{key_of};
 
-use crate::fields::Fields;
 use crate::selectors::Selector;
 use definitions::kinds::Kind;
 use keys::Key;
 use meta::stored::StoredObject;
+use requirements::Fields;
 use std::alloc::Global;
 
 /// What a list or a watch asks for (Kubernetes API Concepts, Resource URIs; Labels and Selectors; Field Selectors).

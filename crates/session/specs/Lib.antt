@@ -1,4 +1,3 @@
 pub mod SessionStates
 pub mod Effects
 pub mod Laws
-pub mod Shown

@@ -2,7 +2,6 @@
 #![tactic(auto)]
 
 pub mod effects;
-mod lines;
 pub mod session_laws;
 pub mod sessions;
 

@@ -1,6 +1,5 @@
 //! Sessions.
 use crate::effects::{Effect, Prepared};
-use crate::lines::{change_lines, fault_line, initial_lines, line, refusal_line, success_line};
 use asked::{Asked, read_request};
 use definitions::methods::Method;
 use definitions::refusals::Part;
@@ -9,6 +8,9 @@ use keys::Fault;
 use line_service::LineService;
 use meta::Write;
 use reply::Reply;
+use reply_lines::lines::{
+    change_lines, fault_line, initial_lines, line, refusal_line, success_line,
+};
 use requests::Request;
 use requests::line::{Line, read_line};
 use requests::list_options::ListOptions;

@@ -1,3 +1,2 @@
-pub mod Alongside
 pub mod Taken
 pub mod Simulated

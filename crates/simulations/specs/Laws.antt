@@ -1,20 +1,19 @@
 -- What follows for simulations: one whose world stands for a control plane answers as that does, and what is written for all lines is
 -- what the definitions say.
-use Rattle.std.specs.Prelude.{◌≡◌, ℕ, List, Option, Some, None}
+use Rattle.std.specs.Prelude.{◌≡◌, ℕ, List, Option, None}
 use Rattle.line_service.specs.Replies.{lines_of, replies, EndsEarly}
 use Rattle.line_service.specs.declared.fault.RunFault.{RunFault}
 use Rattle.reconciling.specs.ControlPlanes.{ControlPlane}
 use Rattle.reconciling.specs.StepLines.{simulate}
-use Rattle.simulations.specs.SimulationStates.{reply_by_stored, next_stored, reply_by_plane, next_plane}
+use Rattle.simulated_lines.specs.Lines.{FollowsBy}
+use Rattle.simulated_lines.specs.Planes.{reply_by_plane, next_plane}
+use Rattle.simulations.specs.SimulationStates.{reply_by_stored, next_stored}
 use Rattle.world.specs.Standing.{StandsFor}
 use Rattle.world.specs.WorldStates.{WorldState}
 
 -- neither has begun, or the world stands for the control plane
 abbrev pub Follows : Option WorldState → Option ControlPlane → Type 0
-Follows None None = Unit {0}
-Follows None (Some c) = ⊥
-Follows (Some w) None = ⊥
-Follows (Some w) (Some c) = StandsFor w c
+Follows s p = FollowsBy StandsFor s p
 
 -- a simulation that follows the definitions replies to a line as they say, and goes on so
 abbrev pub SimulationsFollow : Type 0

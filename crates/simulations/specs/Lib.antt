@@ -1,4 +1,2 @@
 pub mod Laws
-pub mod Lines
-pub mod Ready
 pub mod SimulationStates

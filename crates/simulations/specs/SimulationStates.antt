@@ -1,20 +1,16 @@
--- What a simulation answers and how it goes on, as it is stored and as the definitions have it.
+-- What a simulation answers and how it goes on, as it is stored.
 use Rattle.std.specs.Prelude.{ℕ, List, Option}
 use Rattle.std.specs.Coded.{Coded, coded_option}
 use Rattle.simulation.specs.StepLines.{Config}
-use Rattle.reconciling.specs.ControlPlanes as planes
-use Rattle.reconciling.specs.ControlPlanes.{ControlPlane, Step}
+use Rattle.reconciling.specs.ControlPlanes.{Step}
 use Rattle.reconciling.specs.OutcomeTexts.{outcome_text}
-use Rattle.reconciling.specs.StepLines.{opened_with}
-use Rattle.simulations.specs.Lines as lines
+use Rattle.simulated_lines.specs.Lines as lines
 use Rattle.world.specs.WorldStates as stored
 use Rattle.world.specs.WorldStates.{WorldState, coded_world}
 
 -- a code by which a model may store it
 abbrev pub coded_simulation : Coded (Option WorldState)
 coded_simulation = coded_option coded_world
-
--- ---- as it is stored
 
 abbrev pub opened_stored : Config → WorldState
 opened_stored c = stored.opened c.window c.workers
@@ -37,17 +33,3 @@ reply_by_stored s t = lines.reply opened_stored stored_after told_by_stored s t
 
 abbrev pub next_stored : Option WorldState → List ℕ → Option WorldState
 next_stored s t = lines.next opened_stored stored_after told_by_stored s t
-
--- ---- as the definitions have it
-
-abbrev plane_after : ControlPlane → Step → ControlPlane
-plane_after p step = (planes.step p step).plane
-
-abbrev told_by_plane : ControlPlane → Step → List ℕ
-told_by_plane p step = outcome_text (planes.step p step).outcome
-
-abbrev pub reply_by_plane : Option ControlPlane → List ℕ → List ℕ
-reply_by_plane s t = lines.reply opened_with plane_after told_by_plane s t
-
-abbrev pub next_plane : Option ControlPlane → List ℕ → Option ControlPlane
-next_plane s t = lines.next opened_with plane_after told_by_plane s t

@@ -4,7 +4,6 @@
 pub mod runs;
 pub mod service_laws;
 pub mod simulations;
-mod telling;
 
 pub use runs::simulate;
 pub use simulations::Simulation;

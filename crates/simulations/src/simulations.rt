@@ -1,27 +1,17 @@
 //! A simulated control plane that answers lines.
 ghost use Rattle.std.specs.Prelude.{◌≡◌, IfOk, OnOk, OnErr, None};
 ghost use Rattle.reconciling.specs.StepLines.{step_asked};
-ghost use Rattle.simulations.specs.Ready.{IsReady};
+ghost use Rattle.outcome_lines.specs.Ready.{IsReady};
 ghost use Rattle.simulations.specs.SimulationStates.{told_by_stored, stored_after, first_text, first_stored};
-ghost use Rattle.steps.specs.PlaneSteps.{plane_step_of};
 ghost use Rattle.world.specs.Told.{text_of};
 
-use crate::telling::{ready, told};
 use line_service::LineService;
+use outcome_lines::{ready, told};
+use simulated_lines::step_asked;
 use std::alloc::{AllocError, Global};
 use std::marker::Model;
-use steps::{Config, PlaneStep, Step};
+use steps::Config;
 use world::{Told, World};
-
-/// Returns the step that a line asks for. A line of no form is answered as a request that says nothing is.
-fn step_asked(line: &[u8]) -> PlaneStep<'_>
-    ensures { plane_step_of result ≡ step_asked line.now }
-{
-    match PlaneStep::read(line) {
-        Some(step) => step,
-        None => PlaneStep::InCluster(Step::Request(&[])),
-    }
-}
 
 /// Returns the line by which a step is told. Where it does not come made, it is written into an empty line with room for it.
 fn line_of(line: Vec<u8>, step: Told) -> Vec<u8>

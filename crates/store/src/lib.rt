@@ -2,7 +2,6 @@
 #![tactic(auto)]
 
 pub mod chunks;
-pub mod limits;
 mod objects;
 mod ranges;
 pub mod stores;

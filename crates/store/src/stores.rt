@@ -1,9 +1,9 @@
 //! A store.
 use crate::chunks::{Chunk, first_members, remaining};
-use crate::limits::{GREATEST_REVISION, MOST_OBJECTS};
 use crate::objects::take;
 use crate::ranges::asked;
 use keys::{Fault, Key};
+use limits::{GREATEST_REVISION, MOST_OBJECTS};
 use meta::lent_members::Member;
 use meta::stored::StoredObject;
 use meta::writes::Write;

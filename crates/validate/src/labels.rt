@@ -3,7 +3,7 @@ ghost use Rattle.std.specs.Prelude.{◌≡◌};
 ghost use Rattle.serde_json.specs.View.{view, members_view};
 ghost use Rattle.definitions.specs.Checks.{text_is, are_labels};
 ghost use Rattle.definitions.specs.Labels.{is_label_value};
-ghost use Rattle.selector.specs.Seen.{labels_in};
+ghost use Rattle.requirements.specs.Seen.{labels_in};
 
 use names::{is_label_key, is_label_value};
 use serde_json::{Map, Value};

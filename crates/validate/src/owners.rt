@@ -7,7 +7,7 @@ ghost use Rattle.definitions.specs.Checks.{is_not_empty, is_possible_uid, is_own
 ghost use Rattle.definitions.specs.Metadata.{metadata, owners_in};
 ghost use Rattle.definitions.specs.SelectorValues.{is_some_and};
 ghost use Rattle.meta.specs.Owners.{owner_of};
-ghost use Rattle.selector.specs.Seen.{now};
+ghost use Rattle.requirements.specs.Seen.{now};
 
 use crate::uids::is_of_the_future;
 use meta::Object;

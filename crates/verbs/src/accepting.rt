@@ -2,19 +2,19 @@
 ghost use Rattle.std.specs.Prelude.{◌≡◌, List, ℕ};
 ghost use Rattle.definitions.specs.Verbs.{accept_at};
 ghost use Rattle.answers.specs.Serves.{Serves};
-ghost use Rattle.requests.specs.Requests.{request_of};
+ghost use Rattle.object_requests.specs.Requests.{request_of};
 
 use crate::read::{get, list};
 use creates::create::create;
 use deletes::delete::delete;
 use keys::Fault;
 use meta::Write;
+use object_requests::Request;
 use replacements::patch::patch;
-use replacements::status::update_status;
 use replacements::update::update;
 use reply::Reply;
-use requests::Request;
 use stamps::moments::Moment;
+use status_updates::update_status;
 use std::alloc::Global;
 use store::Store;
 

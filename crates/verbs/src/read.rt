@@ -6,8 +6,8 @@ ghost use Rattle.keys.specs.Keys.{key_of};
 ghost use Rattle.selector.specs.Views.{view_of};
 ghost use Rattle.answers.specs.Serves.{Serves};
 
-use answers::list_texts::page_text;
 use keys::{Fault, Key};
+use list_texts::page_text;
 use meta::Write;
 use reply::Reply;
 use selector::View;

@@ -5,8 +5,8 @@ use Rattle.client.specs.declared.answer.Answer as client
 use Rattle.client.specs.declared.answer.Answer.TheVariants as outcome
 use Rattle.reconciling.specs.Turns as turns
 use Rattle.workers.specs.Seen.{answer_of, data_of}
-use Rattle.workers.specs.declared.answers.Answer.{Answer}
-use Rattle.workers.specs.declared.answers.Answer.TheVariants as answer
+use Rattle.turn_parts.specs.declared.answers.Answer.{Answer}
+use Rattle.turn_parts.specs.declared.answers.Answer.TheVariants as answer
 use Rattle.worker_turns.specs.declared.answers.Learnt.{Learnt}
 use Rattle.worker_turns.specs.declared.answers.Learnt.TheVariants as learnt
 

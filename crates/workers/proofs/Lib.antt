@@ -1,6 +1,1 @@
-pub mod Firsts
-pub mod Issues
-pub mod Steps
-pub mod PodCounts
-pub mod Phases
 pub mod Turning

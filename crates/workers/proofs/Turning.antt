@@ -14,18 +14,18 @@ use Rattle.turns.specs.Commands.{commands_of}
 use Rattle.turns.specs.Hands.{reads_of}
 use Rattle.turns.specs.declared.commands.Plan.{Plan}
 use Rattle.work_keys.specs.WorkKeys.{work_key_of}
-use Rattle.workers.specs.Answers.{answers_of, last_version, undone_of}
-use Rattle.workers.specs.Seen.{answer_of, sight_of, key_read, command_issued, answered_to}
-use Rattle.workers.specs.Stages as phase
-use Rattle.workers.specs.Stages.{Phase, IsPlanned, IsIn, IsTurn, commands_in, issued, phase_of, turn_of}
+use Rattle.turn_parts.specs.Answers.{answers_of, last_version, undone_of}
+use Rattle.turn_parts.specs.Seen.{answer_of, sight_of, key_read, command_issued, answered_to}
+use Rattle.turn_parts.specs.Stages as phase
+use Rattle.turn_parts.specs.Stages.{Phase, IsPlanned, IsIn, IsTurn, commands_in, issued, phase_of, turn_of}
 use Rattle.workers.specs.contracts.turn.Turn.{the_view, the_invariant}
-use Rattle.workers.specs.declared.answers.Answer.{Answer as Shared}
-use Rattle.workers.specs.declared.stages.Stage.{Stage}
-use Rattle.workers.specs.declared.stages.Stage.TheVariants.{Planned}
+use Rattle.turn_parts.specs.declared.answers.Answer.{Answer as Shared}
+use Rattle.turn_parts.specs.declared.stages.Stage.{Stage}
+use Rattle.turn_parts.specs.declared.stages.Stage.TheVariants.{Planned}
 use Rattle.workers.specs.declared.turn.Turn.TheInside.{Inside}
-use Rattle.workers.proofs.Issues.{issued_more, fits_more, accepted_more, last_version_issued, undone-issued}
-use Rattle.workers.proofs.Phases.{left_of}
-use Rattle.workers.proofs.Steps.{next_seeing, next_reading, next_planned, step_by}
+use Rattle.turn_parts.proofs.Issues.{issued_more, fits_more, accepted_more, last_version_issued, undone-issued}
+use Rattle.turn_parts.proofs.Phases.{left_of}
+use Rattle.turn_parts.proofs.Steps.{next_seeing, next_reading, next_planned, step_by}
 
 -- a turn in this phase, with what is issued of its plan
 pub record IsAt (p : Phase) (t : Turn) (as' : List Answer) (acc : Bool) : Type 0 where

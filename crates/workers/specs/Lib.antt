@@ -1,7 +1,1 @@
-pub mod Looked
-pub mod Seen
-pub mod Answers
-pub mod NextCommands
-pub mod Sightings
-pub mod Stages
-pub mod Pods
+pub use Rattle.turn_parts.specs.Seen

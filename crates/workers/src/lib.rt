@@ -2,21 +2,8 @@
 //! another.
 #![tactic(auto)]
 
-pub mod answers;
-pub mod expected;
-pub mod next_steps;
-pub(crate) mod observing;
 pub(crate) mod planning;
-pub(crate) mod pods;
-pub(crate) mod requesting;
-pub(crate) mod sets;
-pub(crate) mod sightings;
-pub mod sights;
-pub(crate) mod stages;
-pub mod turn;
+pub(crate) mod turn;
 
-pub use answers::Answer;
-pub use expected::Expected;
-pub use next_steps::NextStep;
-pub use sights::Sight;
 pub use turn::Turn;
+pub use turn_parts::{Answer, Expected, NextStep, Sight};

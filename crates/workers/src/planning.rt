@@ -5,20 +5,20 @@ ghost use Rattle.turns.specs.Commands.{commands_of};
 ghost use Rattle.turns.specs.Hands.{hand_of, reads_of, read_of};
 ghost use Rattle.keys.specs.Keys.{key_of};
 ghost use Rattle.work_keys.specs.WorkKeys.{work_key_of};
-ghost use Rattle.workers.specs.Pods.{makes_pods};
-ghost use Rattle.workers.specs.Seen.{sight_of};
-ghost use Rattle.workers.specs.Stages.{IsIn, phase_of, turn_of};
+ghost use Rattle.turn_parts.specs.Pods.{makes_pods};
+ghost use Rattle.turn_parts.specs.Seen.{sight_of};
+ghost use Rattle.turn_parts.specs.Stages.{IsIn, phase_of, turn_of};
 
-use crate::pods::makes_pods;
-use crate::sets::has_owner;
-use crate::sightings::next_sighting;
-use crate::sights::{Sight, looks, was_satisfied};
-use crate::stages::Stage;
 use controllers::controller::Controller;
 use indexer::Indexed;
 use keys::Key;
 use std::alloc::{AllocError, Global};
 use std::sync::Arc;
+use turn_parts::pods::makes_pods;
+use turn_parts::sets::has_owner;
+use turn_parts::sightings::next_sighting;
+use turn_parts::sights::{Sight, looks, was_satisfied};
+use turn_parts::stages::Stage;
 use turns::{Hand, Plan, Read};
 use work_keys::WorkKey;
 

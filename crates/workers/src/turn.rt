@@ -1,20 +1,20 @@
 //! A worker's turn.
-use crate::answers::{Answer, copies_of_answers};
-use crate::expected::Expected;
-use crate::next_steps::{NextStep, next_command};
-use crate::observing::{expected_of, taken_back_of, undone};
 use crate::planning::{copies_of_reads, stage_of};
-use crate::requesting::request_of;
-use crate::sets::owner_of;
-use crate::sightings::{Sighting, next_sighting};
-use crate::sights::{Sight, copies};
-use crate::stages::Stage;
 use control_desk::{Observation, Owner};
 use meta::Object;
 use requests::Request;
 use std::alloc::{AllocError, Global};
 use std::marker::Model;
 use std::sync::Arc;
+use turn_parts::answers::{Answer, copies_of_answers};
+use turn_parts::expected::Expected;
+use turn_parts::next_steps::{NextStep, next_command};
+use turn_parts::observing::{expected_of, taken_back_of, undone};
+use turn_parts::requesting::request_of;
+use turn_parts::sets::owner_of;
+use turn_parts::sightings::{Sighting, next_sighting};
+use turn_parts::sights::{Sight, copies};
+use turn_parts::stages::Stage;
 use turns::Read;
 use work_keys::WorkKey;
 
@@ -38,9 +38,9 @@ impl Model for Turn {
     ghost use Rattle.reconciling.specs.Turns as turns;
     ghost use Rattle.turns.specs.Hands.{reads_of};
     ghost use Rattle.work_keys.specs.WorkKeys.{work_key_of};
-    ghost use Rattle.workers.specs.Answers.{answers_of};
-    ghost use Rattle.workers.specs.Seen.{sight_of};
-    ghost use Rattle.workers.specs.Stages.{IsTurn, turn_of, issued, phase_of, commands_in};
+    ghost use Rattle.turn_parts.specs.Answers.{answers_of};
+    ghost use Rattle.turn_parts.specs.Seen.{sight_of};
+    ghost use Rattle.turn_parts.specs.Stages.{IsTurn, turn_of, issued, phase_of, commands_in};
 
     ghost Value = { turns.Turn };
 
@@ -66,7 +66,7 @@ impl Turn {
     ghost use Rattle.reconciling.specs.Turns.{begun, with_sight, with_expected, owner, taken_back, all_accepted};
     ghost use Rattle.requests.specs.Requests.{request_of};
     ghost use Rattle.work_keys.specs.WorkKeys.{work_key_of};
-    ghost use Rattle.workers.specs.Seen.{sight_of, answer_of, expected_of, IsNext, step_of, key_read, expectation, command_issued, found_under, answered_to};
+    ghost use Rattle.turn_parts.specs.Seen.{sight_of, answer_of, expected_of, IsNext, step_of, key_read, expectation, command_issued, found_under, answered_to};
 
     /// Returns the turn of a key that was taken: nothing is seen. It takes no memory.
     pub fn begin(alloc: Global, key: WorkKey) -> Turn

@@ -2,7 +2,7 @@ use Rattle.std.proofs.Common.{inr}
 use Rattle.definitions.specs.Replacements.{in_place}
 use Rattle.definitions.proofs.VerbSteps.{replace_with}
 use Rattle.keys.specs.Keys.{key_of}
-use Rattle.replacements.proofs.Replacing.{if_same-other}
+use Rattle.answers.proofs.Replacing.{if_same-other}
 use Rattle.replacements.proofs.update.replace_existing.Goals as goal
 
 pub returns-in-Some : goal.returns-in-Some

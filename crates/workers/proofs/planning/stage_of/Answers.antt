@@ -5,9 +5,9 @@ use Rattle.turns.specs.Commands.{commands_of}
 use Rattle.turns.specs.Hands.{hand_of, reads_of}
 use Rattle.work_keys.specs.WorkKeys.{work_key_of}
 use Rattle.std.specs.Arc.{arc_value}
-use Rattle.workers.specs.Seen.{sight_of}
-use Rattle.workers.specs.Stages.{turn_of}
-use Rattle.workers.proofs.Phases.{all_seen, to_read, to_issue}
+use Rattle.turn_parts.specs.Seen.{sight_of}
+use Rattle.turn_parts.specs.Stages.{turn_of}
+use Rattle.turn_parts.proofs.Phases.{all_seen, to_read, to_issue}
 use Rattle.workers.proofs.planning.stage_of.Goals as goal
 
 pub returns-in-Some : goal.returns-in-Some

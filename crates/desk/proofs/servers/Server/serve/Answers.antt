@@ -2,7 +2,7 @@ use Rattle.std.proofs.Common.{◌≡◌, false, subst}
 use Rattle.server_state.specs.Servers.{Server}
 use Rattle.definitions.specs.Verbs.{overflows}
 use Rattle.meta.specs.Writes.{write_of}
-use Rattle.requests.specs.Requests.{request_of}
+use Rattle.object_requests.specs.Requests.{request_of}
 use Rattle.desk.proofs.Served.{served_room}
 use Rattle.desk.proofs.servers.Server.serve.Goals as goal
 

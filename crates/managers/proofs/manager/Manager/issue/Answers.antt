@@ -2,7 +2,7 @@ use Rattle.std.proofs.Common.{◌≡◌, ◌∙◌, sym, ap, subst, option_map, 
 use Rattle.reconciling.specs.Managers.{Manager}
 use Rattle.steps.specs.Actions.{delivery_of}
 use Rattle.managers.specs.Issuing.{coming_of}
-use Rattle.managers.specs.Slots.{turn_of}
+use Rattle.worker_slots.specs.Slots.{turn_of}
 use Rattle.managers.proofs.Issues.{slot_within, writes_it, manager_made, line_made, cluster_made}
 use Rattle.managers.proofs.manager.Manager.issue.Goals as goal
 

@@ -4,8 +4,8 @@ use Rattle.controllers.specs.Commands as commands
 use Rattle.control_desk.specs.Seen.{owner_of}
 use Rattle.reconciling.specs.Turns.{owner, creates_pod}
 use Rattle.turns.specs.Commands.{command_of, commands_of}
-use Rattle.workers.specs.Pods.{commands_lent}
-use Rattle.workers.proofs.Phases.{few_creations}
+use Rattle.turn_parts.specs.Pods.{commands_lent}
+use Rattle.turn_parts.proofs.Phases.{few_creations}
 use Rattle.workers.proofs.Turning.{planned_now}
 use Rattle.workers.proofs.turn.Turn.expected.Goals as goal
 

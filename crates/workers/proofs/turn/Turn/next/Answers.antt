@@ -4,13 +4,13 @@ use Rattle.std.specs.Global.{Global}
 use Rattle.std.specs.declared.sync.Arc.{Arc}
 use Rattle.reconciling.specs.NextSteps.{issuing}
 use Rattle.turns.specs.declared.commands.Plan.{Plan}
-use Rattle.workers.specs.NextCommands.{IsCommandNext}
-use Rattle.workers.specs.Seen.{answer_of}
-use Rattle.workers.specs.declared.answers.Answer.{Answer}
+use Rattle.turn_parts.specs.NextCommands.{IsCommandNext}
+use Rattle.turn_parts.specs.Seen.{answer_of}
+use Rattle.turn_parts.specs.declared.answers.Answer.{Answer}
 use Rattle.std.specs.Arc.{arc_value}
 use Rattle.turns.specs.Commands.{commands_of}
-use Rattle.workers.specs.Answers.{answers_of}
-use Rattle.workers.proofs.Phases.{next_expects, next_command}
+use Rattle.turn_parts.specs.Answers.{answers_of}
+use Rattle.turn_parts.proofs.Phases.{next_expects, next_command}
 use Rattle.workers.proofs.Turning.{planned_now, has_expected_now}
 use Rattle.workers.proofs.turn.Turn.next.Goals as goal
 use Rattle.workers.proofs.turn.Turn.next.Goals.{else-expects_pods-via-then-expects_pods+else-not-self, else-expects_pods-via-else-expects_pods}

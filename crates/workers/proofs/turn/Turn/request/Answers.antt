@@ -6,9 +6,9 @@ use Rattle.definitions.specs.ObjectRequests as verbs
 use Rattle.reconciling.specs.Managers.{requested}
 use Rattle.reconciling.specs.NextSteps.{NextStep}
 use Rattle.turns.specs.Commands.{command_of}
-use Rattle.workers.specs.Answers.{answers_of, last_version}
-use Rattle.workers.specs.Seen.{command_issued}
-use Rattle.workers.specs.declared.answers.Answer.{Answer}
+use Rattle.turn_parts.specs.Answers.{answers_of, last_version}
+use Rattle.turn_parts.specs.Seen.{command_issued}
+use Rattle.turn_parts.specs.declared.answers.Answer.{Answer}
 use Rattle.workers.proofs.Turning.{version_now}
 use Rattle.workers.proofs.turn.Turn.request.Goals as goal
 

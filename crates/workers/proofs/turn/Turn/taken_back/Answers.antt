@@ -7,9 +7,9 @@ use Rattle.controllers.specs.Expectations as expectations
 use Rattle.control_desk.specs.Seen.{owner_of}
 use Rattle.reconciling.specs.Turns.{owner, taken_back, taken_back_by, undone}
 use Rattle.turns.specs.Commands.{command_of, commands_of}
-use Rattle.workers.specs.Answers.{answers_of, undone_of}
-use Rattle.workers.specs.Pods.{commands_lent}
-use Rattle.workers.specs.declared.answers.Answer.{Answer}
+use Rattle.turn_parts.specs.Answers.{answers_of, undone_of}
+use Rattle.turn_parts.specs.Pods.{commands_lent}
+use Rattle.turn_parts.specs.declared.answers.Answer.{Answer}
 use Rattle.workers.proofs.Turning.{planned_now, undone_now}
 use Rattle.workers.proofs.turn.Turn.taken_back.Goals as goal
 

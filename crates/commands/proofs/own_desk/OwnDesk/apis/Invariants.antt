@@ -1,0 +1,13 @@
+use Rattle.std.proofs.Common.{◌≡◌, ◌-◌, ◌+◌, ◌≤◌, All, length}
+use Rattle.shared_desk.specs.Desks.{IsNewAt}
+use Rattle.commands.proofs.own_desk.OwnDesk.apis.Given as goal
+
+-- of the passes as many are gone as ways to ask are made
+abbrev pub invariant-loop-made : goal.invariant-loop-made
+invariant-loop-made g l =
+    All (IsNewAt l.self.desk.now) l.passes.items
+    × (length l.made.items ≤ l.workers)
+    × (length l.passes.items + length l.made.items ≡ length l.fn.passes.items)
+
+abbrev pub decreases-loop-made : goal.decreases-loop-made
+decreases-loop-made g l = l.workers - length l.made.items

@@ -1,0 +1,6 @@
+//! Links of a simulated cluster: open watches, on which a server writes frames, and of which a beginning was read.
+#![tactic(auto)]
+
+pub mod links;
+
+pub use links::Link;

@@ -1,0 +1,18 @@
+-- Requests as the definitions say them.
+use Rattle.std.specs.Prelude.{string_bytes}
+use Rattle.serde_json.specs.View.{view}
+use Rattle.definitions.specs.ObjectRequests as verbs
+use Rattle.lifecycle.specs.Options.{options_seen}
+use Rattle.keys.specs.Keys.{key_of}
+use Rattle.selector.specs.Views.{view_of}
+use Rattle.object_requests.specs.declared.request.Request.{Request}
+use Rattle.object_requests.specs.declared.request.Request.TheVariants.{Get, List, Create, Update, UpdateStatus, Patch, Delete}
+
+abbrev pub request_of : Request → verbs.Request
+request_of (Get k) = verbs.get_object (key_of k)
+request_of (List v) = verbs.list_objects (view_of v)
+request_of (Create kind ns d) = verbs.create_object kind (string_bytes ns) (view d)
+request_of (Update k d) = verbs.update_object (key_of k) (view d)
+request_of (UpdateStatus k d) = verbs.update_status (key_of k) (view d)
+request_of (Patch k d) = verbs.patch_object (key_of k) (view d)
+request_of (Delete k o) = verbs.delete_object (key_of k) (options_seen o)

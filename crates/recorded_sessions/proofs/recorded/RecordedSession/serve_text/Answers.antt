@@ -1,0 +1,21 @@
+use Rattle.std.proofs.Common.{◌≡◌, ◌∙◌, ap, sym, subst}
+use Rattle.line_protocol.specs.Lines.{line_of}
+use Rattle.session.specs.Effects.{effect_of}
+use Rattle.session.specs.SessionStates.{changed_by, effect_on, HasRoom}
+use Rattle.session.proofs.Changes.{effects_change, effects_fit}
+use Rattle.recorded_sessions.specs.RecordedStates.{RecordedState}
+use Rattle.recorded_sessions.proofs.recorded.RecordedSession.serve_text.Goals as goal
+
+pub commit-requires : goal.commit-requires
+commit-requires c =
+    let s = c.args.self.now.session in
+    let l = line_of c.args.text.now in
+    let is : effect_of c.in_ok-reply.field-0.effect ≡ effect_on s l = c.in_ok-reply.ensures.effect ∙ ap (λ (z : RecordedState). effect_on z.session l) c.self.view_is in
+    subst (HasRoom s) (sym is) (effects_fit s l)
+
+pub returns-clause-session : goal.returns-clause-session
+returns-clause-session c =
+    let s = c.args.self.now.session in
+    let l = line_of c.args.text.now in
+    let is : effect_of c.in_ok-reply.field-0.effect ≡ effect_on s l = c.in_ok-reply.ensures.effect ∙ ap (λ (z : RecordedState). effect_on z.session l) c.self.view_is in
+    c.in_ok-commit.ensures.session ∙ ap (changed_by s) is ∙ effects_change s l

@@ -1,0 +1,4 @@
+//! The lines by which a session replies: statuses, texts, and what watches are shown.
+#![tactic(auto)]
+
+pub mod lines;

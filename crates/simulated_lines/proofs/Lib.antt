@@ -1,0 +1,3 @@
+pub mod Alongside
+pub mod Following
+pub mod Simulated

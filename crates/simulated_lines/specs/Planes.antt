@@ -1,0 +1,19 @@
+-- What a simulation answers and how it goes on, as the definitions have it.
+use Rattle.std.specs.Prelude.{ℕ, List, Option}
+use Rattle.reconciling.specs.ControlPlanes as planes
+use Rattle.reconciling.specs.ControlPlanes.{ControlPlane, Step}
+use Rattle.reconciling.specs.OutcomeTexts.{outcome_text}
+use Rattle.reconciling.specs.StepLines.{opened_with}
+use Rattle.simulated_lines.specs.Lines as lines
+
+abbrev pub plane_after : ControlPlane → Step → ControlPlane
+plane_after p step = (planes.step p step).plane
+
+abbrev pub told_by_plane : ControlPlane → Step → List ℕ
+told_by_plane p step = outcome_text (planes.step p step).outcome
+
+abbrev pub reply_by_plane : Option ControlPlane → List ℕ → List ℕ
+reply_by_plane s t = lines.reply opened_with plane_after told_by_plane s t
+
+abbrev pub next_plane : Option ControlPlane → List ℕ → Option ControlPlane
+next_plane s t = lines.next opened_with plane_after told_by_plane s t

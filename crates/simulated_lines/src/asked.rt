@@ -1,0 +1,16 @@
+//! Steps that lines ask for.
+ghost use Rattle.std.specs.Prelude.{◌≡◌};
+ghost use Rattle.reconciling.specs.StepLines.{step_asked};
+ghost use Rattle.steps.specs.PlaneSteps.{plane_step_of};
+
+use steps::{PlaneStep, Step};
+
+/// Returns the step that a line asks for. A line of no form is answered as a request that says nothing is.
+pub fn step_asked(line: &[u8]) -> PlaneStep<'_>
+    ensures { plane_step_of result ≡ step_asked line.now }
+{
+    match PlaneStep::read(line) {
+        Some(step) => step,
+        None => PlaneStep::InCluster(Step::Request(&[])),
+    }
+}

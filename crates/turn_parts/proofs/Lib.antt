@@ -1,0 +1,5 @@
+pub mod Firsts
+pub mod Issues
+pub mod Steps
+pub mod PodCounts
+pub mod Phases

@@ -1,0 +1,10 @@
+use Rattle.std.proofs.Common.{◌≡◌, ◌++◌, map, drop}
+use Rattle.turns.specs.Commands.{command_of}
+use Rattle.turn_parts.specs.Answers.{answers_of, undone_of}
+use Rattle.turn_parts.specs.Pods.{commands_lent}
+use Rattle.turn_parts.proofs.observing.undone.Given as goal
+
+-- those so far and those still to come are all
+abbrev pub invariant-loop-place : goal.invariant-loop-place
+invariant-loop-place l =
+    commands_lent l.left.items ++ undone_of (drop l.place (map command_of l.commands)) (drop l.place (answers_of l.answers)) ≡ undone_of (map command_of l.commands) (answers_of l.answers)

@@ -1,0 +1,8 @@
+use Rattle.std.proofs.Common.{◌≡◌, map, drop}
+use Rattle.turns.specs.Commands.{command_of}
+use Rattle.turn_parts.specs.Pods.{makes_pods}
+use Rattle.turn_parts.proofs.pods.makes_pods.Given as goal
+
+-- no pod is made by those so far
+abbrev pub invariant-loop-command : goal.invariant-loop-command
+invariant-loop-command l = makes_pods (map command_of (drop l.command-index l.commands)) ≡ makes_pods (map command_of l.commands)

@@ -1,0 +1,7 @@
+pub mod Looked
+pub mod Seen
+pub mod Answers
+pub mod NextCommands
+pub mod Sightings
+pub mod Stages
+pub mod Pods

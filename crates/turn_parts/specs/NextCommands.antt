@@ -1,0 +1,15 @@
+-- The command that comes next.
+use Rattle.std.specs.Prelude.{◌≡◌, Option, Some, None}
+use Rattle.controllers.specs.Commands.{Command}
+use Rattle.turns.specs.Commands.{command_of}
+use Rattle.turn_parts.specs.declared.next_steps.NextStep.{NextStep}
+use Rattle.turn_parts.specs.declared.next_steps.NextStep.TheVariants.{Look, AskSatisfied, Read, Expect, Issue, Finish}
+
+-- this command is issued, or where there is none the turn ends
+abbrev pub IsCommandNext : NextStep → Option Command → Type 0
+IsCommandNext (Issue c) x = x ≡ Some (command_of c.now)
+IsCommandNext Finish x = x ≡ None
+IsCommandNext (Look k) x = ⊥
+IsCommandNext AskSatisfied x = ⊥
+IsCommandNext (Read k) x = ⊥
+IsCommandNext Expect x = ⊥

@@ -1,0 +1,9 @@
+-- What is to be seen, as the definitions have it.
+use Rattle.reconciling.specs.NextSteps as steps
+use Rattle.reconciling.specs.NextSteps.{of_kind, of_expectations}
+use Rattle.turn_parts.specs.declared.sightings.Sighting.{Sighting}
+use Rattle.turn_parts.specs.declared.sightings.Sighting.TheVariants.{OfKind, OfExpectations}
+
+abbrev pub sighting_of : Sighting → steps.Sighting
+sighting_of (OfKind k) = of_kind k
+sighting_of OfExpectations = of_expectations

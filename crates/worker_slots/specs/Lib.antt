@@ -1,0 +1,3 @@
+pub mod Slots
+pub mod Seen
+pub mod Codes

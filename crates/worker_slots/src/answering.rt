@@ -1,0 +1,29 @@
+//! What workers learn of their commands.
+ghost use Rattle.std.specs.Prelude.{◌≡◌, true, is_some, IfOk, string_bytes};
+ghost use Rattle.reconciling.specs.NextSteps.{next};
+ghost use Rattle.reconciling.specs.Turns as turns;
+ghost use Rattle.workers.specs.Seen.{answer_of, answered_to, command_issued, data_of};
+
+use reply::Reply;
+use std::alloc::AllocError;
+use workers::{Answer, Turn};
+
+/// Returns what a worker learns where its command is accepted with a reply. It takes no memory.
+pub fn acceptance(reply: Reply) -> Answer
+    ensures { answer_of result ≡ turns.accepted reply.code (data_of (string_bytes reply.text)) }
+{
+    Answer::Accepted {
+        code: reply.code,
+        text: reply.text,
+    }
+}
+
+/// Returns a turn once its next command was answered. The error is running out of memory.
+pub fn answered_turn(turn: &Turn, answer: Answer) -> Result<Turn, AllocError>
+    requires { is_some (command_issued (next turn.now)) ≡ true }
+    ensures { IfOk result (λ t. t ≡ answered_to (command_issued (next turn.now)) (answer_of answer) turn.now) }
+{
+    let mut turn = turn.try_copy()?;
+    turn.answer(answer)?;
+    Ok(turn)
+}

@@ -1,0 +1,23 @@
+//! Whether an action is what comes next in a turn.
+ghost use Rattle.std.specs.Prelude.{◌≡◌};
+ghost use Rattle.reconciling.specs.Managers.{is_for};
+ghost use Rattle.reconciling.specs.NextSteps.{next};
+ghost use Rattle.steps.specs.Actions.{action_of};
+
+use steps::Action;
+use workers::{NextStep, Turn};
+
+/// Returns whether an action is the step that comes next in a turn. It takes no memory.
+pub fn is_next(turn: &Turn, action: Action) -> bool
+    ensures { result ≡ is_for (action_of action) (next turn.now) }
+{
+    match (turn.next(), action) {
+        (NextStep::Look(kind), Action::Look(looked)) => looked == kind,
+        (NextStep::AskSatisfied, Action::AskSatisfied)
+        | (NextStep::Read(_), Action::ReadLive)
+        | (NextStep::Expect, Action::Expect)
+        | (NextStep::Issue(_), Action::Issue(_))
+        | (NextStep::Finish, Action::Finish) => true,
+        _ => false,
+    }
+}

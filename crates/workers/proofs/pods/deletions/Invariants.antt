@@ -1,9 +1,0 @@
-use Rattle.std.proofs.Common.{◌≡◌, ◌++◌, map, drop, filter_map, string_bytes}
-use Rattle.reconciling.specs.Turns.{pod_deleted}
-use Rattle.workers.specs.Pods.{commands_lent}
-use Rattle.workers.proofs.pods.deletions.Given as goal
-
--- those so far and those still to come are all
-abbrev pub invariant-loop-command : goal.invariant-loop-command
-invariant-loop-command l =
-    map string_bytes l.uids.items ++ filter_map pod_deleted (commands_lent (drop l.command-index l.commands)) ≡ filter_map pod_deleted (commands_lent l.commands)

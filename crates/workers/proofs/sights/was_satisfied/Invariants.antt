@@ -1,8 +1,0 @@
-use Rattle.std.proofs.Common.{◌≡◌, map, drop}
-use Rattle.reconciling.specs.Turns.{was_satisfied}
-use Rattle.workers.specs.Seen.{sight_of}
-use Rattle.workers.proofs.sights.was_satisfied.Given as goal
-
--- none so far was an answer
-abbrev pub invariant-loop-sight : goal.invariant-loop-sight
-invariant-loop-sight l = was_satisfied (map sight_of (drop l.sight-index l.sights)) ≡ was_satisfied (map sight_of l.sights)

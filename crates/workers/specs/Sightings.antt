@@ -1,9 +1,0 @@
--- What is to be seen, as the definitions have it.
-use Rattle.reconciling.specs.NextSteps as steps
-use Rattle.reconciling.specs.NextSteps.{of_kind, of_expectations}
-use Rattle.workers.specs.declared.sightings.Sighting.{Sighting}
-use Rattle.workers.specs.declared.sightings.Sighting.TheVariants.{OfKind, OfExpectations}
-
-abbrev pub sighting_of : Sighting → steps.Sighting
-sighting_of (OfKind k) = of_kind k
-sighting_of OfExpectations = of_expectations
