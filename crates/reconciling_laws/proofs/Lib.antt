@@ -14,4 +14,4 @@ pub mod Nexts
 pub mod Owed
 mod Processing
 mod Steps
-mod Takes
+pub mod Takes

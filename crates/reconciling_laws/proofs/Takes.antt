@@ -1,5 +1,5 @@
 -- Nothing but a take gives a worker a turn.
-use Rattle.std.proofs.Common.{◌≡◌, ◌⊎◌, inl, inr, ℕ, zero, suc, List, [], ◌∷◌, Bool, true, false, ◌&&◌, cond, Option, Some, None, slice_get, slice_set, refl, sym, ap, ◌∙◌}
+use Rattle.std.proofs.Common.{◌≡◌, ◌⊎◌, inl, inr, ℕ, zero, suc, List, [], ◌∷◌, Bool, true, false, ◌&&◌, cond, Option, Some, None, slice_get, slice_set, refl, sym, ap, subst, ◌∙◌}
 use Rattle.std.specs.FinSet as set
 use Rattle.controllers.specs.WorkQueues.{WorkKey, front, got_from}
 use Rattle.definitions.specs.declared.kinds.Kind.{Kind}
@@ -7,11 +7,12 @@ use Rattle.simulation.specs.Clusters.{follower, request, compact, moves, restart
 use Rattle.simulation.specs.Followers.{Notification}
 use Rattle.reconciling.specs.ControlPlanes.{ControlPlane, Step, in_cluster, handle, works, tick, client, handle_in, step_in}
 use Rattle.reconciling.specs.Managers as action
-use Rattle.reconciling.specs.Managers.{Client, Manager, Action, Delivery, take_key, carry_out, is_take, is_for, delivery_of, act_in}
+use Rattle.reconciling.specs.Managers.{Client, Manager, Action, Acted, Delivery, take_key, carry_out, is_take, is_for, delivery_of, act_in, act}
 use Rattle.reconciling.specs.NextSteps as next_step
 use Rattle.reconciling.specs.NextSteps.{NextStep, next}
+use Rattle.reconciling.specs.Outcomes.{took}
 use Rattle.reconciling.specs.Turns.{Turn, begun}
-use Rattle.reconciling_laws.specs.TakeLaws.{TakesTheHead, OnlyTakesGive}
+use Rattle.reconciling_laws.specs.TakeLaws.{TakesTheHead, TakesGiveTheHead, OnlyTakesGive}
 use Rattle.reconciling_laws.proofs.Counting.{by_counted, by_tick}
 use Rattle.reconciling_laws.proofs.IssuedRuns.{none_after}
 
@@ -78,8 +79,8 @@ module _ (w : ℕ) (t : Turn) (m : Manager) where
   takes v a [] at is none here = inl (t, here, refl)
   takes v a (k ∷ rest) at is none here = by (set_cases v w (Some (begun k)) m.turns t here)
     where
-      took : (x : WorkKey) → k ≡ x → v ≡ w → TakesTheHead w x rest m (take_key v (Some k) m).manager
-      took x key place =
+      begins : (x : WorkKey) → k ≡ x → v ≡ w → TakesTheHead w x rest m (take_key v (Some k) m).manager
+      begins x key place =
           record {
             head = at ∙ ap (λ y. y ∷ rest) key;
             queue = ap (λ q. (got_from q m.board.work).queue) at;
@@ -93,7 +94,7 @@ module _ (w : ℕ) (t : Turn) (m : Manager) where
       by (inl e) =
           let is_t : begun k ≡ t = let both = e.1 in cc in
           let key : k ≡ t.work_key = ap (λ (y : Turn). y.work_key) is_t in
-          inr (e.0, is, ap (λ i. slice_get m.turns i) (sym e.0) ∙ none, (rest, took t.work_key key e.0), sym is_t ∙ ap begun key)
+          inr (e.0, is, ap (λ i. slice_get m.turns i) (sym e.0) ∙ none, (rest, begins t.work_key key e.0), sym is_t ∙ ap begun key)
       by (inr e) = inl (t, e, refl)
 
   is_taking : (a : Action) (b : Bool) → (is_take a && b) ≡ true → a ≡ action.take
@@ -143,7 +144,7 @@ module _ (p : ControlPlane) (w : ℕ) (t : Turn) where
           → ((u : Turn) × Holds w u p.manager × (u.work_key ≡ t.work_key))
           ⊎ ((slice_get p.manager.turns w ≡ Some None) × (works v a ≡ works w action.take) × ((rest : List WorkKey) × TakesTheHead w t.work_key rest p.manager n) × (t ≡ begun t.work_key))
       by (inl x) = inl x
-      by (inr (place, taking, none, took, new)) = inr (none, (λ i. works (place i) (taking i)), took, new)
+      by (inr (place, taking, none, head, new)) = inr (none, (λ i. works (place i) (taking i)), head, new)
 
   comes_in : (s : Step) → Comes s (step_in p s).plane.manager
   comes_in (in_cluster (request l)) = stays (in_cluster (request l)) p.manager refl
@@ -156,3 +157,23 @@ module _ (p : ControlPlane) (w : ℕ) (t : Turn) where
 
 pub only_takes : OnlyTakesGive
 only_takes p s w t = by_counted (λ c m o. Comes p w t s m) (step_in p s) (comes_in p w t s)
+
+-- ---- what a take gives
+
+pub takes_give : TakesGiveTheHead
+takes_give p w k rest none synced queued =
+    let c = client p.cluster in
+    let m = p.manager in
+    let r : act c w action.take m ≡ take_key w (Some k) m =
+    ap (λ o. act_in c w action.take o m) none ∙ ap (λ b. cond b (take_key w (front m.board.work.queue) m) (action.closed m)) synced ∙ ap (λ q. take_key w (front q) m) queued in
+    by_counted (λ c n o. TakesTheHead w k rest m n × (o ≡ took w (Some k))) (step_in p (works w action.take))
+    (subst (λ (a : Acted). TakesTheHead w k rest m a.manager × (a.outcome ≡ took w (Some k))) (sym r) (
+      record {
+        head = queued;
+        queue = ap (λ q. (got_from q m.board.work).queue) queued;
+        processing = ap (λ q. (got_from q m.board.work).processing) queued;
+        dirty = ap (λ q. (got_from q m.board.work).dirty) queued;
+        turns = refl;
+      },
+      refl,
+    ))
