@@ -1,5 +1,5 @@
 pub mod Asking
 pub mod PlaneRuns
-mod Replacing
+pub mod Replacing
 pub mod Rising
 mod StoredLists

@@ -53,7 +53,7 @@ reads_from k d (Some (array (item r rs))) at read some =
     (read_again k d (unblocked r) (item r rs) (all_unblocked rs) read at (edited (item r rs)))
 reads_from k d (Some (object ms)) at read some = absurd (some refl)
 
-cut_reads : (k : Kind) (d : Data) → reading k d ≡ Ok d → (owners d ≡ [] → ⊥) → reading k (blocking_nobody d) ≡ Ok (blocking_nobody d)
+pub cut_reads : (k : Kind) (d : Data) → reading k d ≡ Ok d → (owners d ≡ [] → ⊥) → reading k (blocking_nobody d) ≡ Ok (blocking_nobody d)
 cut_reads k d read some = reads_from k d (metadata refs d) refl read some
 
 -- ---- what an update leaves to the body

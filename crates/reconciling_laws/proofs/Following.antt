@@ -55,11 +55,11 @@ module _ (L M : Kind → Snapshot → Type 0) (R S : Read → Type 0) (f : (k : 
   seen_more (looked k s) x = f k s x
   seen_more (satisfied b) x = tt
 
-  follows_more : (t : Turn) → Follows L R t → Follows M S t
+  pub follows_more : (t : Turn) → Follows L R t → Follows M S t
   follows_more t x =
       record { order = x.order; looks = all_map (IsSeen L) (IsSeen M) seen_more t.sights x.looks; reads = all_map R S g t.reads x.reads; done = x.done; stage = x.stage }
 
-  place_more : (o : Option Turn) → IfSome o (Follows L R) → IfSome o (Follows M S)
+  pub place_more : (o : Option Turn) → IfSome o (Follows L R) → IfSome o (Follows M S)
   place_more None x = tt
   place_more (Some t) x = follows_more t x
 
@@ -122,7 +122,7 @@ module _ (L : Kind → Snapshot → Type 0) (R : Read → Type 0) where
   issue_follows t i rest u a e x =
       record { order = x.order; looks = x.looks; reads = x.reads; done = grows (λ (j : Issue). j.command) t.issues i (commands t) rest x.done e; stage = late u a }
 
-  issues_next : (t : Turn) (c : Command) (rest : List Command) → unseen t ≡ [] → asks t ≡ [] → (is_some (expected t) ≡ true → t.has_expected ≡ true) → all_accepted t.issues ≡ true → left t ≡ c ∷ rest
+  pub issues_next : (t : Turn) (c : Command) (rest : List Command) → unseen t ≡ [] → asks t ≡ [] → (is_some (expected t) ≡ true → t.has_expected ≡ true) → all_accepted t.issues ≡ true → left t ≡ c ∷ rest
       → Follows L R t → IsNext L R t c
   issues_next t c rest u a expects accepted e x =
       record {

@@ -70,10 +70,10 @@ step_begins p s = by_counted (λ c m o. Begins (history p.cluster) (history c)) 
 
 -- ---- what was there
 
-state_stands : (h more : History) (at : ℕ) (k : Key) → at ≤ present h → state (h ++ more) at k ≡ state h at k
+pub state_stands : (h more : History) (at : ℕ) (k : Key) → at ≤ present h → state (h ++ more) at k ≡ state h at k
 state_stands h more at k le = ap (λ ws. last_of None k (take (at - 1) ws)) (writes-append h more) ∙ ap (last_of None k) (take-append-le (at - 1) (writes h) (writes more) (omega (arith, le)))
 
-present_grows : (h more : History) → present h ≤ present (h ++ more)
+pub present_grows : (h more : History) → present h ≤ present (h ++ more)
 present_grows h more =
     let long : length (writes (h ++ more)) ≡ length (writes h) + length (writes more) = ap length (writes-append h more) ∙ length-append (writes h) (writes more) in omega (arith, long)
 

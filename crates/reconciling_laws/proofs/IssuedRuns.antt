@@ -24,13 +24,13 @@ use Rattle.reconciling_laws.proofs.Moved.{by_move, with_session, with_moved}
 
 -- ---- where a worker is in its turn, a list of each kind was published
 
-abbrev IsListed : Kind → Follower → Type 0
+abbrev pub IsListed : Kind → Follower → Type 0
 IsListed k f = f.has_listed ≡ true
 
-abbrev AreListed : Cluster → Type 0
+abbrev pub AreListed : Cluster → Type 0
 AreListed c = (k : Kind) → IsListed k (follower k c)
 
-abbrev AreReady : Cluster → Manager → Type 0
+abbrev pub AreReady : Cluster → Manager → Type 0
 AreReady c m = (w : ℕ) (t : Turn) → slice_get m.turns w ≡ Some (Some t) → AreListed c
 
 all_four : (a b c d : Bool) → (a && b && c && d) ≡ true → (a ≡ true) × (b ≡ true) × (c ≡ true) × (d ≡ true)
@@ -50,12 +50,12 @@ synced_listed c e =
     by a b d e ReplicaSet = d
     by a b d e Deployment = e
 
-none_begins : (m n : ℕ) (t : Turn) → slice_get (replicate m None) n ≡ Some (Some t) → ⊥
+pub none_begins : (m n : ℕ) (t : Turn) → slice_get (replicate m None) n ≡ Some (Some t) → ⊥
 none_begins zero n t e = cc
 none_begins (suc m) zero t e = cc
 none_begins (suc m) (suc n) t e = none_begins m n t e
 
-none_after : (os : List (Option Turn)) (n : ℕ) (t : Turn) → slice_get (map (λ t. None) os) n ≡ Some (Some t) → ⊥
+pub none_after : (os : List (Option Turn)) (n : ℕ) (t : Turn) → slice_get (map (λ t. None) os) n ≡ Some (Some t) → ⊥
 none_after [] n t e = cc
 none_after (o ∷ os) zero t e = cc
 none_after (o ∷ os) (suc n) t e = none_after os n t e
@@ -92,7 +92,7 @@ ready_in p (works w a) ready i u is =
     (λ here synced. ready_take p.cluster p.manager w (handed p.manager.board.work) ready (synced_listed p.cluster synced)) (λ t d here v u e. ready w t here)) i u is
 ready_in p (tick n) ready w t e = by_tick (λ c m o. AreReady c m) n p ready ready w t e
 
-ready_step : (p : ControlPlane) (s : Step) → AreReady p.cluster p.manager → AreReady (step p s).plane.cluster (step p s).plane.manager
+pub ready_step : (p : ControlPlane) (s : Step) → AreReady p.cluster p.manager → AreReady (step p s).plane.cluster (step p s).plane.manager
 ready_step p s ready = by_counted (λ c m o. AreReady c m) (step_in p s) (ready_in p s ready)
 
 -- ---- each step
@@ -138,7 +138,7 @@ module _ (v : ControlPlane) where
 
 -- ---- all steps
 
-run_one : (v : ControlPlane) (before : List Step) (s : Step) → run v (before ++ s ∷ []) ≡ (step (run v before) s).plane
+pub run_one : (v : ControlPlane) (before : List Step) (s : Step) → run v (before ++ s ∷ []) ≡ (step (run v before) s).plane
 run_one v [] s = refl
 run_one v (b ∷ before) s = run_one (step v b).plane before s
 

@@ -8,8 +8,10 @@ pub mod HandRuns
 mod InHands
 pub mod IssuedRuns
 pub mod Lists
+pub mod LookRuns
 pub mod Moved
 pub mod Nexts
 pub mod Owed
 mod Processing
 mod Steps
+pub mod Takes

@@ -4,6 +4,8 @@
 
 pub mod action_laws;
 pub mod issued_laws;
+pub mod look_laws;
 pub mod owed_laws;
 pub mod step_laws;
+pub mod take_laws;
 pub mod turn_laws;

@@ -1,0 +1,28 @@
+-- What was done since a control plane was opened.
+use Rattle.std.specs.Prelude.{ℕ, List, [], ◌∷◌, ◌++◌}
+use Rattle.reconciling.specs.ControlPlanes.{ControlPlane, Step, opened, run}
+
+-- the size of the server's windows and the number of workers with which it was opened, and the steps that were taken since, the first one first
+pub record Taken : Type 0 where
+  pub window : ℕ
+  pub workers : ℕ
+  pub steps : List Step
+
+-- no step
+abbrev pub begun : ℕ → ℕ → Taken
+begun window workers = record { window = window; workers = workers; steps = [] }
+
+-- one step more
+abbrev pub followed : Taken → Step → Taken
+followed t s = record t { steps = t.steps ++ s ∷ [] }
+
+-- more steps
+abbrev pub followed_by_all : Taken → List Step → Taken
+followed_by_all t ss = record t { steps = t.steps ++ ss }
+
+-- the control plane that was opened, and what these steps made of it
+abbrev pub opening : Taken → ControlPlane
+opening t = opened t.window t.workers
+
+abbrev pub plane : Taken → ControlPlane
+plane t = run (opening t) t.steps
