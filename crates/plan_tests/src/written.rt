@@ -1,20 +1,22 @@
 //! Keys and commands as texts, to be compared.
 use keys::Key;
-use meta::Object;
-use readings::in_spec;
-use std::alloc::Global;
-use std::test::Fail;
+use std::alloc::AllocError;
 use turns::{Command, Version};
 
-/// Returns the kinds and names of keys, a line each.
-pub fn keys_text(alloc: Global, keys: &[Key]) -> Result<String, Fail> {
-    let mut text = String::new(alloc);
+/// Adds two words to a text, with a blank between them and a comma in the end.
+fn tell(text: &mut String, first: &str, second: &str) -> Result<(), AllocError> {
+    text.push_str(first)?;
+    text.push(' ')?;
+    text.push_str(second)?;
+    text.push(',')
+}
+
+/// Adds the kinds and names of keys to a text.
+pub(crate) fn tell_keys(text: &mut String, keys: &[Key]) -> Result<(), AllocError> {
     for key in keys {
-        let kind = key.kind.name();
-        let name = key.name.as_str();
-        text.push_str(format!(in alloc; "{kind} {name}\n")?.as_str())?;
+        tell(text, key.kind.name(), key.name.as_str())?;
     }
-    Ok(text)
+    Ok(())
 }
 
 /// Returns a text that may be absent.
@@ -34,80 +36,28 @@ fn version_text(version: &Option<Version>) -> &str {
     }
 }
 
-/// Returns a command with all that it says.
-fn command_text(alloc: Global, command: &Command) -> Result<String, Fail> {
+/// Adds what a command does to a text, with the uid and the version that a delete names.
+fn tell_command(text: &mut String, command: &Command) -> Result<(), AllocError> {
     match command {
-        Command::Create { namespace, object } => {
-            let text = object.text(alloc)?;
-            Ok(format!(in alloc;
-                "create {} in {} {}",
-                object.kind().name(),
-                namespace.as_str(),
-                text.as_str()
-            )?)
-        }
-        Command::Update { key, object } => {
-            let text = object.text(alloc)?;
-            Ok(format!(in alloc; "update {} {}", key.name.as_str(), text.as_str())?)
-        }
-        Command::UpdateStatus { key, object } => {
-            let text = object.text(alloc)?;
-            Ok(format!(in alloc; "status {} {}", key.name.as_str(), text.as_str())?)
-        }
+        Command::Create { object, .. } => tell(text, "create", object.name().unwrap_or("none")),
+        Command::Update { key, .. } => tell(text, "update", key.name.as_str()),
+        Command::UpdateStatus { key, .. } => tell(text, "status", key.name.as_str()),
         Command::Delete {
             key,
             uid,
             version,
-            policy,
+            ..
         } => {
-            let uid = or_none(uid);
-            let version = version_text(version);
-            Ok(format!(in alloc;
-                "delete {} uid {uid} version {version} policy {policy:?}",
-                key.name.as_str()
-            )?)
+            tell(text, "delete", key.name.as_str())?;
+            tell(text, or_none(uid), version_text(version))
         }
     }
 }
 
-/// Returns commands with all that they say, a line each.
-pub fn commands_text(alloc: Global, commands: &[Command]) -> Result<String, Fail> {
-    let mut text = String::new(alloc);
+/// Adds what commands do to a text.
+pub(crate) fn tell_commands(text: &mut String, commands: &[Command]) -> Result<(), AllocError> {
     for command in commands {
-        text.push_str(command_text(alloc, command)?.as_str())?;
-        text.push('\n')?;
+        tell_command(text, command)?;
     }
-    Ok(text)
-}
-
-/// Returns how many pods an object asks for; 0 where it does not say.
-fn replicas_of(object: &Object) -> u64 {
-    match in_spec(object, "replicas") {
-        Some(found) => found.as_u64().unwrap_or(0),
-        None => 0,
-    }
-}
-
-/// Returns what becomes of sets by a command; nothing where it updates a status.
-fn size_text(alloc: Global, command: &Command) -> Result<String, Fail> {
-    match command {
-        Command::Create { object, .. } => Ok(format!(in alloc;
-            "one is made with {}\n",
-            replicas_of(object)
-        )?),
-        Command::Update { key, object } => {
-            Ok(format!(in alloc; "{} to {}\n", key.name.as_str(), replicas_of(object))?)
-        }
-        Command::UpdateStatus { .. } => Ok(String::new(alloc)),
-        Command::Delete { key, .. } => Ok(format!(in alloc; "{} is deleted\n", key.name.as_str())?),
-    }
-}
-
-/// Returns what becomes of sets by commands, a line each: how many pods they are to have, and which are deleted.
-pub fn sizes_text(alloc: Global, commands: &[Command]) -> Result<String, Fail> {
-    let mut text = String::new(alloc);
-    for command in commands {
-        text.push_str(size_text(alloc, command)?.as_str())?;
-    }
-    Ok(text)
+    Ok(())
 }

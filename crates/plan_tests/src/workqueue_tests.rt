@@ -1,0 +1,54 @@
+//! A key that is added while a worker has it.
+use controllers::controller::Controller;
+use definitions::kinds::Kind;
+use std::alloc::{AllocError, Global};
+use test_objects::key;
+use work_keys::WorkKey;
+use workqueue::Queue;
+
+/// The key of the work on a ReplicaSet in the namespace `default`.
+pub(crate) fn work_key(alloc: Global, name: &str) -> Result<WorkKey, AllocError> {
+    Ok(WorkKey {
+        controller: Controller::ReplicaSet,
+        key: key(alloc, Kind::ReplicaSet, name)?,
+    })
+}
+
+/// Whether this key is handed out.
+fn is_handed_out(queue: &mut Queue, wanted: &WorkKey) -> Result<bool, AllocError> {
+    Ok(match queue.get()? {
+        Some(key) => key == *wanted,
+        None => false,
+    })
+}
+
+/// Adds the key `web` and takes what is handed out. Returns whether that is this key.
+fn add_and_take(alloc: Global, queue: &mut Queue, key: &WorkKey) -> Result<bool, AllocError> {
+    queue.add(work_key(alloc, "web")?)?;
+    is_handed_out(queue, key)
+}
+
+/// Adds the key again, and says that it is done. Returns how many keys wait before and after that.
+fn add_and_end(alloc: Global, queue: &mut Queue, key: &WorkKey) -> Result<[usize; 2], AllocError> {
+    queue.add(work_key(alloc, "web")?)?;
+    let meanwhile = queue.len();
+    queue.done(key);
+    Ok([meanwhile, queue.len()])
+}
+
+/// Adds the key `web` twice, where it is taken in between. Returns whether it was handed out, how many keys wait before and after it is done,
+/// and whether it is handed out once more.
+fn added_twice(alloc: Global) -> Result<(bool, [usize; 2], bool), AllocError> {
+    let mut queue = Queue::new(alloc);
+    let key = work_key(alloc, "web")?;
+    let first = add_and_take(alloc, &mut queue, &key)?;
+    let waiting = add_and_end(alloc, &mut queue, &key)?;
+    Ok((first, waiting, is_handed_out(&mut queue, &key)?))
+}
+
+#[test]
+fn a_key_waits_for_its_done(rt: HostRuntime) -> Result<(), AllocError> {
+    let seen = added_twice(rt.alloc())?;
+    assert_eq!(rt; seen, (true, [0, 1], true));
+    Ok(())
+}
