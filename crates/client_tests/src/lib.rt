@@ -1,9 +1,16 @@
-//! Tests of `client`: replies and watches in pieces of any size and cut anywhere, and devices that fail or are interrupted at each call.
+//! Tests of clients over memory: replies and watches in pieces of any size and cut anywhere, devices that fail or are interrupted at each
+//! call, and a follower whose server and clock play a script.
 #![tactic(auto)]
 
 #[cfg(test)]
-mod call_tests;
+mod calls;
 #[cfg(test)]
-mod reply_tests;
+mod followers;
 #[cfg(test)]
-mod watch_tests;
+mod remotes;
+#[cfg(test)]
+mod replies;
+#[cfg(test)]
+mod scripts;
+#[cfg(test)]
+mod watches;

@@ -7,4 +7,10 @@ mod chunk_reading;
 #[cfg(test)]
 mod chunk_writing;
 #[cfg(test)]
+mod heads;
+#[cfg(test)]
 mod line_runs;
+#[cfg(test)]
+mod receiving;
+#[cfg(test)]
+mod serving;

@@ -8,7 +8,6 @@ use requests::Request;
 use std::alloc::{AllocError, Global};
 use std::io;
 use std::io::ErrorKind;
-use std::test::Fail;
 use test_devices::{Sink, Source};
 
 const LIST: &[u8] = b"HTTP/1.1 200 OK\r\nContent-Length: 2\r\n\r\n{}";
@@ -86,36 +85,48 @@ fn delete(alloc: Global, name: &str) -> Result<Request, AllocError> {
     Ok(Request::Delete(key, options))
 }
 
-#[test]
-fn each_request_has_a_connection_of_its_own(rt: HostRuntime) -> Result<(), Fail> {
+/// Returns whether these requests, each over a connection of its own, are answered as they have to be.
+fn are_answered(alloc: Global) -> Result<bool, AllocError> {
     let streams: [&[u8]; 4] = [LIST, &LIST[..LIST.len() - 1], GONE, LIST];
-    let mut server = remote(rt.alloc(), &streams);
-    for expected in ["replied", "lost", "another reply"] {
-        let answer = server.list(rt.alloc(), Kind::Deployment);
-        assert_eq!(rt; word(&answer), expected);
+    let mut server = remote(alloc, &streams);
+    let mut same = true;
+    for wanted in ["replied", "lost", "another reply"] {
+        same = same && word(&server.list(alloc, Kind::Deployment)) == wanted;
     }
-    for (name, expected) in [("a/b", "not sent"), ("b", "replied")] {
-        let request = delete(rt.alloc(), name)?;
-        assert_eq!(rt; word(&server.call(rt.alloc(), &request)), expected);
+    for (name, wanted) in [("a/b", "not sent"), ("b", "replied")] {
+        let request = delete(alloc, name)?;
+        same = same && word(&server.call(alloc, &request)) == wanted;
     }
-    assert_eq!(rt; word(&server.list(rt.alloc(), Kind::Pod)), "not sent");
-    Ok(())
+    Ok(same && word(&server.list(alloc, Kind::Pod)) == "not sent")
 }
 
 #[test]
-fn a_watch_is_opened_or_refused(rt: HostRuntime) -> Result<(), Fail> {
+fn each_request_has_a_connection_of_its_own(rt: HostRuntime) {
+    assert_eq!(rt; are_answered(rt.alloc()), Ok(true));
+}
+
+/// Returns the first of five watches, over four streams, that does not open as it has to.
+fn first_unlike(alloc: Global) -> Option<usize> {
     let streams: [&[u8]; 4] = [GONE, TOO_NEW, &WATCH[..20], WATCH];
-    let mut server = remote(rt.alloc(), &streams);
-    for expected in [
+    let mut server = remote(alloc, &streams);
+    let wanted = [
         Opened::Expired,
         Opened::Refused(504),
         Opened::Lost,
         Opened::Open,
         Opened::Lost,
-    ] {
-        assert_eq!(rt; server.open_watch(rt.alloc(), Kind::Pod, 7), expected);
+    ];
+    for (place, &opened) in wanted.iter().enumerate() {
+        if server.open_watch(alloc, Kind::Pod, 7) != opened {
+            return Some(place);
+        }
     }
-    Ok(())
+    None
+}
+
+#[test]
+fn a_watch_is_opened_or_refused(rt: HostRuntime) {
+    assert_eq!(rt; first_unlike(rt.alloc()), None);
 }
 
 /// Reads the watch that is open, and returns how it ended and how many bytes it gave.
@@ -131,18 +142,26 @@ fn read<A: Api>(server: &mut A) -> (More, usize) {
     (More::Bytes(0), count)
 }
 
-#[test]
-fn a_watch_is_read_until_it_ends_or_is_cut(rt: HostRuntime) -> Result<(), Fail> {
+/// Opens a watch. Returns whether it opens, ends so, gives so many bytes and then no more, and a read of no bytes does not change that.
+fn is_read<A: Api>(alloc: Global, server: &mut A, last: More, count: usize) -> bool {
+    let is_open = server.open_watch(alloc, Kind::Pod, 7) == Opened::Open;
+    let is_cut = server.more(&mut []) == More::Cut;
+    is_open && is_cut && read(server) == (last, count) && read(server) == (last, 0)
+}
+
+/// Returns whether watches are read to their ends, and nothing is read before the first, and after one that is not opened.
+fn are_read(alloc: Global) -> bool {
     let streams: [&[u8]; 3] = [WATCH, &WATCH[..WATCH.len() - 9], WATCH];
-    let mut server = remote(rt.alloc(), &streams);
-    assert_eq!(rt; read(&mut server), (More::Cut, 0));
+    let mut server = remote(alloc, &streams);
+    let mut same = read(&mut server) == (More::Cut, 0);
     for (last, count) in [(More::End, 8), (More::Cut, 6), (More::End, 8)] {
-        assert_eq!(rt; server.open_watch(rt.alloc(), Kind::Pod, 7), Opened::Open);
-        assert_eq!(rt; server.more(&mut []), More::Cut);
-        assert_eq!(rt; read(&mut server), (last, count));
-        assert_eq!(rt; read(&mut server), (last, 0));
+        same = same && is_read(alloc, &mut server, last, count);
     }
-    assert_eq!(rt; server.open_watch(rt.alloc(), Kind::Pod, 7), Opened::Lost);
-    assert_eq!(rt; read(&mut server), (More::Cut, 0));
-    Ok(())
+    let is_lost = server.open_watch(alloc, Kind::Pod, 7) == Opened::Lost;
+    same && is_lost && read(&mut server) == (More::Cut, 0)
+}
+
+#[test]
+fn a_watch_is_read_until_it_ends_or_is_cut(rt: HostRuntime) {
+    assert!(rt; are_read(rt.alloc()));
 }

@@ -1,0 +1,96 @@
+//! Requests over readers of whose bytes no contract speaks: no byte is read beyond what decides, and who is interrupted reads again.
+use asked::Asked;
+use chunked::Watched;
+use definitions::kinds::Kind;
+use keys::Fault;
+use received::{Received, receive};
+use requests::Request;
+use routes::table::Routes;
+use std::alloc::{AllocError, Global};
+use std::io::ErrorKind;
+use test_devices::Source;
+
+/// A create, whose body ends before the last byte.
+const CREATE: &[u8] =
+    b"POST /api/v1/namespaces/a/pods HTTP/1.1\r\nContent-Length: 25\r\n\r\n{\"metadata\":{\"name\":\"a\"}}x";
+
+/// A text, what is received of it, in a word, and how many bytes are left.
+const TEXTS: [(&[u8], &str, usize); 6] = [
+    (CREATE, "create", 1),
+    (
+        b"POST /api/v1/namespaces/a/pods HTTP/1.1\r\nContent-Length: 25\r\n\r\n{\"metadata\":",
+        "nothing",
+        0,
+    ),
+    (b"GET /api/v1/pods HTTP/1.1\r\n\r\nmore", "list", 4),
+    (
+        b"POST /api/v1/namespaces/a/pods HTTP/1.1\r\nContent-Length: 1048577\r\n\r\n{",
+        "too large",
+        1,
+    ),
+    // no text that follows makes it a head, from the blank after the name of its field on
+    (b"GET / HTTP/1.1\r\nA : b", "bad request", 3),
+    (b"", "nothing", 0),
+];
+
+/// Returns what was received, in a word.
+fn in_a_word(received: &Received) -> &'static str {
+    match received {
+        Received::Asked(Asked::Request(Request::Create(Kind::Pod, _, _))) => "create",
+        Received::Asked(Asked::List { .. }) => "list",
+        Received::Asked(_) => "something else",
+        Received::Refused(Fault::TooLarge) => "too large",
+        Received::Refused(Fault::BadRequest(_)) => "bad request",
+        Received::Refused(_) => "another refusal",
+        Received::Ended => "nothing",
+    }
+}
+
+/// Returns whether this is received of a text that comes a byte a call, with this call interrupted, and so many bytes are left.
+fn is_received(
+    alloc: Global,
+    routes: &Routes,
+    text: &(&[u8], &str, usize),
+    interrupted: u64,
+) -> bool {
+    let mut source = Source::new(text.0, 1);
+    source.bad = interrupted;
+    source.kind = ErrorKind::Interrupted;
+    let mut reader = Watched::new(source);
+    match receive(alloc, routes, &mut reader) {
+        Ok(received) => in_a_word(&received) == text.1 && reader.into_inner().left.len() == text.2,
+        Err(_) => false,
+    }
+}
+
+/// Returns the first text of which something else is received.
+fn first_unlike(alloc: Global) -> Result<Option<usize>, AllocError> {
+    let routes = Routes::new(alloc)?;
+    for (place, text) in TEXTS.iter().enumerate() {
+        if !is_received(alloc, &routes, text, u64::MAX) {
+            return Ok(Some(place));
+        }
+    }
+    Ok(None)
+}
+
+#[test]
+fn none_is_read_beyond_what_decides(rt: HostRuntime) {
+    assert_eq!(rt; first_unlike(rt.alloc()), Ok(None));
+}
+
+/// Returns the first call whose interruption changes what is received of the create.
+fn first_lost(alloc: Global) -> Result<Option<u64>, AllocError> {
+    let routes = Routes::new(alloc)?;
+    for interrupted in 0..CREATE.len() as u64 {
+        if !is_received(alloc, &routes, &TEXTS[0], interrupted) {
+            return Ok(Some(interrupted));
+        }
+    }
+    Ok(None)
+}
+
+#[test]
+fn interrupted_reads_are_made_again(rt: HostRuntime) {
+    assert_eq!(rt; first_lost(rt.alloc()), Ok(None));
+}
