@@ -7,10 +7,10 @@ use Rattle.control_plane_laws.proofs.Asking.{asks_readable}
 use Rattle.control_plane_laws.proofs.PlaneRuns.{all_well}
 use Rattle.managers.specs.Reached.{client_of, CanBeAsked}
 use Rattle.world.proofs.Reaching.{same_client}
-use Rattle.world.specs.Standing.{Stands}
-use Rattle.world.specs.WorldStates.{WorldState}
+use Rattle.world.specs.StoredStanding.{Stands}
+use Rattle.world.specs.StoredStates.{StoredState}
 
-pub asked : (w : WorldState) (n : ℕ) (a : Action) → Stands w → CanBeAsked w.cluster n a w.manager
+pub asked : (w : StoredState) (n : ℕ) (a : Action) → Stands w → CanBeAsked w.cluster n a w.manager
 unfolding Stands
 asked w n a (window, workers, steps, is) =
     let p = planes.run (planes.opened window workers) steps in

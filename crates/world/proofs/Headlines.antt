@@ -1,43 +1,36 @@
 -- What holds of every world.
-use Rattle.std.proofs.Common.{◌≡◌, ◌≤◌, ◌+◌, ◌-◌, refl, sym, ap, subst, ◌∙◌, ℕ, List, [], ◌∷◌, ◌++◌, take, length, None, Result, Ok, Err, OnOk, OnErr, IfErr, map, ◌<◌, arith}
-use Rattle.std.proofs.lemmas.List.{length-append}
+use Rattle.std.proofs.Common.{◌≡◌, ◌≤◌, ◌+◌, ◌-◌, sym, subst, ℕ, List, [], take, length, None, Some, Result, Ok, Err, OnOk, OnErr, IfErr, map, ◌<◌, slice_get}
 use Rattle.std.specs.List.{AllByRecursion}
 use Rattle.definitions.specs.declared.kinds.Kind.{Kind}
-use Rattle.definitions.specs.History as history
-use Rattle.definitions.specs.History.{History, write, writes, viewed, after_all, last_of}
-use Rattle.definitions.specs.Keys.{Key}
-use Rattle.definitions.specs.ObjectRequests.{Request}
-use Rattle.definitions.specs.Verbs.{with_write}
+use Rattle.definitions.specs.History.{History, writes, viewed, after_all, last_of}
 use Rattle.laws.specs.SentLaws.{whole}
 use Rattle.server_state.specs.Snapshots.{Snapshot}
+use Rattle.controllers.specs.Commands.{Command}
 use Rattle.controllers.specs.Hands.{Read}
 use Rattle.simulation.specs.Clusters as clusters
-use Rattle.simulation.specs.Clusters.{request, compact, moves, restart}
-use Rattle.simulation_laws.specs.ClusterLaws.{NamesVersion}
 use Rattle.reconciling.specs.ControlPlanes as planes
-use Rattle.reconciling.specs.ControlPlanes.{ControlPlane, Step, in_cluster, handle, works, tick}
+use Rattle.reconciling.specs.ControlPlanes.{Step}
 use Rattle.reconciling.specs.Managers.{Manager, Issued}
 use Rattle.reconciling.specs.Turns.{Turn, Sight, looked, satisfied}
-use Rattle.controllers.specs.Commands.{Command}
 use Rattle.reconciling_laws.specs.IssuedLaws.{IsNext, IsSeen, WasPublished, WasThere}
+use Rattle.reconciling_laws.specs.LookLaws.{WasIssued}
 use Rattle.reconciling_laws.specs.TurnLaws.{AreApart}
 use Rattle.reconciling_laws.proofs.HandRuns.{apart}
 use Rattle.reconciling_laws.proofs.IssuedRuns.{issued_next}
 use Rattle.reconciling_laws.proofs.Lists.{all_map}
+use Rattle.reconciling_laws.proofs.LookRuns.{under_way, were_issued}
 use Rattle.control_plane_laws.specs.PlaneLaws.{IsServerList}
 use Rattle.control_plane_laws.proofs.PlaneRuns.{followed, look_listed}
-use Rattle.cluster.specs.ClusterStates as stored_clusters
-use Rattle.cluster.specs.ClusterStates.{ClusterState}
-use Rattle.cluster.specs.Standing as stored
 use Rattle.steps.specs.PlaneSteps.{plane_step_of}
 use Rattle.steps.specs.declared.plane_steps.PlaneStep.{PlaneStep}
+use Rattle.traces.specs.Taken.{Taken, opening, plane, followed_by_all}
+use Rattle.cluster.specs.Standing as stored
 use Rattle.cluster.specs.declared.stopped.Stopped.{Stopped}
-use Rattle.cluster.proofs.Taking.{run_last}
-use Rattle.cluster.proofs.Headlines.{shown, Replaced, replaced, request_replaced}
-use Rattle.world.proofs.Stood.{stood, run_stood}
-use Rattle.managers.specs.Reached.{write_reaching}
-use Rattle.world.specs.Headline.{Reconciles, IsAskedBy, ReplacesNamedVersion, ReplacesNamedVersions}
-use Rattle.world.specs.Standing.{Stands}
+use Rattle.cluster.proofs.Headlines.{shown}
+use Rattle.world.proofs.PlaneHeadlines.{replaces, forgets, rises, takes, spares}
+use Rattle.world.proofs.Stood.{stood, run_stood, run_traced}
+use Rattle.world.specs.Headline.{Headline, TurnsAreUnderWay}
+use Rattle.world.specs.Standing.{StandsFor, Stands}
 use Rattle.world.specs.WorldStates.{WorldState, step, run}
 
 -- ---- what the journal says, which has the same writes
@@ -70,76 +63,84 @@ module _ (P P' : Kind → Snapshot → Type 0) (Q Q' : Read → Type 0) (looks :
 
 -- ---- every world
 
-cluster_stands : (w : WorldState) → Stands w → stored.Stands w.cluster
+cluster_stands : (w : WorldState) → Stands w → stored.Stands w.stored.cluster
 unfolding Stands stored.Stands
-cluster_stands w (window, workers, steps, is) = (
-  (planes.run (planes.opened window workers) steps).cluster,
-  is.cluster,
-  followed window workers steps,
-)
+cluster_stands w is = ((plane w.trace).cluster, is.cluster, followed w.trace.window w.trace.workers w.trace.steps)
 
-apart_in : (w : WorldState) → Stands w → AreApart w.manager.turns
+plane_stands : (w : WorldState) → Stands w → StandsFor w (plane w.trace)
 unfolding Stands
-apart_in w (window, workers, steps, is) = subst (λ (m : Manager). AreApart m.turns) (sym is.manager) (apart window workers steps)
+plane_stands w is = is
 
-issued_in : (w : WorldState) → Stands w → AllByRecursion (λ (i : Issued). IsNext (IsServerList w.cluster.journal) (WasThere w.cluster.journal) i.turn i.command) w.manager.issued
+apart_in : (w : WorldState) → Stands w → AreApart w.stored.manager.turns
 unfolding Stands
-issued_in w (window, workers, steps, is) =
-    let p = planes.run (planes.opened window workers) steps in
+apart_in w is = subst (λ (m : Manager). AreApart m.turns) (sym is.manager) (apart w.trace.window w.trace.workers w.trace.steps)
+
+issued_in : (w : WorldState) → Stands w → AllByRecursion (WasIssued (opening w.trace) w.trace.steps) w.stored.manager.issued
+unfolding Stands
+issued_in w is =
+    subst (λ (m : Manager). AllByRecursion (WasIssued (opening w.trace) w.trace.steps) m.issued) (sym is.manager) (were_issued w.trace.window w.trace.workers w.trace.steps)
+
+turns_in : (w : WorldState) → Stands w → TurnsAreUnderWay w.trace (λ n u. slice_get w.stored.manager.turns n ≡ Some (Some u))
+unfolding Stands
+turns_in w is =
+    record {
+      under_way = λ n u here.
+          under_way w.trace.window w.trace.workers w.trace.steps n u (subst (λ (m : Manager). slice_get m.turns n ≡ Some (Some u)) is.manager here);
+    }
+
+looks_in : (w : WorldState) → Stands w
+    → AllByRecursion (λ (i : Issued). IsNext (IsServerList w.stored.cluster.journal) (WasThere w.stored.cluster.journal) i.turn i.command) w.stored.manager.issued
+unfolding Stands
+looks_in w is =
+    let t = w.trace in
+    let o = opening t in
+    let p = plane t in
     let h = clusters.history p.cluster in
-    let j = w.cluster.journal in
+    let j = w.stored.cluster.journal in
     let same : writes h ≡ writes j = sym is.cluster.journal in
-    let looks : (k : Kind) (s : Snapshot) → WasPublished (planes.opened window workers) steps k s → IsServerList j k s = λ k s x. listed_by h j k s same (look_listed window workers steps k s x) in
+    let looks : (k : Kind) (s : Snapshot) → WasPublished o t.steps k s → IsServerList j k s = λ k s x. listed_by h j k s same (look_listed t.window t.workers t.steps k s x) in
     let reads : (r : Read) → WasThere h r → WasThere j r = λ r x. there_by h j r same x in
     subst (λ (m : Manager). AllByRecursion (λ (i : Issued). IsNext (IsServerList j) (WasThere j) i.turn i.command) m.issued) (sym is.manager)
-    (all_map (λ (i : Issued). IsNext (WasPublished (planes.opened window workers) steps) (WasThere h) i.turn i.command) (λ (i : Issued). IsNext (IsServerList j) (WasThere j) i.turn i.command)
-    (λ i n. next_so (WasPublished (planes.opened window workers) steps) (IsServerList j) (WasThere h) (WasThere j) looks reads i.turn i.command n) p.manager.issued (issued_next window workers steps))
+    (all_map (λ (i : Issued). IsNext (WasPublished o t.steps) (WasThere h) i.turn i.command) (λ (i : Issued). IsNext (IsServerList j) (WasThere j) i.turn i.command)
+    (λ i n. next_so (WasPublished o t.steps) (IsServerList j) (WasThere h) (WasThere j) looks reads i.turn i.command n) p.manager.issued (issued_next t.window t.workers t.steps))
 
-pub reconciles : (w : WorldState) → Stands w → Reconciles w
-reconciles w is = record { lists = shown w.cluster (cluster_stands w is); hands = apart_in w is; issued = issued_in w is }
-
--- ---- named versions
-
--- what a step that asks a request adds to the journal
-replaced_by : (w : WorldState) (s : Step) (q : Request) (k : Key) (named : List ℕ) (x : history.Write) → Stands w → IsAskedBy w s q → NamesVersion w.cluster.journal k named q
-    → (step w s).world.cluster.journal ≡ w.cluster.journal ++ write x ∷ [] → Replaced w.cluster.journal k named x
-unfolding step stored_clusters.step
-replaced_by w (in_cluster (request t)) q k named x is a names adds = replaced w.cluster t q k named x (cluster_stands w is) a names adds
-replaced_by w (in_cluster (compact r)) q k named x is a names adds = absurd a
-replaced_by w (in_cluster (moves j m)) q k named x is a names adds = absurd a
-replaced_by w (in_cluster restart) q k named x is a names adds = absurd a
-replaced_by w (handle j) q k named x is a names adds = absurd a
-replaced_by w (works n a) q k named x is e names adds =
-    request_replaced w.cluster q k named x (cluster_stands w is) names (ap (λ o. with_write w.cluster.journal (write_reaching w.cluster.session o)) (sym e) ∙ adds)
-replaced_by w (tick n) q k named x is a names adds = absurd a
-
-no_write : (h : History) (x : history.Write) → h ≡ h ++ write x ∷ [] → ⊥
-no_write h x is = let long = ap length is in omega (arith, long, length-append h (write x ∷ []))
-
-pub replaces_after : {X E : Type 0} (w v : WorldState) (s : Step) (r : Result X E) → Stands w → OnOk r (v ≡ (step w s).world) → OnErr r (v ≡ w) → ReplacesNamedVersion s w v
-replaces_after w v s (Ok y) is moved stays =
-    record { replaces = λ q k named x a names adds. replaced_by w s q k named x is a names (sym (ap (λ (u : WorldState). u.cluster.journal) moved) ∙ adds) }
-replaces_after w v s (Err e) is moved stays =
-    record { replaces = λ q k named x a names adds. absurd (no_write w.cluster.journal x (sym (ap (λ (u : WorldState). u.cluster.journal) stays) ∙ adds)) }
-
--- after a step that was taken, or changed nothing
-pub reconciles_after : {X E : Type 0} (w v : WorldState) (s : Step) (r : Result X E) → Stands w → OnOk r (v ≡ (step w s).world) → OnErr r (v ≡ w) → Reconciles v
-reconciles_after w v s (Ok x) is moved stays = subst Reconciles (sym moved) (reconciles (step w s).world (stood w s is))
-reconciles_after w v s (Err e) is moved stays = subst Reconciles (sym stays) (reconciles w is)
-
--- ---- runs
-
-pub reconciles_run : {X : Type 0} (w v : WorldState) (ss : List PlaneStep) (r : Result X Stopped) → Stands w → OnOk r (v ≡ run w (map plane_step_of ss))
-    → IfErr r (λ s. (s.taken < length ss) × (v ≡ run w (map plane_step_of (take s.taken ss)))) → Reconciles v
-reconciles_run w v ss (Ok x) is ran stopped = subst Reconciles (sym ran) (reconciles (run w (map plane_step_of ss)) (run_stood w (map plane_step_of ss) is))
-reconciles_run w v ss (Err e) is ran stopped =
-    subst Reconciles (sym stopped.1) (reconciles (run w (map plane_step_of (take e.taken ss))) (run_stood w (map plane_step_of (take e.taken ss)) is))
-
-pub replaces_run : (w : WorldState) (ss : List Step) → Stands w → ReplacesNamedVersions ss w
-replaces_run w ss is =
+pub headline : (w : WorldState) → Stands w → Headline w
+headline w is =
     record {
-      replaces = λ taken rest s at.
-          let v = run w taken in
-          subst (ReplacesNamedVersion s v) (sym (run_last (λ w s. (step w s).world) run (λ _. refl) (λ _ _ _. refl) w taken s))
-          (replaces_after {E = Unit {0}} v (step v s).world s (Ok (step v s)) (run_stood w taken is) refl tt);
+      stands = plane_stands w is;
+      lists = shown w.stored.cluster (cluster_stands w is);
+      hands = apart_in w is;
+      issued = issued_in w is;
+      turns = turns_in w is;
+      looks = looks_in w is;
+      replaces = replaces w.trace;
+      owed = forgets w.trace;
+      rise = rises w.trace;
+      takes = takes w.trace;
+      spares = spares w.trace;
     }
+
+-- ---- after a step that was taken, or changed nothing
+
+pub headline_after : {X E : Type 0} (w v : WorldState) (s : Step) (r : Result X E) → Stands w → OnOk r (v ≡ (step w s).world) → OnErr r (v ≡ w) → Headline v
+headline_after w v s (Ok x) is moved stays = subst Headline (sym moved) (headline (step w s).world (stood w s is))
+headline_after w v s (Err e) is moved stays = subst Headline (sym stays) (headline w is)
+
+-- ---- after all steps of a slice, or as many as were taken
+
+pub headline_run : {X : Type 0} (w v : WorldState) (ss : List PlaneStep) (r : Result X Stopped) → Stands w → OnOk r (v ≡ run w (map plane_step_of ss))
+    → IfErr r (λ s. (s.taken < length ss) × (v ≡ run w (map plane_step_of (take s.taken ss)))) → Headline v
+headline_run w v ss (Ok x) is ran stopped = subst Headline (sym ran) (headline (run w (map plane_step_of ss)) (run_stood w (map plane_step_of ss) is))
+headline_run w v ss (Err e) is ran stopped =
+    subst Headline (sym stopped.1) (headline (run w (map plane_step_of (take e.taken ss))) (run_stood w (map plane_step_of (take e.taken ss)) is))
+
+pub traced_ok : {X : Type 0} (w v : WorldState) (ss : List PlaneStep) (r : Result X Stopped) → OnOk r (v ≡ run w (map plane_step_of ss))
+    → OnOk r (v.trace ≡ followed_by_all w.trace (map plane_step_of ss))
+traced_ok w v ss (Ok x) ran = subst (λ (u : WorldState). u.trace ≡ followed_by_all w.trace (map plane_step_of ss)) (sym ran) (run_traced w (map plane_step_of ss))
+traced_ok w v ss (Err e) ran = tt
+
+pub traced_stopped : {X : Type 0} (w v : WorldState) (ss : List PlaneStep) (r : Result X Stopped)
+    → IfErr r (λ s. (s.taken < length ss) × (v ≡ run w (map plane_step_of (take s.taken ss)))) → IfErr r (λ s. v.trace ≡ followed_by_all w.trace (map plane_step_of (take s.taken ss)))
+traced_stopped w v ss (Ok x) stopped = tt
+traced_stopped w v ss (Err e) stopped =
+    subst (λ (u : WorldState). u.trace ≡ followed_by_all w.trace (map plane_step_of (take e.taken ss))) (sym stopped.1) (run_traced w (map plane_step_of (take e.taken ss)))

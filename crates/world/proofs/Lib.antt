@@ -1,7 +1,7 @@
-pub mod Reaching
+mod Asked
+mod Headlines
+mod PlaneHeadlines
+mod Reaching
 pub mod Stood
-pub mod Asked
-pub mod Headlines
-pub mod Risen
-pub mod Kept
-pub mod Taken
+mod StoredStood
+mod Taken

@@ -24,12 +24,12 @@ use Rattle.steps.specs.declared.steps.Step as code
 use Rattle.steps.specs.declared.steps.Step.TheVariants.{Request, Compact, Moves, Restart}
 use Rattle.work_keys.specs.WorkKeys.{work_key_of}
 use Rattle.work_keys.specs.declared.work_key.WorkKey.{WorkKey}
-use Rattle.world.proofs.Stood.{stands_opened, stood}
-use Rattle.world.specs.Standing.{Stands}
-use Rattle.world.specs.WorldStates.{WorldState, closed, owed, handle_in, step}
+use Rattle.world.proofs.StoredStood.{stands_opened, stood}
+use Rattle.world.specs.StoredStanding.{Stands}
+use Rattle.world.specs.StoredStates.{StoredState, closed, owed, handle_in, step}
 
 -- a cluster and a manager
-abbrev pub world_of : ClusterState → Manager → WorldState
+abbrev pub world_of : ClusterState → Manager → StoredState
 world_of c m = record { cluster = c; manager = m }
 
 pub stands_begun : (window workers : ℕ) (c : ClusterState) (m : Manager) → c ≡ clusters.opened window → m ≡ managers.begun workers → Stands (world_of c m)
@@ -46,7 +46,7 @@ kept_after (Compact r) m none = refl
 kept_after (Moves k v) m none = refl
 kept_after Restart m none = absurd (none refl)
 
-pub stands_clustered : (w : WorldState) (s : ClusterStep) (c : ClusterState) (m : Manager) → c ≡ (clusters.step w.cluster s).cluster → m ≡ manager_after s w.manager → Stands w → Stands (world_of c m)
+pub stands_clustered : (w : StoredState) (s : ClusterStep) (c : ClusterState) (m : Manager) → c ≡ (clusters.step w.cluster s).cluster → m ≡ manager_after s w.manager → Stands w → Stands (world_of c m)
 unfolding step
 stands_clustered w s c m cs ms is = subst Stands (λ i. world_of (sym cs i) (sym ms i)) (stood w (in_cluster s) is)
 
@@ -66,52 +66,52 @@ pub noted_as : (m new : Manager) (c : ClusterState) (n : Notification) (seen : L
     → new ≡ record m { board = observed seen keys m.board } → new ≡ noted m c n
 noted_as m new c n seen keys shows owes made = made ∙ ap₂ (λ os ks. record m { board = observed os ks m.board }) shows owes
 
-handled_in : (w : WorldState) (k : Kind) (n : Notification) (ns : List Notification) → Some n ≡ slice_get ns 0
+handled_in : (w : StoredState) (k : Kind) (n : Notification) (ns : List Notification) → Some n ≡ slice_get ns 0
     → world_of (without_oldest k w.cluster) (noted w.manager w.cluster n) ≡ (handle_in k ns w).world
 handled_in w k n [] at = absurd (none_oldest n at)
 handled_in w k n (x ∷ ns) at = ap (λ y. world_of (without_oldest k w.cluster) (noted w.manager w.cluster y)) (same_oldest n x ns at)
 
-pub handled_world : (w v : WorldState) (k : Kind) (n : Notification) (c : ClusterState) (m : Manager) → w ≡ v → Some n ≡ slice_get (follower k w.cluster).unhandled 0 → c ≡ without_oldest k w.cluster
+pub handled_world : (w v : StoredState) (k : Kind) (n : Notification) (c : ClusterState) (m : Manager) → w ≡ v → Some n ≡ slice_get (follower k w.cluster).unhandled 0 → c ≡ without_oldest k w.cluster
     → m ≡ noted w.manager w.cluster n → world_of c m ≡ (handle_in k (follower k v.cluster).unhandled v).world
 handled_world w v k n c m same at cs ms =
-    (λ i. world_of (cs i) (ms i)) ∙ handled_in w k n (follower k w.cluster).unhandled at ∙ ap (λ (u : WorldState). (handle_in k (follower k u.cluster).unhandled u).world) same
+    (λ i. world_of (cs i) (ms i)) ∙ handled_in w k n (follower k w.cluster).unhandled at ∙ ap (λ (u : StoredState). (handle_in k (follower k u.cluster).unhandled u).world) same
 
-pub stands_handled : (w : WorldState) (k : Kind) (n : Notification) (c : ClusterState) (m : Manager) → Some n ≡ slice_get (follower k w.cluster).unhandled 0 → c ≡ without_oldest k w.cluster
+pub stands_handled : (w : StoredState) (k : Kind) (n : Notification) (c : ClusterState) (m : Manager) → Some n ≡ slice_get (follower k w.cluster).unhandled 0 → c ≡ without_oldest k w.cluster
     → m ≡ noted w.manager w.cluster n → Stands w → Stands (world_of c m)
 unfolding step
 stands_handled w k n c m at cs ms is = subst Stands (sym (handled_world w w k n c m refl at cs ms)) (stood w (handle k) is)
 
-told_in : (w : WorldState) (k : Kind) (n : Notification) (ns : List Notification) → Some n ≡ slice_get ns 0 → outcomes.handled k (length (owed w.cluster n)) ≡ (handle_in k ns w).outcome
+told_in : (w : StoredState) (k : Kind) (n : Notification) (ns : List Notification) → Some n ≡ slice_get ns 0 → outcomes.handled k (length (owed w.cluster n)) ≡ (handle_in k ns w).outcome
 told_in w k n [] at = absurd (none_oldest n at)
 told_in w k n (x ∷ ns) at = ap (λ y. outcomes.handled k (length (owed w.cluster y))) (same_oldest n x ns at)
 
-pub handled_told : (w v : WorldState) (k : Kind) (n : Notification) (keys : List WorkKey) (text : List ℕ) (count : ℕ) → w ≡ v → Some n ≡ slice_get (follower k w.cluster).unhandled 0 → count ≡ length keys
+pub handled_told : (w v : StoredState) (k : Kind) (n : Notification) (keys : List WorkKey) (text : List ℕ) (count : ℕ) → w ≡ v → Some n ≡ slice_get (follower k w.cluster).unhandled 0 → count ≡ length keys
     → map work_key_of keys ≡ owed w.cluster n → text ≡ outcome_text (outcomes.handled k count) → text ≡ outcome_text (handle_in k (follower k v.cluster).unhandled v).outcome
 handled_told w v k n keys text count same at counts owes told =
     let all : count ≡ length (owed w.cluster n) = counts ∙ sym (length-map keys work_key_of) ∙ ap length owes in
     told ∙ ap (λ c. outcome_text (outcomes.handled k c)) all ∙ ap outcome_text (told_in w k n (follower k w.cluster).unhandled at)
-    ∙ ap (λ (u : WorldState). outcome_text (handle_in k (follower k u.cluster).unhandled u).outcome) same
+    ∙ ap (λ (u : StoredState). outcome_text (handle_in k (follower k u.cluster).unhandled u).outcome) same
 
-none_in : (w : WorldState) (k : Kind) (ns : List Notification) → None ≡ slice_get ns 0 → w ≡ (handle_in k ns w).world
+none_in : (w : StoredState) (k : Kind) (ns : List Notification) → None ≡ slice_get ns 0 → w ≡ (handle_in k ns w).world
 none_in w k [] at = refl
 none_in w k (x ∷ ns) at = absurd (let both : None ≡ Some x = at in cc)
 
-pub none_handled : (w v : WorldState) (k : Kind) → w ≡ v → None ≡ slice_get (follower k w.cluster).unhandled 0 → v ≡ (handle_in k (follower k v.cluster).unhandled v).world
-none_handled w v k same at = subst (λ (u : WorldState). u ≡ (handle_in k (follower k u.cluster).unhandled u).world) same (none_in w k (follower k w.cluster).unhandled at)
+pub none_handled : (w v : StoredState) (k : Kind) → w ≡ v → None ≡ slice_get (follower k w.cluster).unhandled 0 → v ≡ (handle_in k (follower k v.cluster).unhandled v).world
+none_handled w v k same at = subst (λ (u : StoredState). u ≡ (handle_in k (follower k u.cluster).unhandled u).world) same (none_in w k (follower k w.cluster).unhandled at)
 
 -- ---- a worker acts, and time passes
 
-pub stands_acted : (w : WorldState) (n : ℕ) (a : Action) (c : ClusterState) (m : Manager) → c ≡ after_request (act (client_of w.cluster) n a w.manager).request w.cluster
+pub stands_acted : (w : StoredState) (n : ℕ) (a : Action) (c : ClusterState) (m : Manager) → c ≡ after_request (act (client_of w.cluster) n a w.manager).request w.cluster
     → m ≡ (act (client_of w.cluster) n a w.manager).manager → Stands w → Stands (world_of c m)
 unfolding step
 stands_acted w n a c m cs ms is = subst Stands (λ i. world_of (sym cs i) (sym ms i)) (stood w (works n a) is)
 
-ticked_in : (w : WorldState) (n : ℕ) (b : Bool) → may_tick n w.manager.board ≡ b → world_of w.cluster (record w.manager { board = ticked n w.manager.board })
+ticked_in : (w : StoredState) (n : ℕ) (b : Bool) → may_tick n w.manager.board ≡ b → world_of w.cluster (record w.manager { board = ticked n w.manager.board })
     ≡ (if b then record { world = record w { manager = record w.manager { board = ticked n w.manager.board } }; outcome = time (w.manager.board.time + n) } else closed w).world
 ticked_in w n true may = refl
 ticked_in w n false may =
     ap (λ b. world_of w.cluster (record w.manager { board = if b then passed (w.manager.board.time + n) w.manager.board else w.manager.board })) may
 
-pub stands_ticked : (w : WorldState) (n : ℕ) (m : Manager) → m ≡ record w.manager { board = ticked n w.manager.board } → Stands w → Stands (world_of w.cluster m)
+pub stands_ticked : (w : StoredState) (n : ℕ) (m : Manager) → m ≡ record w.manager { board = ticked n w.manager.board } → Stands w → Stands (world_of w.cluster m)
 unfolding step
 stands_ticked w n m ms is = subst Stands (sym ((λ i. world_of w.cluster (ms i)) ∙ ticked_in w n (may_tick n w.manager.board) refl)) (stood w (tick n) is)

@@ -1,86 +1,139 @@
--- What holds of every world, by the journal of all writes.
-use Rattle.std.specs.Prelude.{◌≡◌, ◌≤◌, ◌||◌, ◌==◌, ℕ, List, [], ◌∷◌, ◌++◌, Bool, true, false, Some, if◌then◌else◌}
-use Rattle.std.specs.FinSet as set
+-- What holds of every world, over every list of steps of clients, controllers, reflectors, workers, cut streams and compactions: of a world
+-- that was opened, and all steps that were taken since, whichever calls took them.
+use Rattle.std.specs.Prelude.{◌≡◌, ◌≤◌, ◌⊎◌, ℕ, List, [], ◌∷◌, ◌++◌, true, Some, slice_get}
 use Rattle.std.specs.List.{AllByRecursion}
 use Rattle.definitions.specs.declared.kinds.Kind.{Kind}
 use Rattle.serde_json.specs.Data.{Data}
 use Rattle.definitions.specs.History as history
-use Rattle.definitions.specs.History.{write, present, state}
+use Rattle.definitions.specs.History.{History, write, present, state}
 use Rattle.definitions.specs.Keys.{Key}
 use Rattle.definitions.specs.Metadata.{version}
 use Rattle.definitions.specs.ObjectRequests.{Request}
-use Rattle.managers.specs.Reached.{client_of}
-use Rattle.reconciling.specs.ControlPlanes.{Step, in_cluster, handle, works}
+use Rattle.controllers.specs.Commands.{Command}
 use Rattle.controllers.specs.WorkQueues.{WorkKey}
-use Rattle.simulation.specs.Clusters.{request, moves}
-use Rattle.simulation.specs.Followers.{Follower, Notification, notifications}
+use Rattle.simulation.specs.Clusters as clusters
+use Rattle.simulation.specs.Clusters.{follower, request, moves}
+use Rattle.simulation.specs.Followers.{Notification}
 use Rattle.simulation.specs.Moves.{publish}
 use Rattle.simulation_laws.specs.ClusterLaws.{Asks, NamesVersion}
-use Rattle.cluster.specs.Headline.{ShowsLists}
-use Rattle.control_plane_laws.specs.PlaneLaws.{IsServerList}
-use Rattle.reconciling.specs.Managers.{Issued, act}
+use Rattle.reconciling.specs.ControlPlanes as planes
+use Rattle.reconciling.specs.ControlPlanes.{ControlPlane, Step, in_cluster, works, client, have_all_listed}
+use Rattle.reconciling.specs.Managers.{Issued, Action, act, take}
+use Rattle.reconciling.specs.Turns.{Turn, begun}
 use Rattle.reconciling_laws.specs.IssuedLaws.{IsNext, WasThere}
-use Rattle.reconciling.specs.NextSteps.{first}
-use Rattle.reconciling_laws.specs.OwedLaws.{IsAmong, NoRestart, tells_taken}
+use Rattle.reconciling_laws.specs.LookLaws.{WasPublishedSince, IsUnderWay, WasIssued}
+use Rattle.reconciling_laws.specs.OwedLaws.{IsAmong, NoRestart, IsKept, published}
+use Rattle.reconciling_laws.specs.TakeLaws.{HasInHand, HasNothing, TakesTheHead}
 use Rattle.reconciling_laws.specs.TurnLaws.{AreApart}
-use Rattle.cluster.specs.ClusterStates.{follower, published}
-use Rattle.world.specs.WorldStates.{WorldState, owed, step, run}
+use Rattle.control_plane_laws.specs.PlaneLaws.{IsServerList}
+use Rattle.collector_laws.specs.SparingLaws as collector
+use Rattle.collector_laws.specs.SparingLaws.{IsOfTheCollector}
+use Rattle.traces.specs.Taken.{Taken, opening, plane}
+use Rattle.cluster.specs.Headline.{ShowsLists}
+use Rattle.world.specs.Standing.{StandsFor}
+use Rattle.world.specs.WorldStates.{WorldState}
 
--- what is published of each kind is the server's list at the revision that is published with it; no key is in two workers' hands; and
--- each command that was issued is the next one of its plan for the turn beside it, each look of which is what the server's list was, and
--- each live read what was there at one revision
-pub record Reconciles (w : WorldState) : Type 0 where
-  pub lists : ShowsLists w.cluster
-  pub hands : AreApart w.manager.turns
-  pub issued : AllByRecursion (λ (i : Issued). IsNext (IsServerList w.cluster.journal) (WasThere w.cluster.journal) i.turn i.command) w.manager.issued
+-- ---- the steps that were taken
 
--- a client's line asks this request, or a worker's command
-abbrev pub IsAskedBy : WorldState → Step → Request → Type 0
-IsAskedBy w (in_cluster (request t)) q = Asks t q
-IsAskedBy w (works n a) q = (act (client_of w.cluster) n a w.manager).request ≡ Some q
-IsAskedBy w s q = ⊥
+-- the control plane after these of the steps that were taken, and what had happened at its server then
+abbrev pub plane_after : Taken → List Step → ControlPlane
+plane_after t steps = planes.run (opening t) steps
 
--- where the step asks an update, an update of the status, a patch or a delete that names a version: if that made a write, it is of the
--- object asked for, and what stood there before had just this version (Kubernetes API Conventions, Concurrency Control and Consistency)
-pub record ReplacesNamedVersion (s : Step) (before after : WorldState) : Type 0 where
+abbrev pub history_after : Taken → List Step → History
+history_after t steps = clusters.history (plane_after t steps).cluster
+
+-- some of the steps that were taken, then this one, and then the others
+abbrev pub WasTaken : Taken → List Step → Step → List Step → Type 0
+WasTaken t before s after = t.steps ≡ before ++ s ∷ after
+
+-- ---- commands, and what stands behind them
+
+-- each turn in a worker's hands, whether it has issued anything or not, is as its steps made it, in their order: each look is a map that the
+-- informer of its kind had published since the last restart, and each live read is what was there at one revision
+pub record TurnsAreUnderWay (t : Taken) (turns : ℕ → Turn → Type 0) : Type 0 where
+  pub under_way : (worker : ℕ) (u : Turn) → turns worker u → IsUnderWay (WasPublishedSince (opening t) t.steps) (WasThere (history_after t t.steps)) u
+
+-- ---- conditional writes
+
+-- a client's line asks this request in a step, or a worker's command
+abbrev pub IsAskedBy : ControlPlane → Step → Request → Type 0
+IsAskedBy p (in_cluster (request t)) q = Asks t q
+IsAskedBy p (works n a) q = (act (client p.cluster) n a p.manager).request ≡ Some q
+IsAskedBy p s q = ⊥
+
+-- where a step asked an update, an update of the status, a patch or a delete that names a version: if that made a write, it is of the object
+-- asked for, and what stood there before had just this version (Kubernetes API Conventions, Concurrency Control and Consistency)
+pub record ReplacesNamedVersions (t : Taken) : Type 0 where
   pub replaces :
-      (q : Request) (k : Key) (named : List ℕ) (w : history.Write) → IsAskedBy before s q → NamesVersion before.cluster.journal k named q → after.cluster.journal ≡ before.cluster.journal ++ write w ∷ []
-      → (existing : Data) × (w.key ≡ k) × (state before.cluster.journal (present before.cluster.journal) k ≡ Some existing) × (version existing ≡ Some named)
-
--- and so it is of each of these steps, after those before it
-pub record ReplacesNamedVersions (steps : List Step) (before : WorldState) : Type 0 where
-  pub replaces : (taken rest : List Step) (s : Step) → steps ≡ taken ++ s ∷ rest → ReplacesNamedVersion s (run before taken) (run before (taken ++ s ∷ []))
-
--- where none of these steps is a restart, the revision that is published of a kind does not fall
-pub record RevisionsRise (steps : List Step) (before after : WorldState) : Type 0 where
-  pub rise : (k : Kind) → NoRestart steps → (published k before.cluster).revision ≤ (published k after.cluster).revision
+      (before after : List Step) (s : Step) (q : Request) (k : Key) (named : List ℕ) (w : history.Write) → WasTaken t before s after
+      → (let h = history_after t before in
+      IsAskedBy (plane_after t before) s q → NamesVersion h k named q → history_after t (before ++ s ∷ []) ≡ h ++ write w ∷ []
+      → (existing : Data) × (w.key ≡ k) × (state h (present h) k ≡ Some existing) × (version existing ≡ Some named))
 
 -- ---- what changes owe
 
--- the changes of a kind that are still to be handled, the oldest first
-abbrev pub unhandled : Kind → WorldState → List Notification
-unhandled k w = (follower k w.cluster).unhandled
-
--- what a publication changes, where it is open
-abbrev pub changes_in : Follower → List Notification
-changes_in f = if f.reflector.revision == 0 then [] else notifications f.has_listed f.informer.published.members f.informer.pending
-
--- whether one of these steps hands a key to a worker
-abbrev pub was_taken : WorkKey → WorldState → List Step → Bool
-was_taken j w [] = false
-was_taken j w (s ∷ ss) = tells_taken j (step w s).outcome || was_taken j (step w s).world ss
-
--- after these steps a change of a kind is still to be handled; or one of them handled it, and each key that it owed, by what was published
--- then, is dirty, or was taken after that
-pub data IsKept (w : WorldState) (steps : List Step) (k : Kind) (n : Notification) : Type 0 where
-  waits : IsAmong n (unhandled k (run w steps)) → IsKept w steps k n
-  was_handled : (before after : List Step) → steps ≡ before ++ handle k ∷ after → first (unhandled k (run w before)) ≡ Some n
-      → ((j : WorkKey) → IsAmong j (owed (run w before).cluster n)
-      → (let v = (step (run w before) (handle k)).world in (set.contains (run v after).manager.board.work.dirty j || was_taken j v after) ≡ true))
-      → IsKept w steps k n
-
--- each change that one of these steps publishes is kept until the next restart
-pub record ForgetsNothing (steps : List Step) (w : WorldState) : Type 0 where
+-- each change that a step published is kept until the next restart: it is still to be handled; or it was handled, and each key that it owed,
+-- by what was published then, is dirty, or was taken after that
+pub record ForgetsNothing (t : Taken) : Type 0 where
   pub kept :
-      (before after rest : List Step) (k : Kind) (n : Notification) → steps ≡ before ++ in_cluster (moves k publish) ∷ (after ++ rest) → IsAmong n (changes_in (follower k (run w before).cluster))
-      → NoRestart after → IsKept (step (run w before) (in_cluster (moves k publish))).world after k n
+      (before after rest : List Step) (k : Kind) (n : Notification) → WasTaken t before (in_cluster (moves k publish)) (after ++ rest) → IsAmong n (published k (plane_after t before).cluster)
+      → NoRestart after → IsKept (planes.step (plane_after t before) (in_cluster (moves k publish))).plane after k n
+
+-- between any two restarts, and before the first and after the last, the revision that is published of a kind does not fall
+pub record RevisionsRise (t : Taken) : Type 0 where
+  pub rise :
+      (before middle after : List Step) (k : Kind) → t.steps ≡ before ++ (middle ++ after) → NoRestart middle
+      → (follower k (plane_after t before).cluster).informer.published.revision ≤ (follower k (plane_after t (before ++ middle)).cluster).informer.published.revision
+
+-- ---- how turns begin
+
+-- a worker that has nothing in hand and takes a key gets that at the head of the queue, if one is queued and each kind has been published;
+-- and nothing else gives a turn: who has one after a step had one of that key before it, or took the head of the queue in it
+pub record TakesTheHeads (t : Taken) : Type 0 where
+  pub gives :
+      (before after : List Step) (w : ℕ) (k : WorkKey) (rest : List WorkKey) → WasTaken t before (works w take) after
+      → (let p = plane_after t before in
+      HasNothing w p → have_all_listed p.cluster ≡ true → p.manager.board.work.queue ≡ k ∷ rest → TakesTheHead w k rest p.manager (plane_after t (before ++ works w take ∷ [])).manager)
+  pub only :
+      (before after : List Step) (s : Step) (w : ℕ) (u : Turn) → WasTaken t before s after
+      → (let p = plane_after t before in
+      let q = plane_after t (before ++ s ∷ []) in
+      HasInHand w u q
+      → ((v : Turn) × HasInHand w v p × (v.work_key ≡ u.work_key))
+      ⊎ (HasNothing w p × (s ≡ works w take) × ((rest : List WorkKey) × TakesTheHead w u.work_key rest p.manager q.manager) × (u ≡ begun u.work_key)))
+
+-- ---- what the collector spares
+
+-- where a worker's next command was the collector's, and its step made a write: what a delete marked or removed named an owner, and none of
+-- those that it named was there and not being deleted, each being of a served kind; and what an update removed was being deleted already
+-- (Kubernetes, Garbage Collection)
+pub record SparesLiveOwners (t : Taken) : Type 0 where
+  pub spares :
+      (before after : List Step) (n : ℕ) (a : Action) (x : Command) (w : history.Write) → WasTaken t before (works n a) after
+      → (let h = history_after t before in
+      IsOfTheCollector n x (plane_after t before).manager → history_after t (before ++ works n a ∷ []) ≡ h ++ write w ∷ [] → collector.SparesLiveOwners h x w)
+
+-- ---- all of it
+
+pub record Headline (w : WorldState) : Type 0 where
+  -- what is stored stands for the control plane that was opened, after the steps that were taken
+  pub stands : StandsFor w (plane w.trace)
+  -- what each informer has published is the server's list at the revision that is published with it, which has happened
+  pub lists : ShowsLists w.stored.cluster
+  -- no key is in two workers' hands
+  pub hands : AreApart w.stored.manager.turns
+  -- each command that a worker issued is the next one of its plan for the turn that it then had in hand, each look of which its informer had
+  -- published since the last restart, and each live read of which is what was there at one revision; and so is each turn in hand now
+  pub issued : AllByRecursion (WasIssued (opening w.trace) w.trace.steps) w.stored.manager.issued
+  pub turns : TurnsAreUnderWay w.trace (λ n u. slice_get w.stored.manager.turns n ≡ Some (Some u))
+  -- so each look was the server's list at its revision, by the journal of all writes
+  pub looks : AllByRecursion (λ (i : Issued). IsNext (IsServerList w.stored.cluster.journal) (WasThere w.stored.cluster.journal) i.turn i.command) w.stored.manager.issued
+  -- each accepted write that names a version replaced exactly that version
+  pub replaces : ReplacesNamedVersions w.trace
+  -- no published change is forgotten, and no informer goes back
+  pub owed : ForgetsNothing w.trace
+  pub rise : RevisionsRise w.trace
+  -- a turn begins with the head of the queue
+  pub takes : TakesTheHeads w.trace
+  -- the collector spares what has a live owner
+  pub spares : SparesLiveOwners w.trace

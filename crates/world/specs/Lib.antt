@@ -1,4 +1,6 @@
+pub mod StoredStates
+pub mod StoredStanding
 pub mod WorldStates
 pub mod Standing
-pub mod Told
 pub mod Headline
+pub mod Told

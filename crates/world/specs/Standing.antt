@@ -1,15 +1,13 @@
--- What a stored world stands for.
-use Rattle.std.specs.Prelude.{◌≡◌, ℕ, List}
-use Rattle.reconciling.specs.ControlPlanes as planes
-use Rattle.reconciling.specs.ControlPlanes.{ControlPlane, Step}
-use Rattle.cluster.specs.Standing as cluster
+-- What a world stands for.
+use Rattle.reconciling.specs.ControlPlanes.{ControlPlane}
+use Rattle.traces.specs.Taken.{plane}
+use Rattle.world.specs.StoredStanding as stored
 use Rattle.world.specs.WorldStates.{WorldState}
 
--- its cluster stands for that of the control plane, and its manager is the same; it does not count the steps that were taken
-pub record StandsFor (w : WorldState) (p : ControlPlane) : Type 0 where
-  pub cluster : cluster.StandsFor w.cluster p.cluster
-  pub manager : w.manager ≡ p.manager
+-- what is stored of it has the manager of the control plane, and a cluster that stands for that of the control plane
+abbrev pub StandsFor : WorldState → ControlPlane → Type 0
+StandsFor w p = stored.StandsFor w.stored p
 
--- it stands for what some list of steps made of an opening control plane
+-- it stands for the control plane that was opened, after the steps that were taken
 unfoldable pub Stands : WorldState → Type 0
-Stands w = (window workers : ℕ) × (steps : List Step) × StandsFor w (planes.run (planes.opened window workers) steps)
+Stands w = StandsFor w (plane w.trace)

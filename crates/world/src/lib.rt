@@ -6,6 +6,7 @@
 //! version replaced exactly that version.
 #![tactic(auto)]
 
+mod stored_worlds;
 pub mod told;
 pub mod worlds;
 

@@ -1,29 +1,18 @@
 //! Worlds.
-ghost use Rattle.std.specs.Prelude.{◌≡◌, IfOk, map};
-ghost use Rattle.control_desk.specs.Seen.{observation_of};
-ghost use Rattle.followers.specs.Notified.{notification_of};
-ghost use Rattle.reconciling.specs.PodObservations.{observations};
-ghost use Rattle.work_keys.specs.WorkKeys.{work_key_of};
-ghost use Rattle.world.specs.WorldStates.{owed};
-
+use crate::stored_worlds::StoredWorld;
 use crate::told::Told;
-use cluster::{Cluster, Stopped};
-use control_desk::Observation;
-use definitions::kinds::Kind;
-use followers::Notification;
-use informer::keys_of;
-use managers::{Manager, lines};
-use pod_observations::{object_in, observations};
+use cluster::Stopped;
+use revisions::Journal;
 use std::alloc::{AllocError, Global};
 use std::marker::Model;
-use steps::{Action, Config, PlaneStep, Step};
-use work_keys::WorkKey;
+use steps::{Config, PlaneStep};
+use traces::Trace;
 
-/// A cluster, and the controller manager beside it.
+/// A cluster, and the controller manager beside it, with the steps that were taken since it was opened, which only proofs read.
 #[derive(Drop)]
 pub struct World {
-    cluster: Cluster,
-    manager: Manager,
+    stored: StoredWorld,
+    trace: Trace,
 }
 
 impl Model for World {
@@ -34,142 +23,63 @@ impl Model for World {
 
     ghost coded = { coded_world };
 
-    ghost view = { λ w. record { cluster = w.cluster; manager = w.manager } };
+    ghost view = { λ w. record { stored = w.stored; trace = w.trace.taken } };
 
-    ghost invariant = { λ w. Stands (record { cluster = w.cluster; manager = w.manager }) };
-}
-
-/// Returns what a change shows of the pods that ReplicaSets expect: nothing, where it is of the first list. The error is running out of
-/// memory.
-fn shown(alloc: Global, change: &Notification) -> Result<Vec<Observation>, AllocError>
-    ensures { IfOk result (λ v. map observation_of v.items ≡ observations (notification_of change.now)) }
-{
-    if change.is_in_initial_list {
-        return Ok(Vec::new(alloc));
-    }
-    observations(alloc, &change.shift)
-}
-
-/// Returns the work keys that a change owes, by what is published now. The error is running out of memory.
-fn owed(alloc: Global, cluster: &Cluster, change: &Notification) -> Result<Vec<WorkKey>, AllocError>
-    ensures { IfOk result (λ v. map work_key_of v.items ≡ owed cluster.now (notification_of change.now)) }
-{
-    let shift = &change.shift;
-    let looks = cluster.looks()?;
-    keys_of(
-        alloc,
-        shift.key.kind,
-        object_in(&shift.old),
-        object_in(&shift.new),
-        &looks,
-    )
+    ghost invariant = { λ w. Stands (record { stored = w.stored; trace = w.trace.taken }) };
 }
 
 impl World {
-    ghost use Rattle.std.specs.Prelude.{◌≡◌, ◌<◌, IfOk, IfErr, OnOk, OnErr, [], ◌∷◌, length, map, take};
-    ghost use Rattle.cluster.specs.ClusterStates.{follower};
-    ghost use Rattle.managers.specs.Reached.{client_of};
-    ghost use Rattle.reconciling.specs.Managers.{act};
-    ghost use Rattle.steps.specs.Actions.{action_of};
-    ghost use Rattle.steps.specs.PlaneSteps.{plane_step_of};
-    ghost use Rattle.steps.specs.Steps.{step_of};
-    ghost use Rattle.world.specs.Headline.{Reconciles, ReplacesNamedVersion, ReplacesNamedVersions, RevisionsRise, ForgetsNothing};
+    ghost use Rattle.std.specs.Prelude.{◌≡◌, ◌<◌, IfOk, IfErr, OnOk, OnErr, length, map, take};
+    ghost use Rattle.reconciling.specs.ControlPlanes as planes;
     ghost use Rattle.reconciling.specs.OutcomeTexts.{outcome_text};
+    ghost use Rattle.steps.specs.PlaneSteps.{plane_step_of};
+    ghost use Rattle.traces.specs.Taken.{plane, followed, followed_by_all};
+    ghost use Rattle.world.specs.Headline.{Headline};
     ghost use Rattle.world.specs.Told.{text_of};
-    ghost use Rattle.world.specs.WorldStates.{opened, step, run, step_cluster, handle_in, after_action, tick_in};
+    ghost use Rattle.world.specs.WorldStates.{opened, step, run};
 
-    /// Returns the opening world, in which nothing has happened yet. The error is running out of memory.
+    /// Returns the opening world, in which nothing has happened yet, and which took no step. The error is running out of memory.
     pub fn open(alloc: Global, config: Config) -> Result<World, AllocError>
         ensures { IfOk result (λ w. w ≡ opened config.window config.workers) }
     {
         Ok(World {
-            cluster: Cluster::open(alloc, config.window)?,
-            manager: Manager::new(alloc, config.workers)?,
+            stored: StoredWorld::open(alloc, config)?,
+            trace: Trace::begun(&config),
         })
     }
 
-    /// Takes a step of the cluster, of which a restart is one of the manager too. The error is running out of memory, and changes nothing.
-    fn step_cluster(&mut self, alloc: Global, wanted: Step<'_>) -> Result<Told, AllocError>
-        ensures after { OnOk result (self.new ≡ (step_cluster (step_of wanted.entry) self.old).world) }
-        ensures told { IfOk result (λ t. text_of t ≡ outcome_text (step_cluster (step_of wanted.entry) self.old).outcome) }
-        ensures err { OnErr result (self.new ≡ self.old) }
-    {
-        let outcome = self.cluster.step(alloc, wanted)?;
-        if let Step::Restart = wanted {
-            self.manager.restart(alloc);
-        }
-        Ok(Told::InCluster(outcome))
-    }
-
-    /// Handles the oldest published change of a kind, if one waits: what it shows of expected pods is noted, and the keys that it owes are
-    /// added. The error is running out of memory, and changes nothing.
-    fn handle(&mut self, alloc: Global, kind: Kind) -> Result<Told, AllocError>
-        ensures after { OnOk result (self.new ≡ (handle_in kind (follower kind self.old.cluster).unhandled self.old).world) }
-        ensures told { IfOk result (λ t. text_of t ≡ outcome_text (handle_in kind (follower kind self.old.cluster).unhandled self.old).outcome) }
-        ensures err { OnErr result (self.new ≡ self.old) }
-    {
-        let Some(change) = self.cluster.oldest(kind) else {
-            return Ok(Told::Line(lines::no_step(alloc)?));
-        };
-        let keys = owed(alloc, &self.cluster, change)?;
-        let observations = shown(alloc, change)?;
-        let line = lines::handled(alloc, kind, keys.len() as u64)?;
-        self.manager
-            .observe(observations.as_slice(), keys.as_slice())?;
-        self.cluster.remove_oldest(kind);
-        Ok(Told::Line(line))
-    }
-
-    /// Has a worker act, if the action is open. The error is running out of memory, and changes nothing.
-    fn work(&mut self, alloc: Global, worker: u64, action: Action) -> Result<Told, AllocError>
-        ensures after { OnOk result (self.new ≡ (after_action (act (client_of self.old.cluster) worker (action_of action) self.old.manager) self.old).world) }
-        ensures told { IfOk result (λ t. text_of t ≡ outcome_text (after_action (act (client_of self.old.cluster) worker (action_of action) self.old.manager) self.old).outcome) }
-        ensures err { OnErr result (self.new ≡ self.old) }
-    {
-        let line = self.manager.act(alloc, &mut self.cluster, worker, action)?;
-        Ok(Told::Line(line))
-    }
-
-    /// Lets so many milliseconds pass, where the last moment is not passed by it. The error is running out of memory, and changes nothing.
-    fn tick(&mut self, alloc: Global, milliseconds: u64) -> Result<Told, AllocError>
-        ensures after { OnOk result (self.new ≡ (tick_in milliseconds self.old).world) }
-        ensures told { IfOk result (λ t. text_of t ≡ outcome_text (tick_in milliseconds self.old).outcome) }
-        ensures err { OnErr result (self.new ≡ self.old) }
-    {
-        let line = self.manager.tick(alloc, milliseconds)?;
-        Ok(Told::Line(line))
-    }
-
-    /// Takes a step, and returns what is told of it. The error is running out of memory, and changes nothing.
-    #[tactic(auto, unfolding(crate::specs::WorldStates::step))]
+    /// Takes a step of what is stored, and notes it. The error is running out of memory, and changes nothing.
     fn take(&mut self, alloc: Global, wanted: PlaneStep<'_>) -> Result<Told, AllocError>
         ensures after { OnOk result (self.new ≡ (step self.old (plane_step_of wanted.entry)).world) }
         ensures told { IfOk result (λ t. text_of t ≡ outcome_text (step self.old (plane_step_of wanted.entry)).outcome) }
         ensures err { OnErr result (self.new ≡ self.old) }
     {
-        match wanted {
-            PlaneStep::InCluster(step) => self.step_cluster(alloc, step),
-            PlaneStep::Handle(kind) => self.handle(alloc, kind),
-            PlaneStep::Works(worker, action) => self.work(alloc, worker, action),
-            PlaneStep::Tick(milliseconds) => self.tick(alloc, milliseconds),
-        }
+        let told = self.stored.take(alloc, wanted)?;
+        self.trace = self.trace.followed(&wanted);
+        Ok(told)
     }
 
     /// Takes a step, and returns what is told of it. The error is running out of memory, and changes nothing.
     ///
-    /// Whatever was asked, then each published map is the server's list at the revision published with it, no key is in two workers'
-    /// hands, and each command that was issued is the next one of its plan for what the worker had looked at and read. Where a client
-    /// or a worker asked a write that names a version, it replaced exactly that version.
+    /// What is told is what the control plane tells that was opened with these sizes, after all steps that were taken since, whichever
+    /// calls took them; and the world stands for what it is after this step too.
+    ///
+    /// Over all these steps: each published map is the server's list at the revision published with it, and that falls by a restart
+    /// alone. No key is in two workers' hands, and a turn begins with the head of the queue. Each command that was issued is the next one
+    /// of its plan for what its worker then had in hand: looks that were published since the last restart, and live reads of what was
+    /// there. Each write that names a version replaced exactly that version. Each published change is, until a restart, still to be
+    /// handled, or each key that it owes waits in the queue, or was taken after it was handled. And what a delete of the garbage
+    /// collector marked or removed named owners, none of which was there and not being deleted.
     pub fn step(&mut self, alloc: Global, wanted: PlaneStep<'_>) -> Result<Told, AllocError>
         ensures after { OnOk result (self.new ≡ (step self.old (plane_step_of wanted.entry)).world) }
+        ensures traced { OnOk result (self.new.trace ≡ followed self.old.trace (plane_step_of wanted.entry)) }
         ensures told { IfOk result (λ t. text_of t ≡ outcome_text (step self.old (plane_step_of wanted.entry)).outcome) }
-        ensures reconciles { Reconciles self.new }
-        ensures rise { RevisionsRise (plane_step_of wanted.entry ∷ []) self.old self.new }
-        ensures replaces { ReplacesNamedVersion (plane_step_of wanted.entry) self.old self.new }
+        ensures tells { IfOk result (λ t. text_of t ≡ outcome_text (planes.step (plane self.old.trace) (plane_step_of wanted.entry)).outcome) }
+        ensures headline { Headline self.new }
         ensures err { OnErr result (self.new ≡ self.old) }
     {
         // What holds of every world is known from here on.
-        let _manager = &self.manager;
+        let _stored = &self.stored;
         self.take(alloc, wanted)
     }
 
@@ -188,18 +98,23 @@ impl World {
 
     /// Takes one step after another. The error says how many were taken before one ran out of memory.
     ///
-    /// Whatever was asked, and also where it stopped, holds what `step` says. And each change that one of the steps published is, until a
-    /// restart, still to be handled, or each key that it owes waits in the queue, or was taken after it was handled.
+    /// Whatever was asked, and also where it stopped, holds what `step` says, of all steps that were taken since the world was opened.
     pub fn run(&mut self, alloc: Global, steps: &[PlaneStep<'_>]) -> Result<(), Stopped>
         ensures ok { OnOk result (self.new ≡ run self.old (map plane_step_of steps.now)) }
         ensures stopped { IfErr result (λ s. (s.taken < length steps.now) × (self.new ≡ run self.old (map plane_step_of (take s.taken steps.now)))) }
-        ensures reconciles { Reconciles self.new }
-        ensures rise { RevisionsRise (map plane_step_of steps.now) self.old self.new }
-        ensures replaces { ReplacesNamedVersions (map plane_step_of steps.now) self.old }
-        ensures owed { ForgetsNothing (map plane_step_of steps.now) self.old }
+        ensures traced { OnOk result (self.new.trace ≡ followed_by_all self.old.trace (map plane_step_of steps.now)) }
+        ensures stopped_traced { IfErr result (λ s. self.new.trace ≡ followed_by_all self.old.trace (map plane_step_of (take s.taken steps.now))) }
+        ensures headline { Headline self.new }
     {
         // What holds of every world is known from here on.
-        let _manager = &self.manager;
+        let _stored = &self.stored;
         self.take_all(alloc, steps)
+    }
+
+    /// Returns the journal of all writes, the oldest first. It takes no memory.
+    pub fn journal(&self) -> &Journal
+        ensures { result.now ≡ self.now.stored.cluster.journal }
+    {
+        self.stored.journal()
     }
 }

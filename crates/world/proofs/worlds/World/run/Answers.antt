@@ -1,21 +1,14 @@
-use Rattle.std.proofs.Common.{subst, map}
-use Rattle.steps.specs.PlaneSteps.{plane_step_of}
+use Rattle.std.proofs.Common.{subst}
 use Rattle.world.specs.Standing.{Stands}
-use Rattle.world.proofs.Headlines.{reconciles_run, replaces_run}
-use Rattle.world.proofs.Kept.{forgets}
-use Rattle.world.proofs.Risen.{risen_run}
+use Rattle.world.proofs.Headlines.{headline_run, traced_ok, traced_stopped}
 use Rattle.world.proofs.worlds.World.run.Goals as goal
 
-pub returns-clause-reconciles : goal.returns-clause-reconciles
-returns-clause-reconciles c =
-    reconciles_run c.args.self.now c.take_all.new.self c.args.steps.now c.take_all.result (subst Stands c.self.view_is c.self.invariant) c.take_all.ensures.ok c.take_all.ensures.stopped
+pub returns-clause-traced : goal.returns-clause-traced
+returns-clause-traced c = traced_ok c.args.self.now c.take_all.new.self c.args.steps.now c.take_all.result c.take_all.ensures.ok
 
-pub returns-clause-rise : goal.returns-clause-rise
-returns-clause-rise c =
-    risen_run c.args.self.now c.take_all.new.self c.args.steps.now c.take_all.result (subst Stands c.self.view_is c.self.invariant) c.take_all.ensures.ok c.take_all.ensures.stopped
+pub returns-clause-stopped_traced : goal.returns-clause-stopped_traced
+returns-clause-stopped_traced c = traced_stopped c.args.self.now c.take_all.new.self c.args.steps.now c.take_all.result c.take_all.ensures.stopped
 
-pub returns-clause-replaces : goal.returns-clause-replaces
-returns-clause-replaces c = replaces_run c.args.self.now (map plane_step_of c.args.steps.now) (subst Stands c.self.view_is c.self.invariant)
-
-pub returns-clause-owed : goal.returns-clause-owed
-returns-clause-owed c = forgets c.args.self.now (map plane_step_of c.args.steps.now) (subst Stands c.self.view_is c.self.invariant)
+pub returns-clause-headline : goal.returns-clause-headline
+returns-clause-headline c =
+    headline_run c.args.self.now c.take_all.new.self c.args.steps.now c.take_all.result (subst Stands c.self.view_is c.self.invariant) c.take_all.ensures.ok c.take_all.ensures.stopped

@@ -1,7 +1,7 @@
 use Rattle.steps.specs.Actions.{action_of}
 use Rattle.world.proofs.Asked.{asked}
 use Rattle.world.proofs.Taken.{world_of, stands_acted}
-use Rattle.world.proofs.worlds.World.work.Goals as goal
+use Rattle.world.proofs.stored_worlds.StoredWorld.work.Goals as goal
 
 pub act-requires : goal.act-requires
 act-requires c = record { asked = asked (world_of c.self.inside.cluster c.self.inside.manager) c.args.worker (action_of c.args.action) c.self.invariant }

@@ -3,7 +3,7 @@ use Rattle.control_desk.specs.Seen.{observation_of}
 use Rattle.followers.specs.Notified.{notification_of}
 use Rattle.work_keys.specs.WorkKeys.{work_key_of}
 use Rattle.world.proofs.Taken.{world_of, noted_as, handled_world, stands_handled, handled_told, none_handled}
-use Rattle.world.proofs.worlds.World.handle.Goals as goal
+use Rattle.world.proofs.stored_worlds.StoredWorld.handle.Goals as goal
 
 pub returns-in_default-clause-after : goal.returns-in_default-clause-after
 returns-in_default-clause-after c = none_handled (world_of c.self.inside.cluster c.self.inside.manager) c.args.self.now c.args.kind c.self.view_is c.in_default.ensures

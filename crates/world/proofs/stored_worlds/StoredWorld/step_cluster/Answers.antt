@@ -1,6 +1,6 @@
 use Rattle.steps.specs.Steps.{step_of}
 use Rattle.world.proofs.Taken.{world_of, restarted_after, kept_after, stands_clustered}
-use Rattle.world.proofs.worlds.World.step_cluster.Goals as goal
+use Rattle.world.proofs.stored_worlds.StoredWorld.step_cluster.Goals as goal
 
 pub invariant_of-self-in-Restart : goal.invariant_of-self-in-Restart
 invariant_of-self-in-Restart c =

@@ -1,0 +1,164 @@
+//! What is stored of worlds.
+ghost use Rattle.std.specs.Prelude.{◌≡◌, IfOk, map};
+ghost use Rattle.control_desk.specs.Seen.{observation_of};
+ghost use Rattle.followers.specs.Notified.{notification_of};
+ghost use Rattle.reconciling.specs.PodObservations.{observations};
+ghost use Rattle.work_keys.specs.WorkKeys.{work_key_of};
+ghost use Rattle.world.specs.StoredStates.{owed};
+
+use crate::told::Told;
+use cluster::Cluster;
+use control_desk::Observation;
+use definitions::kinds::Kind;
+use followers::Notification;
+use informer::keys_of;
+use managers::{Manager, lines};
+use pod_observations::{object_in, observations};
+use revisions::Journal;
+use std::alloc::{AllocError, Global};
+use std::marker::Model;
+use steps::{Action, Config, PlaneStep, Step};
+use work_keys::WorkKey;
+
+/// A cluster, and the controller manager beside it.
+#[derive(Drop)]
+pub(crate) struct StoredWorld {
+    cluster: Cluster,
+    manager: Manager,
+}
+
+impl Model for StoredWorld {
+    ghost use Rattle.world.specs.StoredStates.{StoredState, coded_stored};
+    ghost use Rattle.world.specs.StoredStanding.{Stands};
+
+    ghost Value = { StoredState };
+
+    ghost coded = { coded_stored };
+
+    ghost view = { λ w. record { cluster = w.cluster; manager = w.manager } };
+
+    ghost invariant = { λ w. Stands (record { cluster = w.cluster; manager = w.manager }) };
+}
+
+/// Returns what a change shows of the pods that ReplicaSets expect: nothing, where it is of the first list. The error is running out of
+/// memory.
+fn shown(alloc: Global, change: &Notification) -> Result<Vec<Observation>, AllocError>
+    ensures { IfOk result (λ v. map observation_of v.items ≡ observations (notification_of change.now)) }
+{
+    if change.is_in_initial_list {
+        return Ok(Vec::new(alloc));
+    }
+    observations(alloc, &change.shift)
+}
+
+/// Returns the work keys that a change owes, by what is published now. The error is running out of memory.
+fn owed(alloc: Global, cluster: &Cluster, change: &Notification) -> Result<Vec<WorkKey>, AllocError>
+    ensures { IfOk result (λ v. map work_key_of v.items ≡ owed cluster.now (notification_of change.now)) }
+{
+    let shift = &change.shift;
+    let looks = cluster.looks()?;
+    keys_of(
+        alloc,
+        shift.key.kind,
+        object_in(&shift.old),
+        object_in(&shift.new),
+        &looks,
+    )
+}
+
+impl StoredWorld {
+    ghost use Rattle.std.specs.Prelude.{◌≡◌, IfOk, OnOk, OnErr};
+    ghost use Rattle.cluster.specs.ClusterStates.{follower};
+    ghost use Rattle.managers.specs.Reached.{client_of};
+    ghost use Rattle.reconciling.specs.Managers.{act};
+    ghost use Rattle.steps.specs.Actions.{action_of};
+    ghost use Rattle.steps.specs.PlaneSteps.{plane_step_of};
+    ghost use Rattle.steps.specs.Steps.{step_of};
+    ghost use Rattle.reconciling.specs.OutcomeTexts.{outcome_text};
+    ghost use Rattle.world.specs.Told.{text_of};
+    ghost use Rattle.world.specs.StoredStates.{opened, step, step_cluster, handle_in, after_action, tick_in};
+
+    /// Returns the opening world, in which nothing has happened yet. The error is running out of memory.
+    pub(crate) fn open(alloc: Global, config: Config) -> Result<StoredWorld, AllocError>
+        ensures { IfOk result (λ w. w ≡ opened config.window config.workers) }
+    {
+        Ok(StoredWorld {
+            cluster: Cluster::open(alloc, config.window)?,
+            manager: Manager::new(alloc, config.workers)?,
+        })
+    }
+
+    /// Takes a step of the cluster, of which a restart is one of the manager too. The error is running out of memory, and changes nothing.
+    fn step_cluster(&mut self, alloc: Global, wanted: Step<'_>) -> Result<Told, AllocError>
+        ensures after { OnOk result (self.new ≡ (step_cluster (step_of wanted.entry) self.old).world) }
+        ensures told { IfOk result (λ t. text_of t ≡ outcome_text (step_cluster (step_of wanted.entry) self.old).outcome) }
+        ensures err { OnErr result (self.new ≡ self.old) }
+    {
+        let outcome = self.cluster.step(alloc, wanted)?;
+        if let Step::Restart = wanted {
+            self.manager.restart(alloc);
+        }
+        Ok(Told::InCluster(outcome))
+    }
+
+    /// Handles the oldest published change of a kind, if one waits: what it shows of expected pods is noted, and the keys that it owes are
+    /// added. The error is running out of memory, and changes nothing.
+    fn handle(&mut self, alloc: Global, kind: Kind) -> Result<Told, AllocError>
+        ensures after { OnOk result (self.new ≡ (handle_in kind (follower kind self.old.cluster).unhandled self.old).world) }
+        ensures told { IfOk result (λ t. text_of t ≡ outcome_text (handle_in kind (follower kind self.old.cluster).unhandled self.old).outcome) }
+        ensures err { OnErr result (self.new ≡ self.old) }
+    {
+        let Some(change) = self.cluster.oldest(kind) else {
+            return Ok(Told::Line(lines::no_step(alloc)?));
+        };
+        let keys = owed(alloc, &self.cluster, change)?;
+        let observations = shown(alloc, change)?;
+        let line = lines::handled(alloc, kind, keys.len() as u64)?;
+        self.manager
+            .observe(observations.as_slice(), keys.as_slice())?;
+        self.cluster.remove_oldest(kind);
+        Ok(Told::Line(line))
+    }
+
+    /// Has a worker act, if the action is open. The error is running out of memory, and changes nothing.
+    fn work(&mut self, alloc: Global, worker: u64, action: Action) -> Result<Told, AllocError>
+        ensures after { OnOk result (self.new ≡ (after_action (act (client_of self.old.cluster) worker (action_of action) self.old.manager) self.old).world) }
+        ensures told { IfOk result (λ t. text_of t ≡ outcome_text (after_action (act (client_of self.old.cluster) worker (action_of action) self.old.manager) self.old).outcome) }
+        ensures err { OnErr result (self.new ≡ self.old) }
+    {
+        let line = self.manager.act(alloc, &mut self.cluster, worker, action)?;
+        Ok(Told::Line(line))
+    }
+
+    /// Lets so many milliseconds pass, where the last moment is not passed by it. The error is running out of memory, and changes nothing.
+    fn tick(&mut self, alloc: Global, milliseconds: u64) -> Result<Told, AllocError>
+        ensures after { OnOk result (self.new ≡ (tick_in milliseconds self.old).world) }
+        ensures told { IfOk result (λ t. text_of t ≡ outcome_text (tick_in milliseconds self.old).outcome) }
+        ensures err { OnErr result (self.new ≡ self.old) }
+    {
+        let line = self.manager.tick(alloc, milliseconds)?;
+        Ok(Told::Line(line))
+    }
+
+    /// Takes a step, and returns what is told of it. The error is running out of memory, and changes nothing.
+    #[tactic(auto, unfolding(crate::specs::StoredStates::step))]
+    pub(crate) fn take(&mut self, alloc: Global, wanted: PlaneStep<'_>) -> Result<Told, AllocError>
+        ensures after { OnOk result (self.new ≡ (step self.old (plane_step_of wanted.entry)).world) }
+        ensures told { IfOk result (λ t. text_of t ≡ outcome_text (step self.old (plane_step_of wanted.entry)).outcome) }
+        ensures err { OnErr result (self.new ≡ self.old) }
+    {
+        match wanted {
+            PlaneStep::InCluster(step) => self.step_cluster(alloc, step),
+            PlaneStep::Handle(kind) => self.handle(alloc, kind),
+            PlaneStep::Works(worker, action) => self.work(alloc, worker, action),
+            PlaneStep::Tick(milliseconds) => self.tick(alloc, milliseconds),
+        }
+    }
+
+    /// Returns the journal of all writes.
+    pub(crate) fn journal(&self) -> &Journal
+        ensures { result.now ≡ self.now.cluster.journal }
+    {
+        self.cluster.journal()
+    }
+}
