@@ -5,7 +5,6 @@ use followers::Outcome;
 use meta::Member;
 use selector::View;
 use std::alloc::{AllocError, Global};
-use std::test::Fail;
 use steps::{Move, Step};
 use turns::Entry;
 
@@ -107,18 +106,23 @@ fn shows_list(alloc: Global, cluster: &Cluster, kind: Kind) -> Result<bool, Allo
     are_same(alloc, shown.as_slice(), listed.as_slice())
 }
 
-#[test]
-fn each_published_map_is_the_list_at_its_revision(rt: HostRuntime) -> Result<(), Fail> {
-    let alloc = rt.alloc();
+/// Takes random steps, and returns how many of them published a map, and how many of these maps were the list at their revision.
+fn published(alloc: Global) -> Result<(u64, u64), AllocError> {
     let mut cluster = Cluster::open(alloc, 16)?;
     let mut numbers = Numbers { state: 1 };
-    let mut published = 0_u64;
+    let (mut all, mut right) = (0_u64, 0_u64);
     for _ in 0..STEPS {
         if let Outcome::Published(kind, _, _) = take(alloc, &mut cluster, &mut numbers)? {
-            published = published.saturating_add(1);
-            assert!(rt; shows_list(alloc, &cluster, kind)?);
+            all = all.saturating_add(1);
+            right = right.saturating_add(u64::from(shows_list(alloc, &cluster, kind)?));
         }
     }
-    assert!(rt; published > 500);
+    Ok((all, right))
+}
+
+#[test]
+fn each_published_map_is_the_list_at_its_revision(rt: HostRuntime) -> Result<(), AllocError> {
+    let (all, right) = published(rt.alloc())?;
+    assert!(rt; all > 500 && right == all, "{right} of {all}");
     Ok(())
 }
