@@ -1,17 +1,15 @@
 //! Each call once, with ample memory.
-use crate::fixtures::{pod, put};
+use crate::fixtures::{pod, put_at, remove};
 use informer::Publishing;
 use listers::{Informer, Lister, SharedInformer};
-use reflector::Delta;
 use std::alloc::{AllocError, Global};
 use std::sync::Wait;
-use std::test::Fail;
 
 /// Appends two deltas at once, which remove the Pod and put it again.
 fn append_two<P: Publishing>(alloc: Global, informer: &mut P) -> Result<(), AllocError> {
     let mut deltas = Vec::new(alloc);
-    deltas.push(Delta::Remove(4, pod(alloc)?))?;
-    deltas.push(put(alloc, 5)?)?;
+    deltas.push(remove(alloc, 4, "default", "p")?)?;
+    deltas.push(put_at(alloc, 5)?)?;
     informer.append_all(deltas)?;
     Ok(())
 }
@@ -21,7 +19,7 @@ fn publish_three<P: Publishing>(
     alloc: Global,
     informer: &mut P,
 ) -> Result<(usize, u64, usize), AllocError> {
-    informer.append(put(alloc, 3)?)?;
+    informer.append(put_at(alloc, 3)?)?;
     let one = informer.publish()?.len();
     append_two(alloc, informer)?;
     let two = informer.publish()?.len();
@@ -33,7 +31,7 @@ fn publish_three<P: Publishing>(
 
 /// Returns the revision that a lister looks at, and whether the Pod is there.
 fn looked(alloc: Global, lister: Lister) -> Result<(u64, bool), AllocError> {
-    let key = pod(alloc)?;
+    let key = pod(alloc, "default", "p")?;
     match lister.look() {
         Ok(look) => {
             let seen = (
@@ -60,17 +58,23 @@ fn looked_and_closed<R: Wait>(
     Ok((seen??, second?.look().is_ok()))
 }
 
-#[test]
-fn each_call_once(rt: HostRuntime) -> Result<(), Fail> {
-    let alloc = rt.alloc();
+/// Returns what `publish_three` does, how many deltas wait then, and what `looked_and_closed` does.
+fn called<R: Wait>(
+    rt: &R,
+    alloc: Global,
+) -> Result<((usize, u64, usize), usize, ((u64, bool), bool)), AllocError> {
     let informer = Informer::open(alloc, 2)?;
-    let mut shared = SharedInformer::new(&rt, informer);
+    let mut shared = SharedInformer::new(rt, informer);
     let published = publish_three(alloc, &mut shared);
     let waiting = shared.informer().waiting();
-    let looked = looked_and_closed(&rt, alloc, shared.into_informer());
-    assert_eq!(rt; published?, (3, 5, 2));
-    assert_eq!(rt; waiting, 2);
-    assert_eq!(rt; looked?, ((5, true), false));
+    let looked = looked_and_closed(rt, alloc, shared.into_informer());
+    Ok((published?, waiting, looked?))
+}
+
+#[test]
+fn each_call_once(rt: HostRuntime) -> Result<(), AllocError> {
+    let seen = called(&rt, rt.alloc())?;
+    assert_eq!(rt; seen, ((3, 5, 2), 2, ((5, true), false)));
     Ok(())
 }
 
@@ -84,7 +88,7 @@ fn looked_and_dropped<R: Wait>(rt: &R, alloc: Global) -> Result<((u64, bool), bo
 }
 
 #[test]
-fn a_shared_informer_closes_as_it_is_dropped(rt: HostRuntime) -> Result<(), Fail> {
+fn a_shared_informer_closes_as_it_is_dropped(rt: HostRuntime) -> Result<(), AllocError> {
     let looked = looked_and_dropped(&rt, rt.alloc())?;
     assert_eq!(rt; looked, ((0, false), false));
     Ok(())
@@ -97,17 +101,23 @@ fn publish_one<R: Wait>(
     informer: &mut Informer,
 ) -> Result<(usize, u64), AllocError> {
     informer
-        .append(put(alloc, 7)?)
+        .append(put_at(alloc, 7)?)
         .map_err(|_delta| AllocError)?;
     let shifts = informer.publish(rt)?.len();
     Ok((shifts, informer.published().revision()))
 }
 
+/// Publishes one delta of an informer of its own.
+fn published<R: Wait>(rt: &R, alloc: Global) -> Result<(usize, u64), AllocError> {
+    let mut informer = Informer::open(alloc, 1)?;
+    let published = publish_one(rt, alloc, &mut informer);
+    informer.close(rt);
+    published
+}
+
 #[test]
-fn a_publish_shifts_what_it_publishes(rt: HostRuntime) -> Result<(), Fail> {
-    let mut informer = Informer::open(rt.alloc(), 1)?;
-    let published = publish_one(&rt, rt.alloc(), &mut informer);
-    informer.close(&rt);
-    assert_eq!(rt; published?, (1, 7));
+fn a_publish_shifts_what_it_publishes(rt: HostRuntime) -> Result<(), AllocError> {
+    let seen = published(&rt, rt.alloc())?;
+    assert_eq!(rt; seen, (1, 7));
     Ok(())
 }
