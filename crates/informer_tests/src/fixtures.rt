@@ -2,10 +2,9 @@
 use definitions::kinds::Kind;
 use keys::Key;
 use meta::Object;
-use reflector::SharedObject;
+use reflector::{Delta, SharedObject};
 use serde_json::Value;
 use std::alloc::{AllocError, Global};
-use std::test::Fail;
 use turns::Entry;
 
 /// The ReplicaSet `web` of the Deployment `site`.
@@ -24,11 +23,28 @@ pub(crate) const RELEASED: &str =
 pub(crate) const ELSEWHERE: &str =
     "{\"metadata\":{\"name\":\"q\",\"namespace\":\"other\",\"resourceVersion\":\"7\",\"uid\":\"u-q\",\"ownerReferences\":[{\"apiVersion\":\"apps/v1\",\"controller\":true,\"kind\":\"ReplicaSet\",\"name\":\"web\",\"uid\":\"u-web\"}]}}";
 
-/// The object of a kind that a text says.
-pub(crate) fn shared(alloc: Global, kind: Kind, text: &str) -> Result<SharedObject, Fail> {
-    let value = Value::from_str(alloc, text)?;
-    let object = Object::from_value(alloc, kind, value)?;
-    Ok(SharedObject::new(alloc, object)?)
+/// The object of a kind that a text says. The text is one that can be read.
+pub(crate) fn shared(alloc: Global, kind: Kind, text: &str) -> Result<SharedObject, AllocError> {
+    let Ok(value) = Value::from_str(alloc, text) else {
+        return Err(AllocError);
+    };
+    let Ok(object) = Object::from_value(alloc, kind, value) else {
+        return Err(AllocError);
+    };
+    SharedObject::new(alloc, object)
+}
+
+/// The delta that puts the Pod that a text says.
+pub(crate) fn put(alloc: Global, text: &str) -> Result<Delta, AllocError> {
+    Ok(Delta::Put(shared(alloc, Kind::Pod, text)?))
+}
+
+/// The delta that puts a Pod `p` at a revision.
+pub(crate) fn put_at(alloc: Global, revision: u64) -> Result<Delta, AllocError> {
+    let text = format!(in alloc;
+        "{{\"metadata\":{{\"name\":\"p\",\"namespace\":\"default\",\"resourceVersion\":\"{revision}\",\"uid\":\"u-p\"}}}}"
+    )?;
+    put(alloc, text.as_str())
 }
 
 /// The key of a Pod.
@@ -40,12 +56,21 @@ pub(crate) fn pod(alloc: Global, namespace: &str, name: &str) -> Result<Key, All
     })
 }
 
-/// The names of entries, with a blank after each.
-pub(crate) fn names(alloc: Global, entries: Vec<Entry<'_>>) -> Result<String, AllocError> {
-    let mut text = String::new(alloc);
-    for entry in entries {
+/// The delta that removes a Pod at a revision.
+pub(crate) fn remove(
+    alloc: Global,
+    revision: u64,
+    namespace: &str,
+    name: &str,
+) -> Result<Delta, AllocError> {
+    Ok(Delta::Remove(revision, pod(alloc, namespace, name)?))
+}
+
+/// Adds the names of entries to a text, with a blank after each, and a comma in the end.
+pub(crate) fn tell(text: &mut String, entries: Vec<Entry<'_>>) -> Result<(), AllocError> {
+    for entry in &entries {
         text.push_str(entry.key.name.as_str())?;
-        text.push_str(" ")?;
+        text.push(' ')?;
     }
-    Ok(text)
+    text.push(',')
 }

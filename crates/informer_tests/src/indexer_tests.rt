@@ -1,80 +1,104 @@
 //! Two Pods that are listed, and what becomes of them.
-use crate::fixtures::{ELSEWHERE, POD, RELEASED, names, pod, shared};
+use crate::fixtures::{ELSEWHERE, POD, RELEASED, pod, put, remove, shared, tell};
 use definitions::kinds::Kind;
 use indexer::Indexed;
-use reflector::Delta;
-use std::alloc::Global;
-use std::test::Fail;
+use reflector::{Delta, SharedObject};
+use std::alloc::{AllocError, Global};
+
+/// The Pods that texts say.
+fn objects(alloc: Global, texts: &[&str]) -> Result<Vec<SharedObject>, AllocError> {
+    let mut objects = Vec::new(alloc);
+    for text in texts {
+        objects.push(shared(alloc, Kind::Pod, text)?)?;
+    }
+    Ok(objects)
+}
+
+/// Applies a delta.
+fn apply(indexed: &mut Indexed, delta: Delta) -> Result<(), AllocError> {
+    indexed.apply(&delta)
+}
 
 /// A copy with the list of both Pods, at revision 7.
-fn listed(alloc: Global) -> Result<Indexed, Fail> {
-    let mut objects = Vec::new(alloc);
-    objects.push(shared(alloc, Kind::Pod, ELSEWHERE)?)?;
-    objects.push(shared(alloc, Kind::Pod, POD)?)?;
+fn listed(alloc: Global) -> Result<Indexed, AllocError> {
     let mut indexed = Indexed::new(alloc);
-    indexed.apply(&Delta::Replace(7, objects))?;
+    let list = Delta::Replace(7, objects(alloc, &[ELSEWHERE, POD])?);
+    apply(&mut indexed, list)?;
     Ok(indexed)
 }
 
-#[test]
-fn a_list_is_indexed(rt: HostRuntime) -> Result<(), Fail> {
-    let indexed = listed(rt.alloc())?;
-    assert_eq!(rt; indexed.revision(), 7);
-    assert_eq!(rt;
-        names(rt.alloc(), indexed.list(rt.alloc())?)?.as_str(),
-        "p q "
-    );
-    assert_eq!(rt;
-        names(rt.alloc(), indexed.by_owner(rt.alloc(), "u-web")?)?.as_str(),
-        "p q "
-    );
-    assert_eq!(rt;
-        names(rt.alloc(), indexed.by_owner(rt.alloc(), "u-we")?)?.as_str(),
-        ""
-    );
-    assert_eq!(rt;
-        names(rt.alloc(), indexed.by_namespace(rt.alloc(), "other")?)?.as_str(),
-        "q "
-    );
-    assert!(rt; indexed.get(&pod(rt.alloc(), "default", "p")?).is_some());
-    Ok(())
+/// Returns whether the Pod `p` is found.
+fn has_p(alloc: Global, indexed: &Indexed) -> Result<bool, AllocError> {
+    let key = pod(alloc, "default", "p")?;
+    Ok(indexed.get(&key).is_some())
 }
 
-// The Pod had an owner, and has none now: the index follows.
-#[test]
-fn an_owner_is_left(rt: HostRuntime) -> Result<(), Fail> {
-    let mut indexed = listed(rt.alloc())?;
+/// Adds a line to a text: the Pods of a copy, those that `web` owns, those that another one owns, those of the namespace `other`, whether
+/// `p` is found, and the revision.
+fn tell_all(alloc: Global, text: &mut String, indexed: &Indexed) -> Result<(), AllocError> {
+    tell(text, indexed.list(alloc)?)?;
+    tell(text, indexed.by_owner(alloc, "u-web")?)?;
+    tell(text, indexed.by_owner(alloc, "u-we")?)?;
+    tell(text, indexed.by_namespace(alloc, "other")?)?;
+    let has_p = has_p(alloc, indexed)?;
+    let rest = format!(in alloc; "{has_p},{}\n", indexed.revision())?;
+    text.push_str(rest.as_str())
+}
+
+/// Releases `p`, removes `q` and marks a revision, with a line after each.
+fn change(alloc: Global, text: &mut String, indexed: &mut Indexed) -> Result<(), AllocError> {
+    apply(indexed, put(alloc, RELEASED)?)?;
+    tell_all(alloc, text, indexed)?;
+    apply(indexed, remove(alloc, 8, "other", "q")?)?;
+    tell_all(alloc, text, indexed)?;
+    apply(indexed, Delta::Mark(9))?;
+    tell_all(alloc, text, indexed)
+}
+
+/// Changes a copy, and adds a line for what there is at first, after each change, and in a copy that was made before.
+fn follow(alloc: Global, text: &mut String, indexed: &mut Indexed) -> Result<(), AllocError> {
+    tell_all(alloc, text, indexed)?;
     let before = indexed.try_copy()?;
-    indexed.apply(&Delta::Put(shared(rt.alloc(), Kind::Pod, RELEASED)?))?;
-    assert_eq!(rt;
-        names(rt.alloc(), indexed.by_owner(rt.alloc(), "u-web")?)?.as_str(),
-        "q "
-    );
-    assert_eq!(rt;
-        names(rt.alloc(), before.by_owner(rt.alloc(), "u-web")?)?.as_str(),
-        "p q "
-    );
-    indexed.apply(&Delta::Remove(8, pod(rt.alloc(), "other", "q")?))?;
-    assert_eq!(rt;
-        names(rt.alloc(), indexed.by_owner(rt.alloc(), "u-web")?)?.as_str(),
-        ""
-    );
-    indexed.apply(&Delta::Mark(9))?;
-    assert_eq!(rt; indexed.revision(), 9);
+    change(alloc, text, indexed)?;
+    tell_all(alloc, text, &before)
+}
+
+/// What `follow` says of a copy with the list of both Pods.
+fn followed(alloc: Global) -> Result<String, AllocError> {
+    let mut text = String::new(alloc);
+    let mut indexed = listed(alloc)?;
+    follow(alloc, &mut text, &mut indexed)?;
+    Ok(text)
+}
+
+// The indexes follow: an owner is left, an object goes, and a mark moves the revision alone. The copy is left alone.
+#[test]
+fn a_copy_follows_its_deltas(rt: HostRuntime) -> Result<(), AllocError> {
+    let text = followed(rt.alloc())?;
+    assert_eq!(rt; text.as_str(), FOLLOWED);
     Ok(())
 }
 
+const FOLLOWED: &str =
+    "p q ,p q ,,q ,true,7\np q ,q ,,q ,true,6\np ,,,,true,8\np ,,,,true,9\np q ,p q ,,q ,true,7\n";
+
+/// Applies a list, and returns how many objects that shifts, how many it shifted, and how many there are then.
+fn relist(alloc: Global, indexed: &mut Indexed, list: &Delta) -> Result<[usize; 3], AllocError> {
+    let shifts = indexed.shifts_of(alloc, list)?.len();
+    let shifted = indexed.apply_with_shifts(alloc, list)?.len();
+    Ok([shifts, shifted, indexed.len()])
+}
+
+/// What `relist` returns where `p` alone is listed.
+fn relisted(alloc: Global) -> Result<[usize; 3], AllocError> {
+    let list = Delta::Replace(8, objects(alloc, &[POD])?);
+    let mut indexed = listed(alloc)?;
+    relist(alloc, &mut indexed, &list)
+}
+
 #[test]
-fn a_relist_shifts_what_differs(rt: HostRuntime) -> Result<(), Fail> {
-    let mut indexed = listed(rt.alloc())?;
-    let mut objects = Vec::new(rt.alloc());
-    objects.push(shared(rt.alloc(), Kind::Pod, POD)?)?;
-    let delta = Delta::Replace(8, objects);
-    assert_eq!(rt; indexed.shifts_of(rt.alloc(), &delta)?.len(), 1);
-    assert_eq!(rt; indexed.apply_with_shifts(rt.alloc(), &delta)?.len(), 1);
-    assert_eq!(rt;
-        names(rt.alloc(), indexed.list(rt.alloc())?)?.as_str(),
-        "p "
-    );
+fn a_relist_shifts_what_differs(rt: HostRuntime) -> Result<(), AllocError> {
+    let seen = relisted(rt.alloc())?;
+    assert_eq!(rt; seen, [1, 1, 1]);
     Ok(())
 }

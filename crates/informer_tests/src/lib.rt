@@ -1,4 +1,4 @@
-//! Tests of indexed copies, of what is published, and of the keys that a change owes: rows from outside, with ample memory.
+//! Tests of informers: shared maps, indexed copies, what is published, the keys that a change owes, and maps that are read without waiting.
 #![tactic(auto)]
 
 #[cfg(test)]
@@ -6,6 +6,12 @@ mod fixtures;
 #[cfg(test)]
 mod indexer_tests;
 #[cfg(test)]
+mod informer_tests;
+#[cfg(test)]
+mod lister_tests;
+#[cfg(test)]
+mod looking_tests;
+#[cfg(test)]
 mod owed_tests;
 #[cfg(test)]
-mod publish_tests;
+mod shared_map_tests;

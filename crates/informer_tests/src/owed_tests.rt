@@ -1,16 +1,15 @@
-//! Changes of a Pod, where the ReplicaSet `web` of the Deployment `site` is looked at.
+//! A Pod that is released, where the ReplicaSet `web` of the Deployment `site` is looked at.
 use crate::fixtures::{POD, RELEASED, WEB, shared};
 use controllers::controller::Controller;
 use definitions::kinds::Kind;
 use indexer::Indexed;
 use informer::{Looks, keys_of};
-use meta::Object;
-use reflector::Delta;
+use reflector::{Delta, SharedObject};
 use std::alloc::{AllocError, Global};
-use std::test::Fail;
 use work_keys::WorkKey;
 
-fn looks(alloc: Global) -> Result<Looks<Indexed>, Fail> {
+/// Looks at which only `web` is there.
+fn looks(alloc: Global) -> Result<Looks<Indexed>, AllocError> {
     let mut replica_sets = Indexed::new(alloc);
     replica_sets.apply(&Delta::Put(shared(alloc, Kind::ReplicaSet, WEB)?))?;
     Ok(Looks {
@@ -21,6 +20,7 @@ fn looks(alloc: Global) -> Result<Looks<Indexed>, Fail> {
     })
 }
 
+/// The word of a controller.
 fn word(controller: Controller) -> &'static str {
     match controller {
         Controller::ReplicaSet => "rs",
@@ -29,46 +29,50 @@ fn word(controller: Controller) -> &'static str {
     }
 }
 
-/// The keys as words, with a comma after each.
-fn said(alloc: Global, keys: Vec<WorkKey>) -> Result<String, AllocError> {
+/// Adds a key as words to a text, with a comma after it.
+fn tell_key(text: &mut String, key: &WorkKey) -> Result<(), AllocError> {
+    text.push_str(word(key.controller))?;
+    text.push(' ')?;
+    text.push_str(key.key.kind.name())?;
+    text.push(' ')?;
+    text.push_str(key.key.name.as_str())?;
+    text.push(',')
+}
+
+/// The keys as words.
+fn said(alloc: Global, keys: &[WorkKey]) -> Result<String, AllocError> {
     let mut text = String::new(alloc);
-    for key in &keys {
-        text.push_str(word(key.controller))?;
-        text.push_str(" ")?;
-        text.push_str(key.key.kind.name())?;
-        text.push_str(" ")?;
-        text.push_str(key.key.name.as_str())?;
-        text.push_str(",")?;
+    for key in keys {
+        tell_key(&mut text, key)?;
     }
     Ok(text)
 }
 
 /// What a change of a Pod owes.
-fn owed(alloc: Global, old: Option<&Object>, new: Option<&Object>) -> Result<String, Fail> {
-    let keys = keys_of(alloc, Kind::Pod, old, new, &looks(alloc)?)?;
-    Ok(said(alloc, keys)?)
+fn owed_by(
+    alloc: Global,
+    old: &SharedObject,
+    new: &SharedObject,
+    looks: &Looks<Indexed>,
+) -> Result<String, AllocError> {
+    let (old, new) = (Some(old.object()), Some(new.object()));
+    let keys = keys_of(alloc, Kind::Pod, old, new, looks)?;
+    said(alloc, keys.as_slice())
 }
 
-#[test]
-fn a_new_pod_owes_three_keys(rt: HostRuntime) -> Result<(), Fail> {
-    let pod = shared(rt.alloc(), Kind::Pod, POD)?;
-    let keys = owed(rt.alloc(), None, Some(pod.object()))?;
-    assert_eq!(rt;
-        keys.as_str(),
-        "rs ReplicaSet web,gc Pod p,gc ReplicaSet web,"
-    );
-    Ok(())
+/// What the release of the Pod owes.
+fn owed(alloc: Global) -> Result<String, AllocError> {
+    let old = shared(alloc, Kind::Pod, POD)?;
+    let new = shared(alloc, Kind::Pod, RELEASED)?;
+    owed_by(alloc, &old, &new, &looks(alloc)?)
 }
 
 // Its old owner, the sets that may adopt it, and the Deployment over its old owner.
 #[test]
-fn a_released_pod_owes_its_old_owner(rt: HostRuntime) -> Result<(), Fail> {
-    let old = shared(rt.alloc(), Kind::Pod, POD)?;
-    let new = shared(rt.alloc(), Kind::Pod, RELEASED)?;
-    let keys = owed(rt.alloc(), Some(old.object()), Some(new.object()))?;
-    assert_eq!(rt;
-        keys.as_str(),
-        "rs ReplicaSet web,deploy Deployment site,gc Pod p,gc ReplicaSet web,"
-    );
+fn a_released_pod_owes_its_old_owner(rt: HostRuntime) -> Result<(), AllocError> {
+    let keys = owed(rt.alloc())?;
+    assert_eq!(rt; keys.as_str(), OWED);
     Ok(())
 }
+
+const OWED: &str = "rs ReplicaSet web,deploy Deployment site,gc Pod p,gc ReplicaSet web,";

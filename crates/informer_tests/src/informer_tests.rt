@@ -1,0 +1,37 @@
+//! A Pod that is put and removed before it is published, and one that is published.
+use crate::fixtures::{ELSEWHERE, POD, pod, put, remove};
+use informer::PlainInformer;
+use std::alloc::{AllocError, Global};
+
+/// Puts the Pod `p`, removes it and puts `q`.
+fn append_three(alloc: Global, informer: &mut PlainInformer) -> Result<(), AllocError> {
+    informer.append(put(alloc, POD)?)?;
+    informer.append(remove(alloc, 6, "default", "p")?)?;
+    informer.append(put(alloc, ELSEWHERE)?)?;
+    Ok(())
+}
+
+/// Publishes twice. Returns the revisions before and after that, how many shifts each publish made, and how many objects there are then.
+fn publish_twice(informer: &mut PlainInformer) -> Result<([u64; 2], [usize; 3]), AllocError> {
+    let before = informer.look().revision();
+    let first = informer.publish()?.len();
+    let second = informer.publish()?.len();
+    let look = informer.look();
+    Ok(([before, look.revision()], [first, second, look.len()]))
+}
+
+/// Publishes three deltas. Returns what `publish_twice` does, and whether `q` is there then.
+fn published(alloc: Global) -> Result<(([u64; 2], [usize; 3]), bool), AllocError> {
+    let key = pod(alloc, "other", "q")?;
+    let mut informer = PlainInformer::new(alloc);
+    append_three(alloc, &mut informer)?;
+    let seen = publish_twice(&mut informer)?;
+    Ok((seen, informer.look().get(&key).is_some()))
+}
+
+#[test]
+fn deltas_are_published_together(rt: HostRuntime) -> Result<(), AllocError> {
+    let seen = published(rt.alloc())?;
+    assert_eq!(rt; seen, (([0, 7], [3, 0, 1]), true));
+    Ok(())
+}

@@ -1,0 +1,128 @@
+//! A random run of a simulated cluster.
+use cluster::Cluster;
+use definitions::kinds::Kind;
+use followers::Outcome;
+use meta::Member;
+use selector::View;
+use std::alloc::{AllocError, Global};
+use steps::{Move, Step};
+use turns::Entry;
+
+/// How many steps are taken.
+const STEPS: usize = 10_000;
+
+/// Pseudo-random numbers by a linear congruence (Knuth's MMIX).
+#[derive(Drop)]
+struct Numbers {
+    state: u64,
+}
+
+impl Numbers {
+    /// Returns the next number that is below a bound.
+    fn below(&mut self, bound: u64) -> u64 {
+        self.state = self
+            .state
+            .wrapping_mul(6_364_136_223_846_793_005)
+            .wrapping_add(1_442_695_040_888_963_407);
+        if bound == 0 {
+            return 0;
+        }
+        (self.state >> 33) % bound
+    }
+}
+
+/// Returns a request that creates, updates or deletes one of five ConfigMaps.
+fn request(alloc: Global, numbers: &mut Numbers) -> Result<String, AllocError> {
+    let name = numbers.below(5);
+    let value = numbers.below(1_000);
+    let path = "/api/v1/namespaces/default/configmaps";
+    match numbers.below(3) {
+        0 => format!(in alloc;
+            "POST {path} {{\"metadata\":{{\"name\":\"n{name}\"}},\"data\":{{\"k\":\"{value}\"}}}}"
+        ),
+        1 => format!(in alloc;
+            "PUT {path}/n{name} {{\"metadata\":{{\"name\":\"n{name}\"}},\"data\":{{\"k\":\"{value}\"}}}}"
+        ),
+        _ => format!(in alloc; "DELETE {path}/n{name}"),
+    }
+}
+
+/// Returns a move of what follows the ConfigMaps.
+fn movement(numbers: &mut Numbers) -> Move {
+    match numbers.below(12) {
+        0 => Move::List,
+        1 => Move::Watch,
+        2 => Move::Cut,
+        3 => Move::SendBookmark,
+        4 => Move::DeliverAll,
+        5 | 6 => Move::Deliver(numbers.below(400)),
+        7 | 8 => Move::Send(numbers.below(4)),
+        _ => Move::Publish,
+    }
+}
+
+/// Takes a random step: a request, a compaction, a restart now and then, or a move.
+fn take(
+    alloc: Global,
+    cluster: &mut Cluster,
+    numbers: &mut Numbers,
+) -> Result<Outcome, AllocError> {
+    match numbers.below(200) {
+        0 => cluster.step(alloc, Step::Restart),
+        1 | 2 => {
+            let revision = numbers.below(3_000);
+            cluster.step(alloc, Step::Compact(revision))
+        }
+        3..50 => {
+            let line = request(alloc, numbers)?;
+            cluster.step(alloc, Step::Request(line.as_bytes()))
+        }
+        _ => cluster.step(alloc, Step::Moves(Kind::ConfigMap, movement(numbers))),
+    }
+}
+
+/// Returns whether these objects and those are the same, key by key and text by text.
+fn are_same(alloc: Global, these: &[Entry<'_>], those: &[Member<'_>]) -> Result<bool, AllocError> {
+    if these.len() != those.len() {
+        return Ok(false);
+    }
+    for (this, that) in these.iter().zip(those.iter()) {
+        let text = this.object.text(alloc)?;
+        if !this.key.cmp(that.key).is_eq() || text.as_str() != that.object.text() {
+            return Ok(false);
+        }
+    }
+    Ok(true)
+}
+
+/// Returns whether what is published of a kind is the server's list at its revision, by the journal of all writes.
+fn shows_list(alloc: Global, cluster: &Cluster, kind: Kind) -> Result<bool, AllocError> {
+    let published = cluster.published(kind);
+    let view = View::unfiltered(alloc, kind, None);
+    let listed = cluster
+        .journal()
+        .list_at(alloc, &view, published.revision())?;
+    let shown = published.list(alloc)?;
+    are_same(alloc, shown.as_slice(), listed.as_slice())
+}
+
+/// Takes random steps, and returns how many of them published a map, and how many of these maps were the list at their revision.
+fn published(alloc: Global) -> Result<(u64, u64), AllocError> {
+    let mut cluster = Cluster::open(alloc, 16)?;
+    let mut numbers = Numbers { state: 1 };
+    let (mut all, mut right) = (0_u64, 0_u64);
+    for _ in 0..STEPS {
+        if let Outcome::Published(kind, _, _) = take(alloc, &mut cluster, &mut numbers)? {
+            all = all.saturating_add(1);
+            right = right.saturating_add(u64::from(shows_list(alloc, &cluster, kind)?));
+        }
+    }
+    Ok((all, right))
+}
+
+#[test]
+fn each_published_map_is_the_list_at_its_revision(rt: HostRuntime) -> Result<(), AllocError> {
+    let (all, right) = published(rt.alloc())?;
+    assert!(rt; all > 500 && right == all, "{right} of {all}");
+    Ok(())
+}
