@@ -59,6 +59,13 @@ impl Manager {
         self.turns.clear();
     }
 
+    /// Returns each worker's turn, or none. It takes no memory.
+    pub fn turns(&self) -> &Slots
+        ensures { result.now ≡ self.now.turns }
+    {
+        &self.turns
+    }
+
     /// Returns the commands that were issued, in order. It takes no memory.
     pub fn issued(&self) -> &[Arc<Issued, Global>]
         ensures { map (λ i. issued_of (arc_value i)) result.now ≡ self.now.issued }

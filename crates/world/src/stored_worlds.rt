@@ -17,8 +17,10 @@ use pod_observations::{object_in, observations};
 use revisions::Journal;
 use std::alloc::{AllocError, Global};
 use std::marker::Model;
+use std::sync::Arc;
 use steps::{Action, Config, PlaneStep, Step};
 use work_keys::WorkKey;
+use worker_slots::{Issued, Slots};
 
 /// A cluster, and the controller manager beside it.
 #[derive(Drop)]
@@ -67,7 +69,8 @@ fn owed(alloc: Global, cluster: &Cluster, change: &Notification) -> Result<Vec<W
 }
 
 impl StoredWorld {
-    ghost use Rattle.std.specs.Prelude.{◌≡◌, IfOk, OnOk, OnErr};
+    ghost use Rattle.std.specs.Prelude.{◌≡◌, IfOk, OnOk, OnErr, map};
+    ghost use Rattle.std.specs.Arc.{arc_value};
     ghost use Rattle.cluster.specs.ClusterStates.{follower};
     ghost use Rattle.managers.specs.Reached.{client_of};
     ghost use Rattle.reconciling.specs.Managers.{act};
@@ -75,6 +78,7 @@ impl StoredWorld {
     ghost use Rattle.steps.specs.PlaneSteps.{plane_step_of};
     ghost use Rattle.steps.specs.Steps.{step_of};
     ghost use Rattle.reconciling.specs.OutcomeTexts.{outcome_text};
+    ghost use Rattle.worker_slots.specs.Seen.{issued_of};
     ghost use Rattle.world.specs.Told.{text_of};
     ghost use Rattle.world.specs.StoredStates.{opened, step, step_cluster, handle_in, after_action, tick_in};
 
@@ -153,6 +157,20 @@ impl StoredWorld {
             PlaneStep::Works(worker, action) => self.work(alloc, worker, action),
             PlaneStep::Tick(milliseconds) => self.tick(alloc, milliseconds),
         }
+    }
+
+    /// Returns each worker's turn, or none.
+    pub(crate) fn hands(&self) -> &Slots
+        ensures { result.now ≡ self.now.manager.turns }
+    {
+        self.manager.turns()
+    }
+
+    /// Returns the commands that were issued, each beside the turn in which it was.
+    pub(crate) fn issued(&self) -> &[Arc<Issued, Global>]
+        ensures { map (λ i. issued_of (arc_value i)) result.now ≡ self.now.manager.issued }
+    {
+        self.manager.issued()
     }
 
     /// Returns the journal of all writes.

@@ -5,8 +5,10 @@ use cluster::Stopped;
 use revisions::Journal;
 use std::alloc::{AllocError, Global};
 use std::marker::Model;
+use std::sync::Arc;
 use steps::{Config, PlaneStep};
 use traces::Trace;
+use worker_slots::{Issued, Slots};
 
 /// A cluster, and the controller manager beside it, with the steps that were taken since it was opened, which only proofs read.
 #[derive(Drop)]
@@ -30,10 +32,12 @@ impl Model for World {
 
 impl World {
     ghost use Rattle.std.specs.Prelude.{◌≡◌, ◌<◌, IfOk, IfErr, OnOk, OnErr, length, map, take};
+    ghost use Rattle.std.specs.Arc.{arc_value};
     ghost use Rattle.reconciling.specs.ControlPlanes as planes;
     ghost use Rattle.reconciling.specs.OutcomeTexts.{outcome_text};
     ghost use Rattle.steps.specs.PlaneSteps.{plane_step_of};
     ghost use Rattle.traces.specs.Taken.{plane, followed, followed_by_all};
+    ghost use Rattle.worker_slots.specs.Seen.{issued_of};
     ghost use Rattle.world.specs.Headline.{Headline};
     ghost use Rattle.world.specs.Told.{text_of};
     ghost use Rattle.world.specs.WorldStates.{opened, step, run};
@@ -109,6 +113,21 @@ impl World {
         // What holds of every world is known from here on.
         let _stored = &self.stored;
         self.take_all(alloc, steps)
+    }
+
+    /// Returns for each worker the turn that it has in hand, or none. It takes no memory.
+    pub fn hands(&self) -> &Slots
+        ensures { result.now ≡ self.now.stored.manager.turns }
+    {
+        self.stored.hands()
+    }
+
+    /// Returns all commands that were issued since the world was opened, the oldest first, each beside the turn that its worker then had in
+    /// hand, and the answer. It takes no memory.
+    pub fn issued(&self) -> &[Arc<Issued, Global>]
+        ensures { map (λ i. issued_of (arc_value i)) result.now ≡ self.now.stored.manager.issued }
+    {
+        self.stored.issued()
     }
 
     /// Returns the journal of all writes, the oldest first. It takes no memory.
