@@ -1,10 +1,8 @@
-//! Tests of what controllers work by, of their plans, and of a simulated cluster.
+//! Tests of what controllers work by, and of their plans.
 #![tactic(auto)]
 
 #[cfg(test)]
 mod backoff_tests;
-#[cfg(test)]
-mod cluster_tests;
 #[cfg(test)]
 mod collector_tests;
 #[cfg(test)]
