@@ -72,8 +72,11 @@ impl World {
     /// alone. No key is in two workers' hands, and a turn begins with the head of the queue. Each command that was issued is the next one
     /// of its plan for what its worker then had in hand: looks that were published since the last restart, and live reads of what was
     /// there. Each write that names a version replaced exactly that version. Each published change is, until a restart, still to be
-    /// handled, or each key that it owes waits in the queue, or was taken after it was handled. And what a delete of the garbage
+    /// handled, or each key that it owed then is still to be processed, or was taken after that. And what a delete of the garbage
     /// collector marked or removed named owners, none of which was there and not being deleted.
+    ///
+    /// `after` and `traced` say what becomes of the world and of the steps taken, and `stands` in `headline` what they have to do with
+    /// one another: the other clauses are about the control plane after these steps.
     pub fn step(&mut self, alloc: Global, wanted: PlaneStep<'_>) -> Result<Told, AllocError>
         ensures after { OnOk result (self.new ≡ (step self.old (plane_step_of wanted.entry)).world) }
         ensures traced { OnOk result (self.new.trace ≡ followed self.old.trace (plane_step_of wanted.entry)) }
