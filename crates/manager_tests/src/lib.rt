@@ -2,43 +2,27 @@
 //! and scenarios, which say what a client does meanwhile.
 #![tactic(auto)]
 
-#[cfg(test)]
-mod adopting;
+pub mod adopting;
 #[cfg(test)]
 mod adopting_tests;
-#[cfg(test)]
-mod beside;
+pub mod beside;
 #[cfg(test)]
 mod beside_tests;
-#[cfg(test)]
-mod clients;
-#[cfg(test)]
-mod counting;
+pub mod clients;
+pub mod counting;
 #[cfg(test)]
 mod counting_tests;
-#[cfg(test)]
-mod environments;
-#[cfg(test)]
-mod halting;
-#[cfg(test)]
-mod labelling;
+pub mod environments;
+pub mod halting;
+pub mod labelling;
 #[cfg(test)]
 mod labelling_tests;
-#[cfg(test)]
-mod objects;
-#[cfg(test)]
-mod polling;
-#[cfg(test)]
-mod ringers;
-#[cfg(test)]
-mod running;
-#[cfg(test)]
-mod scenarios;
-#[cfg(test)]
-mod scenes;
-#[cfg(test)]
-mod servers;
-#[cfg(test)]
-mod waiting;
-#[cfg(test)]
-mod watches;
+pub mod objects;
+pub mod polling;
+pub mod ringers;
+pub mod running;
+pub mod scenarios;
+pub mod scenes;
+pub mod servers;
+pub mod waiting;
+pub mod watches;
