@@ -81,7 +81,8 @@ def work_within():
     others = turned([name for name in with_pieces(known) if name not in changed], seed)
     first = {name: pieces.pieces(name, ["must-fail"]) for name in known}
     rest = {name: pieces.pieces(name, ["wrong-code"]) for name in known}
-    work = [(name, rest[name]) for name in sorted(changed, key=lambda it: -len(rest[it]))]
+    # What was refused before and is not any more comes first, and what was never tried last.
+    work = [(name, rest[name]) for name in sorted(changed, key=lambda it: (it not in lines, -len(rest[it])))]
     work += [(name, turned(rest[name], seed)[:1]) for name in others]
     return [(name, found) for name, found in first.items() if found], [(name, found) for name, found in work if found], set(changed)
 
