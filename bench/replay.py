@@ -14,7 +14,7 @@ taken for a fast one.
 
 Usage: replay.py [--program PATH] [--count N] [--runs N] [--seconds N]
   --program PATH   an executable that is built; without it `rt run -- replay` in crates/kcp proves and builds one first
-  --count N        objects of the largest store, 65000 if left out; 65536 is the most that there may be
+  --count N        objects of the largest store, 65000 if left out; 262144 is the most that there may be
   --runs N         runs of each input, of which the best counts, 5 if left out
   --seconds N      the longest that one run may take, 120 if left out
 It uses no network, and writes only to a temporary folder.
@@ -214,7 +214,7 @@ def show(idle, sizes):
 
 
 def main():
-    asked = shared.arguments(__doc__, "count", most=65536, default=65000, runs=5)
+    asked = shared.arguments(__doc__, "count", most=262144, default=65000, runs=5)
     program = shared.built(asked.program, "kcp", ["replay"])
     counts = sorted({size for size in SMALLER if size < asked.count} | {asked.count})
     with tempfile.TemporaryDirectory() as folder:

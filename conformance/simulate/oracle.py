@@ -412,7 +412,7 @@ class Simulation:
 def window_of(line):
     """Returns the window that a configuration says, if the line is one."""
     said = re.fullmatch(rb"config window=([0-9]{1,9}) workers=([0-9]{1,9})", line)
-    if said and 1 <= int(said[1]) <= 65_536 and 1 <= int(said[2]) <= 32:
+    if said and 1 <= int(said[1]) <= 65_536 and 1 <= int(said[2]) <= 64:
         return int(said[1])
     return None
 

@@ -21,7 +21,7 @@ use std::thread::Threads;
 use std::time::Clock;
 
 /// How many threads serve connections for users at most.
-const MOST_THREADS: usize = 64;
+const MOST_THREADS: usize = 128;
 
 /// How many threads serve connections beside them: one for the watch of each kind that the controllers follow, and one for the lines.
 const OWN_THREADS: usize = 5;

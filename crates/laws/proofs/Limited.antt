@@ -24,7 +24,7 @@ follows-outcome h (Some w) f = follows-write 1 h w f
 pub limited : ReachedStayWithinLimits
 limited h reached =
     by_reached Within (λ q h moment a t w. each_outcome h (write_of (accept q h moment)) (room q (entries_at h (present h)) (present h) moment) w)
-    (λ h r le w. subst (λ z. (length z.members ≤ 65536) × (z.revision ≤ 9007199254740991)) (sym (snapshot-compaction h r)) w) h reached (omega arith, omega arith)
+    (λ h r le w. subst (λ z. (length z.members ≤ 262144) × (z.revision ≤ 9007199254740991)) (sym (snapshot-compaction h r)) w) h reached (omega arith, omega arith)
 
 pub happens : ReachedCanHappen
 happens h reached =

@@ -88,7 +88,7 @@ unfolding now
 members-write h w = now-write h w
 
 abbrev pub Within : History → Type 0
-Within h = (length (entries_at h (present h)) ≤ 65536) × (present h ≤ 9007199254740991)
+Within h = (length (entries_at h (present h)) ≤ 262144) × (present h ≤ 9007199254740991)
 
 no_more_at : (k : Key) (e : Key × Data) (es : Entries) (b : Bool) → length (remove_entry (is_at (key_cmp k)) es) ≤ length es → length (cond b es (e ∷ remove_entry (is_at (key_cmp k)) es)) ≤ suc (length es)
 no_more_at k e es true h = omega arith
@@ -98,27 +98,27 @@ no_more : (k : Key) (es : Entries) → length (remove_entry (is_at (key_cmp k)) 
 no_more k [] = omega arith
 no_more k (e ∷ es) = no_more_at k e es (is_at (key_cmp k) e.0) (no_more k es)
 
-room_left : (n : ℕ) → (nat_le 65536 n && true) ≡ false → n + 1 ≤ 65536
-room_left n h = room_at (nat_le 65536 n) refl h
+room_left : (n : ℕ) → (nat_le 262144 n && true) ≡ false → n + 1 ≤ 262144
+room_left n h = room_at (nat_le 262144 n) refl h
   where
-    room_at : (b : Bool) → nat_le 65536 n ≡ b → (b && true) ≡ false → n + 1 ≤ 65536
+    room_at : (b : Bool) → nat_le 262144 n ≡ b → (b && true) ≡ false → n + 1 ≤ 262144
     room_at true is h = cc
     room_at false is h = grind arith
 
-few_at : (k : Key) (d : Data) (ms : Entries) (o : Option Data) → found k ms ≡ o → IsAscending key_cmp ms → length ms ≤ 65536
-    → (nat_le 65536 (length ms) && true && not (is_some o)) ≡ false → length (insert_entry key_cmp ms k d) ≤ 65536
+few_at : (k : Key) (d : Data) (ms : Entries) (o : Option Data) → found k ms ≡ o → IsAscending key_cmp ms → length ms ≤ 262144
+    → (nat_le 262144 (length ms) && true && not (is_some o)) ≡ false → length (insert_entry key_cmp ms k d) ≤ 262144
 few_at k d ms None is a few room =
-    let left : length ms + 1 ≤ 65536 = room_left (length ms) (sym (and_true (nat_le 65536 (length ms) && true)) ∙ room) in
+    let left : length ms + 1 ≤ 262144 = room_left (length ms) (sym (and_true (nat_le 262144 (length ms) && true)) ∙ room) in
     let more : length (insert_entry key_cmp ms k d) ≤ length ms + 1 = one_more name_cmp_total k d ms in
     omega (arith, left, more)
   where
     and_true : (b : Bool) → (b && true) ≡ b
     and_true true = refl
     and_true false = refl
-few_at k d ms (Some existing) is a few room = subst (λ n. n ≤ 65536) (sym (as_many name_cmp_total k d ms existing a is)) few
+few_at k d ms (Some existing) is a few room = subst (λ n. n ≤ 262144) (sym (as_many name_cmp_total k d ms existing a is)) few
 
-few_after : (k : Key) (o : Option Data) (ms : Entries) → IsAscending key_cmp ms → length ms ≤ 65536
-    → (nat_le 65536 (length ms) && is_some o && not (is_some (found k ms))) ≡ false → length (put_or_remove ms k o) ≤ 65536
+few_after : (k : Key) (o : Option Data) (ms : Entries) → IsAscending key_cmp ms → length ms ≤ 262144
+    → (nat_le 262144 (length ms) && is_some o && not (is_some (found k ms))) ≡ false → length (put_or_remove ms k o) ≤ 262144
 few_after k None ms a few room = let less = no_more k ms in omega (arith, less, few)
 few_after k (Some d) ms a few room = few_at k d ms (found k ms) refl a few room
 
@@ -128,8 +128,8 @@ at_most_next n h = at_most 9007199254740991 n h
 -- a write that does not overflow leaves what is within the limits within them
 pub within-write : (h : History) (w : Write) → overflows (entries_at h (present h)) (present h) w ≡ false → Within h → Within (h ++ write w ∷ [])
 within-write h w room within =
-    let parts = both_false (nat_le 65536 (length (entries_at h (present h))) && is_some w.put && not (is_some (found w.key (entries_at h (present h))))) (is_past_greatest (present h + 1)) room in (
-      subst (λ ms. length ms ≤ 65536) (sym (members-write h w)) (few_after w.key w.put (entries_at h (present h)) (IsAscending-after_all [] (up_to (present h) h) tt) within.0 parts.0),
+    let parts = both_false (nat_le 262144 (length (entries_at h (present h))) && is_some w.put && not (is_some (found w.key (entries_at h (present h))))) (is_past_greatest (present h + 1)) room in (
+      subst (λ ms. length ms ≤ 262144) (sym (members-write h w)) (few_after w.key w.put (entries_at h (present h)) (IsAscending-after_all [] (up_to (present h) h) tt) within.0 parts.0),
       subst (λ r. r ≤ 9007199254740991) (sym (present-write h w)) (at_most_next (present h + 1) parts.1),
     )
 

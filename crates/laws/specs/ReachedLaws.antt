@@ -36,7 +36,7 @@ ReachedCanHappen = (h : History) → IsReached h → CanHappen h
 
 -- there are no more objects, and no greater revision, than there may be
 abbrev pub ReachedStayWithinLimits : Type 0
-ReachedStayWithinLimits = (h : History) → IsReached h → (length (entries_at h (present h)) ≤ 65536) × (present h ≤ 9007199254740991)
+ReachedStayWithinLimits = (h : History) → IsReached h → (length (entries_at h (present h)) ≤ 262144) × (present h ≤ 9007199254740991)
 
 -- each object that was ever stored carries the revision of its write, the first of which is 2
 abbrev pub ReachedCarryRevisions : Type 0

@@ -22,8 +22,8 @@ CommandsAreNamed =
 abbrev pub OptionsAreSaid : Type 0
 OptionsAreSaid =
     (command (codes "serve" ∷ []) ≡ Some (Serve (record { port = 8080; window = 1024; threads = 16; requests = None })))
-    × (command (codes "serve" ∷ codes "--threads" ∷ codes "64" ∷ codes "--port" ∷ codes "0" ∷ [])
-    ≡ Some (Serve (record { port = 0; window = 1024; threads = 64; requests = None })))
+    × (command (codes "serve" ∷ codes "--threads" ∷ codes "128" ∷ codes "--port" ∷ codes "0" ∷ [])
+    ≡ Some (Serve (record { port = 0; window = 1024; threads = 128; requests = None })))
     × (command (codes "serve" ∷ codes "--requests" ∷ codes "007" ∷ codes "--window" ∷ codes "4" ∷ [])
     ≡ Some (Serve (record { port = 8080; window = 4; threads = 16; requests = Some 7 })))
 
@@ -46,7 +46,7 @@ NumbersHaveBounds =
     × (with_one (codes "--window") (codes "65536") ≡ Some (Serve (record { port = 8080; window = 65536; threads = 16; requests = None })))
     × (with_one (codes "--window") (codes "65537") ≡ None)
     × (with_one (codes "--threads") (codes "0") ≡ None)
-    × (with_one (codes "--threads") (codes "65") ≡ None)
+    × (with_one (codes "--threads") (codes "129") ≡ None)
     × (with_one (codes "--requests") (codes "0") ≡ None)
     × (with_one (codes "--requests") (codes "999999999") ≡ Some (Serve (record { port = 8080; window = 1024; threads = 16; requests = Some 999999999 })))
 

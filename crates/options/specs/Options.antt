@@ -24,7 +24,7 @@ pub record Row : Type 0 where
 abbrev pub row : Setting → Row
 row Port = record { name = codes "--port"; before = []; least = 0; greatest = 65535 }
 row Window = record { name = codes "--window"; before = []; least = 1; greatest = 65536 }
-row Threads = record { name = codes "--threads"; before = []; least = 1; greatest = 64 }
+row Threads = record { name = codes "--threads"; before = []; least = 1; greatest = 128 }
 row Requests = record { name = codes "--requests"; before = []; least = 1; greatest = 999999999 }
 row Server = record { name = codes "--server"; before = codes "127.0.0.1:"; least = 1; greatest = 65535 }
 row Workers = record { name = codes "--workers"; before = []; least = 1; greatest = 64 }

@@ -87,7 +87,7 @@ impl Setting {
         let (name, before, least, greatest) = match self {
             Setting::Port => ("--port", "", 0, 65_535),
             Setting::Window => ("--window", "", 1, 65_536),
-            Setting::Threads => ("--threads", "", 1, 64),
+            Setting::Threads => ("--threads", "", 1, 128),
             Setting::Requests => ("--requests", "", 1, 999_999_999),
             Setting::Server => ("--server", "127.0.0.1:", 1, 65_535),
             Setting::Workers => ("--workers", "", 1, 64),

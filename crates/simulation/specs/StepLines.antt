@@ -75,9 +75,9 @@ pub record Config : Type 0 where
 abbrev pub default_config : Config
 default_config = record { window = 1024; workers = 4 }
 
--- windows of 1 to 65,536 changes, and 1 to 32 workers
+-- windows of 1 to 65,536 changes, and 1 to 64 workers
 abbrev pub config_within : ℕ → ℕ → Option Config
-config_within w n = if nat_lt 0 w && nat_le w 65536 && nat_lt 0 n && nat_le n 32 then Some (record { window = w; workers = n }) else None
+config_within w n = if nat_lt 0 w && nat_le w 65536 && nat_lt 0 n && nat_le n 64 then Some (record { window = w; workers = n }) else None
 
 -- what follows a prefix, if the text begins with it
 abbrev pub after_prefix : List ℕ → List ℕ → Option (List ℕ)

@@ -26,5 +26,5 @@ OthersAreNot =
 -- both sizes are said, in their order and within their limits
 abbrev pub ConfigurationsAreRead : Type 0
 ConfigurationsAreRead =
-    (config_of_line (codes "config window=65536 workers=032") ≡ Some (record { window = 65536; workers = 32 })) × (config_of_line (codes "config window=1 workers=33") ≡ None)
+    (config_of_line (codes "config window=65536 workers=064") ≡ Some (record { window = 65536; workers = 64 })) × (config_of_line (codes "config window=1 workers=65") ≡ None)
     × (config_of_line (codes "config window=0 workers=1") ≡ None) × (config_of_line (codes "config workers=1 window=1") ≡ None) × (config_of_line (codes "config window=1") ≡ None)

@@ -8,7 +8,7 @@ use crate::words::{Words, is, number};
 const GREATEST_WINDOW: u64 = 65_536;
 
 /// The most workers.
-const MOST_WORKERS: u64 = 32;
+const MOST_WORKERS: u64 = 64;
 
 /// The sizes of a simulation.
 #[derive(Debug, Clone, Copy, PartialEq, Eq)]
@@ -74,7 +74,7 @@ impl Config {
     }
 
     /// Returns the sizes that a line says, as `config window=4 workers=1`, which comes without its newline: a window of 1 to 65,536
-    /// changes, and 1 to 32 workers. Nothing, where it is no such line.
+    /// changes, and 1 to 64 workers. Nothing, where it is no such line.
     pub fn read(line: &[u8]) -> Option<Config>
         ensures { option_map config_seen result ≡ config_of_line line.now }
     {

@@ -64,7 +64,7 @@ history_after h o = with_write h (write_of o)
 -- ---- limits
 
 abbrev pub most_objects : ℕ
-most_objects = 65536
+most_objects = 262144
 
 abbrev pub longest_object : ℕ
 longest_object = 1572864
