@@ -51,7 +51,7 @@ mark_names : (q : ℕ) (o : Option ℕ) (t : Step) → or_unreadable (option_map
 mark_names q None t is = cc
 mark_names q (Some r) t is = let this : mark_step r ≡ t = cc in subst (λ (t : Step). revision_after q t.delta ≡ t.revision) this refl
 
-step_names : (f : FrameKind) (k : Kind) (last : ℕ) (d : Data) (q : ℕ) (t : Step) → step_by f k last d ≡ Ok t → revision_after q t.delta ≡ t.revision
+pub step_names : (f : FrameKind) (k : Kind) (last : ℕ) (d : Data) (q : ℕ) (t : Step) → step_by f k last d ≡ Ok t → revision_after q t.delta ≡ t.revision
 step_names Added k last d q t is = put_names q (shown_above k last d) t (λ s. above_names last (shown k d) s (read_names k (reading k d))) is
 step_names Modified k last d q t is = put_names q (shown_above k last d) t (λ s. above_names last (shown k d) s (read_names k (reading k d))) is
 step_names Deleted k last d q t is = remove_names q (shown_above k last d) t is

@@ -39,7 +39,7 @@ refusal_read : (o : Option Refusal) → IfSome o IsRefusalRead → reading (refu
 refusal_read None h = refl
 refusal_read (Some f) h = ap reading (sym (append-nil (frame_text (error_frame f)))) ∙ h []
 
-all_read : (k : Kind) (ls : List Line) (o : Option Refusal) → AllByRecursion (IsReadBack k) ls → IfSome o IsRefusalRead
+pub all_read : (k : Kind) (ls : List Line) (o : Option Refusal) → AllByRecursion (IsReadBack k) ls → IfSome o IsRefusalRead
     → reading (text_of_lines k ls ++ refusal_text o) ≡ record { events = map (frame_of k) ls ++ refusal_frames o; buffered = []; fault = None }
 all_read k ls o h g = read_back k ls (refusal_text o) h ∙ ap (onto (map (frame_of k) ls)) (refusal_read o g)
 
@@ -59,7 +59,7 @@ longer : (o : Option Refusal) (x : Frame) (es fs : List Frame) → Beginning es 
 longer o x es fs (before later e) = before later (ap (λ z. x ∷ z) e)
 longer o x es fs (whole_of f e) = whole_of f (ap (λ z. x ∷ z) e)
 
-beginning : (o : Option Refusal) (es later fs : List Frame) → es ++ later ≡ fs ++ refusal_frames o → Beginning es fs o
+pub beginning : (o : Option Refusal) (es later fs : List Frame) → es ++ later ≡ fs ++ refusal_frames o → Beginning es fs o
 beginning o [] later fs e = before fs refl
 beginning None (x ∷ es) later [] e = cc
 beginning (Some f) (x ∷ []) later [] e = let first : x ≡ error_frame f = cc in whole_of f (ap (λ z. z ∷ []) first)
@@ -77,7 +77,7 @@ refused_run h k a b f t r reaches =
     rw reaches.ended (record { below = reaches.below; applies = applied_twice (list h (whole k) a) t.deltas [] ∙ reaches.applies })
 
 module _ (h : History) (k : Kind) (a b : ℕ) (ls : List Line) (o : Option Refusal) (sent : IsSent h k a b ls) (refusal : IfSome o IsRefusalRead) where
-  reached : (es later : List Frame) → es ++ later ≡ map (frame_of k) ls → Reaches h (whole k) a b later (run k a es)
+  pub reached : (es later : List Frame) → es ++ later ≡ map (frame_of k) ls → Reaches h (whole k) a b later (run k a es)
   reached es later e = follows ls es later h k a b (events h (whole k) a b) sent.forward sent.low refl sent.stream sent.told e
 
   comes_at : (r : Read) → Beginning r.events (map (frame_of k) ls) o → Comes h k a b (ran (run k a r.events) r (watching k a))
@@ -128,7 +128,7 @@ end_buffers s piece e is = end_buffers_at s.phase (s.buffered ++ piece) s e is
 
 -- ---- the revision never falls
 
-abbrev NotBelow : ℕ → Result Step End → Type 0
+abbrev pub NotBelow : ℕ → Result Step End → Type 0
 NotBelow last (Ok t) = last ≤ t.revision
 NotBelow last (Err e) = Unit {0}
 
@@ -171,7 +171,7 @@ run_rises_on : (k : Kind) (last : ℕ) (es : List Frame) (o : Result Step End) �
 run_rises_on k last es (Err e) low rise = omega arith
 run_rises_on k last es (Ok t) low rise = let up : t.revision ≤ (run k t.revision es).revision = rise t.revision in let at : last ≤ t.revision = low in omega (arith, up, at)
 
-run_rises : (k : Kind) (es : List Frame) (last : ℕ) → last ≤ (run k last es).revision
+pub run_rises : (k : Kind) (es : List Frame) (last : ℕ) → last ≤ (run k last es).revision
 run_rises k [] last = omega arith
 run_rises k (e ∷ es) last = run_rises_on k last es (step k last e) (step_rises e.kind k last e.object) (λ r. run_rises k es r)
 

@@ -9,10 +9,10 @@ use Rattle.laws.proofs.Past.{writes-append, past}
 use Rattle.simulation.specs.Followers.{Link}
 use Rattle.simulation_laws.specs.FollowerLaws.{list_at, IsLinked, FollowersStand}
 
-list_past : (h more : History) (k : Kind) (r : ℕ) → r ≤ present h → list_at (h ++ more) k r ≡ list_at h k r
+pub list_past : (h more : History) (k : Kind) (r : ℕ) → r ≤ present h → list_at (h ++ more) k r ≡ list_at h k r
 list_past h more k r le = λ i. record { members = viewed (whole k) (past h more r le i); revision = r }
 
-further : (h more : History) → present h ≤ present (h ++ more)
+pub further : (h more : History) → present h ≤ present (h ++ more)
 further h more = omega (arith, ap length (writes-append h more), length-append (writes h) (writes more))
 
 still_linked : (h more : History) (k : Kind) (s : Reflector) (o : Option Link) → IsLinked h k s o → IsLinked (h ++ more) k s o

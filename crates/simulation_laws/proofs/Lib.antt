@@ -2,6 +2,9 @@ mod Appending
 mod Feeding
 mod FramesRead
 pub mod Growing
+pub mod Leading
+pub mod LeadMoves
+pub mod LeadRuns
 mod Moving
 mod RefusalsRead
 pub mod Requests

@@ -198,7 +198,7 @@ module _ (k : Kind) (h : History) (reached : IsReached h) where
 
   -- ---- what is read
 
-  sendable : (from : ℕ) (ls : List Line) (o : Option Refusal) (read : List ℕ) (s : Reflector) (l : Link) → IsLinkedFrom h k s l from ls o read → IsSent h k from l.stands ls
+  pub sendable : (from : ℕ) (ls : List Line) (o : Option Refusal) (read : List ℕ) (s : Reflector) (l : Link) → IsLinkedFrom h k s l from ls o read → IsSent h k from l.stands ls
   sendable from ls o read s l is =
       let few : present h ≤ 9007199254740991 = (limited h reached).1 in
       record { forward = is.forward; low = omega (arith, is.reached, few); stream = is.stream; told = (changes_told h k from l.stands reached is.forward).0; read = is.lines_read }

@@ -69,10 +69,10 @@ same_session c Deployment f = refl
 -- ---- the server
 
 -- reached, and what had happened before it goes on
-abbrev Goes : History → History → Type 0
+abbrev pub Goes : History → History → Type 0
 Goes h g = IsReached g × Begins h g
 
-read_on : (s : Session) (l : Line) → IsTimed l → IsReached s.history → IsTimestamp s.moment → IsTimestamp (session_after s l).moment × Goes s.history (session_after s l).history
+pub read_on : (s : Session) (l : Line) → IsTimed l → IsReached s.history → IsTimestamp s.moment → IsTimestamp (session_after s l).moment × Goes s.history (session_after s l).history
 read_on s l timed reached time =
     by_line (Goes s.history) (λ q h moment read at p. (asks h q moment p.0 read at, begins-write s.history h (write_of (accept q h moment)) p.1))
     (λ h r le p. (compacts h r p.0 le, begins-entry s.history h (compaction r) p.1)) s l timed (time, (reached, ([], none_more s.history)))

@@ -1,2 +1,3 @@
 pub mod FollowerLaws
 pub mod ClusterLaws
+pub mod LeadLaws

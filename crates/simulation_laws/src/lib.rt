@@ -3,3 +3,4 @@
 
 pub mod cluster_laws;
 pub mod follower_laws;
+pub mod lead_laws;

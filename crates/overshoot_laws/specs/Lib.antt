@@ -1,0 +1,15 @@
+pub mod Reserves
+pub mod Overshoot
+pub mod ReserveLaws
+pub mod StockLaws
+pub mod TrueTurns
+pub mod KindLaws
+pub mod BoundLaws
+pub mod KeptPods
+pub mod StepLaws
+pub mod BoundRuns
+pub mod Remembered
+pub mod CommandLaws
+pub mod NewPodLaws
+pub mod OvershootExamples
+pub mod ShowLaws
