@@ -3,7 +3,8 @@ ghost use Rattle.std.specs.Prelude.{◌≡◌, IfOk, OnOk, OnErr, None};
 ghost use Rattle.reconciling.specs.StepLines.{step_asked};
 ghost use Rattle.outcome_lines.specs.Ready.{IsReady};
 ghost use Rattle.simulations.specs.SimulationStates.{told_by_stored, stored_after, first_text, first_stored};
-ghost use Rattle.world.specs.Told.{text_of};
+ghost use Rattle.reconciling.specs.OutcomeTexts.{outcome_text};
+ghost use Rattle.world.specs.Outcomes.{outcome_of};
 
 use line_service::LineService;
 use outcome_lines::{ready, told};
@@ -11,16 +12,16 @@ use simulated_lines::step_asked;
 use std::alloc::{AllocError, Global};
 use std::marker::Model;
 use steps::Config;
-use world::{Told, World};
+use world::{Outcome, World};
 
-/// Returns the line by which a step is told. Where it does not come made, it is written into an empty line with room for it.
-fn line_of(line: Vec<u8>, step: Told) -> Vec<u8>
+/// Returns the line by which it is told what came of a step. Where it does not come made, it is written into an empty line with room for it.
+fn line_of(line: Vec<u8>, outcome: Outcome) -> Vec<u8>
     requires ready { IsReady line }
-    ensures { result.items ≡ text_of step }
+    ensures { result.items ≡ outcome_text (outcome_of outcome) }
 {
-    match step {
-        Told::InCluster(outcome) => told(line, outcome),
-        Told::Line(made) => made,
+    match outcome {
+        Outcome::InCluster(outcome) => told(line, outcome),
+        Outcome::Work(told) => told.line,
     }
 }
 
@@ -32,8 +33,8 @@ fn take(alloc: Global, world: &mut World, line: &[u8]) -> Result<Vec<u8>, AllocE
     ensures err { OnErr result (world.new ≡ world.old) }
 {
     let text = ready(alloc)?;
-    let told = world.step(alloc, step_asked(line))?;
-    Ok(line_of(text, told))
+    let outcome = world.step(alloc, step_asked(line))?;
+    Ok(line_of(text, outcome))
 }
 
 /// Takes the step that a line asks for in an opening world whose sizes nobody said, and returns that world and what is told. The error is
