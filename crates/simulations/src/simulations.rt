@@ -1,17 +1,20 @@
 //! A simulated control plane that answers lines.
-ghost use Rattle.std.specs.Prelude.{◌≡◌, IfOk, OnOk, OnErr, None};
+ghost use Rattle.std.specs.Prelude.{◌≡◌, IfOk, OnOk, OnErr, None, option_map};
 ghost use Rattle.reconciling.specs.StepLines.{step_asked};
 ghost use Rattle.outcome_lines.specs.Ready.{IsReady};
+ghost use Rattle.simulations.specs.Refusals.{of_step};
+ghost use Rattle.steps.specs.PlaneSteps.{plane_step_of};
 ghost use Rattle.simulations.specs.SimulationStates.{told_by_stored, stored_after, first_text, first_stored};
 ghost use Rattle.reconciling.specs.OutcomeTexts.{outcome_text};
 ghost use Rattle.world.specs.Outcomes.{outcome_of};
 
 use line_service::LineService;
 use outcome_lines::{ready, told};
+use reply_lines::no_memory_line;
 use simulated_lines::step_asked;
 use std::alloc::{AllocError, Global};
 use std::marker::Model;
-use steps::Config;
+use steps::{Config, PlaneStep, Step};
 use world::{Outcome, World};
 
 /// Returns the line by which it is told what came of a step. Where it does not come made, it is written into an empty line with room for it.
@@ -46,6 +49,16 @@ fn first_step(alloc: Global, line: &[u8]) -> Result<(World, Vec<u8>), AllocError
     let mut world = World::open(alloc, Config::default())?;
     let text = take(alloc, &mut world, line)?;
     Ok((world, text))
+}
+
+/// Returns what is told where there was no memory for a step, or none where no line is answered after it. It takes no memory.
+fn refusal_of(step: PlaneStep<'_>) -> Option<&'static [u8]>
+    ensures { option_map (λ text. text.now) result ≡ of_step (plane_step_of step.entry) }
+{
+    match step {
+        PlaneStep::InCluster(Step::Request(_)) => Some(no_memory_line()),
+        _ => None,
+    }
 }
 
 /// A simulated control plane, which begins with the first line that is not empty.
@@ -108,11 +121,14 @@ impl Simulation {
 }
 
 impl LineService for Simulation {
+    ghost use Rattle.simulations.specs.Refusals.{refusal};
     ghost use Rattle.simulations.specs.SimulationStates.{reply_by_stored, next_stored};
 
     ghost reply = { reply_by_stored };
 
     ghost next = { next_stored };
+
+    ghost refusal = { refusal };
 
     fn serve(&mut self, alloc: Global, line: &[u8]) -> Result<Vec<u8>, AllocError> {
         if line.is_empty() {
@@ -121,6 +137,13 @@ impl LineService for Simulation {
         match &mut self.world {
             Some(world) => take(alloc, world, line),
             None => self.begin(alloc, line),
+        }
+    }
+
+    fn refused(&self, line: &[u8]) -> Option<&'static [u8]> {
+        match Config::read(line) {
+            Some(_) => None,
+            None => refusal_of(step_asked(line)),
         }
     }
 }
