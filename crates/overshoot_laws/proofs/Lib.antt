@@ -52,3 +52,7 @@ mod Showing
 mod PlanesLed
 mod Adding
 mod Claiming
+mod StoredParts
+mod StoredSets
+mod SameTexts
+mod OneSelector
