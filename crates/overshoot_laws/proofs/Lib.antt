@@ -56,3 +56,4 @@ mod StoredParts
 mod StoredSets
 mod SameTexts
 mod OneSelector
+mod PodLabels

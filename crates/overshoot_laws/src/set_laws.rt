@@ -1,5 +1,5 @@
 //! Laws of what stays of objects, whoever asks.
-ghost use Rattle.overshoot_laws.specs.SetLaws.{ControllersAreOne, SetsMatchTheirTemplates, SelectorsStay};
+ghost use Rattle.overshoot_laws.specs.SetLaws.{ControllersAreOne, SetsMatchTheirTemplates, SelectorsStay, NewPodsMatchTheirSet};
 
 /// An object has one controller at most, whenever it is there.
 pub fn controllers_are_one()
@@ -16,3 +16,8 @@ pub fn selectors_stay()
     ensures { SelectorsStay }
 {}
 
+
+/// What is stored of the pod that is made of a set's template matches the set.
+pub fn new_pods_match_their_set()
+    ensures { NewPodsMatchTheirSet }
+{}
