@@ -56,4 +56,7 @@ mod StoredParts
 mod StoredSets
 mod SameTexts
 mod OneSelector
+mod TidyMembers
 mod PodLabels
+mod EditedVersions
+mod PodWrites
