@@ -52,3 +52,11 @@ mod Showing
 mod PlanesLed
 mod Adding
 mod Claiming
+mod StoredParts
+mod StoredSets
+mod SameTexts
+mod OneSelector
+mod TidyMembers
+mod PodLabels
+mod EditedVersions
+mod PodWrites

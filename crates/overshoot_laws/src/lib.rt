@@ -7,6 +7,7 @@ pub mod kind_laws;
 pub mod new_pod_laws;
 pub mod overshoot_examples;
 pub mod reserve_laws;
+pub mod set_laws;
 pub mod show_laws;
 pub mod step_laws;
 pub mod stock_laws;

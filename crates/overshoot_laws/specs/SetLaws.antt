@@ -1,0 +1,33 @@
+-- What is so of every object that is ever there, whoever asked: it has one controller at most; and a ReplicaSet keeps its selector, which matches the pods that are made of its template.
+use Rattle.std.specs.Prelude.{◌≡◌, ◌≤◌, ℕ, List, true, Some, Ok, codes}
+use Rattle.serde_json.specs.Data.{Data}
+use Rattle.definitions.specs.declared.kinds.Kind.TheVariants.{Pod, ReplicaSet}
+use Rattle.definitions.specs.Checks.{controllers, in_spec, is_template_valid}
+use Rattle.definitions.specs.History.{History, present, state}
+use Rattle.definitions.specs.Keys.{Key}
+use Rattle.definitions.specs.Metadata.{owners, uid}
+use Rattle.definitions.specs.NewObjects.{created}
+use Rattle.definitions.specs.Reached.{IsReached}
+use Rattle.definitions.specs.Reading.{reading}
+use Rattle.plans.specs.NewPods.{new_pod}
+use Rattle.plans.specs.Pods.{matches}
+
+-- of its owner references one at most is a controller's
+abbrev pub ControllersAreOne : Type 0
+ControllersAreOne = (h : History) (r : ℕ) (k : Key) (d : Data) → IsReached h → state h r k ≡ Some d → controllers (owners d) ≤ 1
+
+-- the selector of a set matches its template
+abbrev pub SetsMatchTheirTemplates : Type 0
+SetsMatchTheirTemplates = (h : History) (r : ℕ) (k : Key) (set : Data) → IsReached h → k.kind ≡ ReplicaSet → state h r k ≡ Some set → is_template_valid set ≡ true
+
+-- a set, which is one as long as it has one uid, has one selector
+abbrev pub SelectorsStay : Type 0
+SelectorsStay =
+    (h : History) (r s : ℕ) (k l : Key) (d e : Data) → IsReached h → r ≤ present h → s ≤ present h → k.kind ≡ ReplicaSet → state h r k ≡ Some d → state h s l ≡ Some e → uid d ≡ uid e
+    → in_spec (codes "selector") d ≡ in_spec (codes "selector") e
+
+-- what is stored of the pod that is made of a set's template matches the set
+abbrev pub NewPodsMatchTheirSet : Type 0
+NewPodsMatchTheirSet =
+    (k : Key) (set o : Data) (r : ℕ) (ns name moment : List ℕ) → reading ReplicaSet set ≡ Ok set → is_template_valid set ≡ true → reading Pod (new_pod k set) ≡ Ok o
+    → matches set (created Pod r ns name moment o) ≡ true
