@@ -52,3 +52,6 @@ mod Showing
 mod PlanesLed
 mod Adding
 mod Claiming
+mod KeptReferences
+mod TurnWrites
+mod Claimed

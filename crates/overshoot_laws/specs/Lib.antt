@@ -13,3 +13,4 @@ pub mod CommandLaws
 pub mod NewPodLaws
 pub mod OvershootExamples
 pub mod ShowLaws
+pub mod ClaimLaws
