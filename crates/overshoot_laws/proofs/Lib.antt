@@ -60,3 +60,6 @@ mod TidyMembers
 mod PodLabels
 mod EditedVersions
 mod PodWrites
+mod KeptReferences
+mod TurnWrites
+mod Claimed

@@ -2,6 +2,7 @@
 #![tactic(auto)]
 
 pub mod bound_laws;
+pub mod claim_laws;
 pub mod command_laws;
 pub mod kind_laws;
 pub mod new_pod_laws;
