@@ -124,11 +124,12 @@ def asked_first(log):
 
 
 def asked_of_program(log):
-    """Runs what asks the program that `rt ci` built: request lines, schedules of a simulated cluster, a rollout and schedules of controllers, and over
+    """Runs what asks the program that `rt ci` built: request lines, also while growths of its memory are refused, schedules of a simulated cluster, a rollout and schedules of controllers, and over
     sockets cases, random heads, many clients at once, real clients where they are installed, a follower through a proxy and over
     recorded bytes, and the controllers at work."""
     words = {
         "conformance": ["run.py"],
+        "refused growths": ["refusals/run.py"],
         "schedules": ["simulate/run.py", "--random", str(RANDOM_SCHEDULES)],
         "a rollout": ["simulate/rollout.py"],
         "schedules of controllers": ["simulate/schedules.py", "--count", str(RANDOM_TURNS)],
