@@ -60,3 +60,4 @@ mod TidyMembers
 mod PodLabels
 mod EditedVersions
 mod PodWrites
+mod PodsStay

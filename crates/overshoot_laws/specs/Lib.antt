@@ -14,3 +14,4 @@ pub mod NewPodLaws
 pub mod OvershootExamples
 pub mod ShowLaws
 pub mod SetLaws
+pub mod MadePods
