@@ -61,3 +61,4 @@ mod PodLabels
 mod EditedVersions
 mod PodWrites
 mod PodsStay
+mod LooksOfTurns

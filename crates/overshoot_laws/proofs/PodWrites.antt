@@ -1,5 +1,5 @@
 -- What the commands of a ReplicaSet's turn write in the place of pods.
-use Rattle.std.proofs.Common.{◌≡◌, ◌+◌, ◌⊎◌, inl, inr, ◌&&◌, not, ℕ, zero, suc, List, [], ◌∷◌, ◌++◌, length, map, flat_map, filter, replicate, drop, Bool, true, false, cond, codes, bytes_eq, IfSome, Option, Some, None, option_and_then, Result, Ok, Err, decimal, refl, sym, ap, ◌∙◌, subst}
+use Rattle.std.proofs.Common.{◌≡◌, ◌≤◌, ◌+◌, ◌⊎◌, inl, inr, ◌&&◌, not, ℕ, zero, suc, List, [], ◌∷◌, ◌++◌, length, map, flat_map, filter, replicate, drop, Bool, true, false, cond, codes, bytes_eq, IfSome, Option, Some, None, option_and_then, Result, Ok, Err, decimal, refl, sym, ap, ◌∙◌, subst}
 use Rattle.std.specs.List.{AllByRecursion}
 use Rattle.serde_json.specs.Data.{Data, Items, object}
 use Rattle.serde_json.specs.Find.{as_str}
@@ -152,7 +152,7 @@ Replaces set was new = SameParts was new ⊎ ((is_released set was ≡ true) ⊎
 
 -- a pod that was there at some revision
 abbrev pub WasPod : History → Key → Data → Type 0
-WasPod h k d = (k.kind ≡ Pod) × ((r : ℕ) × (state h r k ≡ Some d))
+WasPod h k d = (k.kind ≡ Pod) × ((r : ℕ) × (r ≤ present h) × (state h r k ≡ Some d))
 
 module _ (h : History) (reached : IsReached h) where
   module _ (R : Data → Data → Type 0) (j : Key) (d : Data) (looked : WasPod h j d) (so : (new : Data) → R d new) where
@@ -170,7 +170,7 @@ module _ (h : History) (reached : IsReached h) where
         by : (y : Option Data) → IfSome y (λ new. (existing : Data) × (w.key ≡ j) × (state h (present h) j ≡ Some existing) × (version existing ≡ Some named)) → IfSome y (λ new. IfSome (state h (present h) w.key) (λ was. R was new))
         by None s = tt
         by (Some new) s =
-            let one = names_one h looked.1.0 (present h) j j d s.0 reached looked.1.1 s.2 (is ∙ sym s.3) in
+            let one = names_one h looked.1.0 (present h) j j d s.0 reached looked.1.2 s.2 (is ∙ sym s.3) in
             subst (λ k. IfSome (state h (present h) k) (λ was. R was new)) (sym s.1) (of_held (λ was. R was new) (state h (present h) j) s.0 s.2 (subst (λ x. R x new) one.1 (so new)))
 
     has_version : (v : Option Data) → metadata (codes "resourceVersion") d ≡ v → (named : List ℕ) → version d ≡ Some named → (x : Data) × (metadata (codes "resourceVersion") d ≡ Some x)
@@ -188,9 +188,9 @@ module _ (h : History) (reached : IsReached h) where
       by_reading : (x : Result Data Part) → reading j.kind e ≡ x → InPlace (write_of made)
       by_reading (Err p) is = subst (λ (y : Result Data Part). InPlace (write_of (update_read j (with_defaults j.kind y) (entries_at h (present h)) (present h)))) (sym is) tt
       by_reading (Ok o) is =
-          let v = tells h looked.1.0 j d reached looked.1.1 in
+          let v = tells h looked.1.0 j d reached looked.1.2 in
           let x = has_version (metadata (codes "resourceVersion") d) refl (decimal v.0) v.1 in
-          let reads = ap (λ kind. reading kind d) (sym looked.0) ∙ stored_reads h looked.1.0 j d reached looked.1.1 in
+          let reads = ap (λ kind. reading kind d) (sym looked.0) ∙ stored_reads h looked.1.0 j d reached looked.1.2 in
           let same : version o ≡ version d = version_read d items o reads (ap (λ kind. reading kind e) (sym looked.0) ∙ is) x.0 x.1 in
           stood (decimal v.0) v.1 (write_of made) (replaced j e o (decimal v.0) h moment is (same ∙ v.1))
 

@@ -121,13 +121,16 @@ module _ (o : Owner) where
     same_set r s k l a b pod low high set at as_well same =
         ap (λ x. is_some_and (λ (rs : List Requirement). meets_all rs (metadata.labels_of pod)) (option_and_then (λ v. result_ok (selector_of_value v)) x)) (selectors_stay h r s k l a b reached low high set at as_well same)
 
+    -- a set of the uid matches it, whenever it was there
+    pub matches_set : (r : ℕ) (k : Key) (set pod : Data) → r ≤ present h → state h r k ≡ Some set → k.kind ≡ ReplicaSet → uid set ≡ Some o.uid → IsOfSet o h pod → matches set pod ≡ true
+    matches_set r k set pod low at kind named is = let m = is.matched in same_set r m.0 k m.1 set m.2 pod low m.3 kind at m.5 (named ∙ sym m.6) ∙ m.7
+
     -- a pod that is a set's own, and matches it, is not released, whoever looks
     pub matches_where_owned : (r s : ℕ) (k l : Key) (set pod : Data) → r ≤ present h → state h r k ≡ Some set → k.kind ≡ ReplicaSet → state h s l ≡ Some pod → IsOfSet o h pod
         → (u : List ℕ) → uid set ≡ Some u → is_controlled_by u pod ≡ true → matches set pod ≡ true
     matches_where_owned r s k l set pod low at kind there is u named by_u =
-        let m = is.matched in
         let same : u ≡ o.uid = one_refers u o.uid (owners pod) (controllers_are_one h s l pod reached there) by_u (refers pod is.controlled) in
-        same_set r m.0 k m.1 set m.2 pod low m.3 kind at m.5 (named ∙ ap Some same ∙ sym m.6) ∙ m.7
+        matches_set r k set pod low at kind (named ∙ ap Some same) is
 
     not_released : (r s : ℕ) (k l : Key) (set pod : Data) → r ≤ present h → state h r k ≡ Some set → k.kind ≡ ReplicaSet → state h s l ≡ Some pod → IsOfSet o h pod → is_released set pod ≡ true → ⊥
     not_released r s k l set pod low at kind there is gone =
@@ -151,19 +154,20 @@ module _ (o : Owner) where
 
 -- ---- from write to write
 
+-- each of the pods was there by a revision
+abbrev pub Known : History → ℕ → List Data → Type 0
+Known h n ps = AllByRecursion (λ (p : Data). (s : ℕ) × (l : Key) × (s ≤ n) × (state h s l ≡ Some p)) ps
+
+-- up to a revision each of them that was there is the set's own
+abbrev pub Upto : Owner → History → ℕ → List Data → Type 0
+Upto o h n ps = (r : ℕ) (k : Key) (d : Data) → r ≤ n → k.kind ≡ Pod → state h r k ≡ Some d → is_among ps d ≡ true → IsOfSet o h d
+
+-- what the next write puts in the place of a pod of the set is one
+abbrev pub Onward : Owner → History → ℕ → Type 0
+Onward o h n = (k : Key) (was new : Data) → k.kind ≡ Pod → state h n k ≡ Some was → state h (n + 1) k ≡ Some new → uid was ≡ uid new → IsOfSet o h was → IsOfSet o h new
+
 module _ (o : Owner) (pods : List Data) (h : History) (reached : IsReached h) where
-  -- each of the pods was there by a revision
-  abbrev pub Known : ℕ → List Data → Type 0
-  Known n ps = AllByRecursion (λ (p : Data). (s : ℕ) × (l : Key) × (s ≤ n) × (state h s l ≡ Some p)) ps
-
-  abbrev pub Upto : ℕ → List Data → Type 0
-  Upto n ps = (r : ℕ) (k : Key) (d : Data) → r ≤ n → k.kind ≡ Pod → state h r k ≡ Some d → is_among ps d ≡ true → IsOfSet o h d
-
-  -- what a write puts in the place of a pod of the set is one
-  abbrev pub Onward : ℕ → Type 0
-  Onward n = (k : Key) (was new : Data) → k.kind ≡ Pod → state h n k ≡ Some was → state h (n + 1) k ≡ Some new → uid was ≡ uid new → IsOfSet o h was → IsOfSet o h new
-
-  one_of : (n : ℕ) (d : Data) (ps : List Data) → Known n ps → is_among ps d ≡ true → (p : Data) × (s : ℕ) × (l : Key) × (s ≤ n) × (state h s l ≡ Some p) × (uid d ≡ uid p)
+  one_of : (n : ℕ) (d : Data) (ps : List Data) → Known h n ps → is_among ps d ≡ true → (p : Data) × (s : ℕ) × (l : Key) × (s ≤ n) × (state h s l ≡ Some p) × (uid d ≡ uid p)
   one_of n d [] known is = cc
   one_of n d (p ∷ ps) known is = by (have_one_uid d p) refl is (one_of n d ps known.1)
     where
@@ -198,7 +202,7 @@ module _ (o : Owner) (pods : List Data) (h : History) (reached : IsReached h) wh
       by (inl e) = inl e
       by (inr e) = inr (omega (arith, le, e))
 
-  pub one_more : (n : ℕ) → n + 1 ≤ present h → Known n pods → Onward n → Upto n pods → Upto (n + 1) pods
+  pub one_more : (n : ℕ) → n + 1 ≤ present h → Known h n pods → Onward o h n → Upto o h n pods → Upto o h (n + 1) pods
   one_more n le known onward upto r k d low pod at is = by (either r n low)
     where
       by : (r ≤ n) ⊎ (r ≡ n + 1) → IsOfSet o h d
@@ -212,7 +216,7 @@ module _ (o : Owner) (pods : List Data) (h : History) (reached : IsReached h) wh
           still : (n : ℕ) → n ≤ n
           still n = omega arith
 
-  known_later : (n m : ℕ) → n ≤ m → (ps : List Data) → Known n ps → Known m ps
+  known_later : (n m : ℕ) → n ≤ m → (ps : List Data) → Known h n ps → Known h m ps
   known_later n m le [] known = tt
   known_later n m le (p ∷ ps) known = let k = known.0 in ((k.0, k.1, low k.0 n m k.2 le, k.3), known_later n m le ps known.1)
     where
@@ -220,13 +224,13 @@ module _ (o : Owner) (pods : List Data) (h : History) (reached : IsReached h) wh
       low s n m e f = omega (arith, e, f)
 
   -- over many writes
-  pub many_more : (i n m : ℕ) → m ≡ n + i → m ≤ present h → Known n pods → ((r : ℕ) → n ≤ r → r + 1 ≤ m → Onward r) → Upto n pods → Upto m pods
-  many_more zero n m is le known onward upto = subst (λ x. Upto x pods) (plain n m is) upto
+  pub many_more : (i n m : ℕ) → m ≡ n + i → m ≤ present h → Known h n pods → ((r : ℕ) → n ≤ r → r + 1 ≤ m → Onward o h r) → Upto o h n pods → Upto o h m pods
+  many_more zero n m is le known onward upto = subst (λ x. Upto o h x pods) (plain n m is) upto
     where
       plain : (n m : ℕ) → m ≡ n + 0 → n ≡ m
       plain n m is = omega (arith, is)
   many_more (suc i) n m is le known onward upto =
-      subst (λ x. Upto x pods) (whole n m i is)
+      subst (λ x. Upto o h x pods) (whole n m i is)
       (one_more (m - 1) (subst (λ x. x ≤ present h) (sym (whole n m i is)) le) (known_later n (m - 1) (first n m i is) pods known) (onward (m - 1) (first n m i is) (last n m i is))
       (many_more i n (m - 1) (less n m i is) (low m (present h) le) known (λ r a b. onward r a (further r m b)) upto))
     where
@@ -249,7 +253,7 @@ module _ (o : Owner) (pods : List Data) (h : History) (reached : IsReached h) wh
       further r m le = omega (arith, le)
 
   -- with a pod more, which was not there before
-  pub with_new : (n : ℕ) → n + 1 ≤ present h → (key : Key) (new : Data) → state h (n + 1) key ≡ Some new → state h n key ≡ None → IsOfSet o h new → Upto (n + 1) pods → Upto (n + 1) (pods ++ new ∷ [])
+  pub with_new : (n : ℕ) → n + 1 ≤ present h → (key : Key) (new : Data) → state h (n + 1) key ≡ Some new → state h n key ≡ None → IsOfSet o h new → Upto o h (n + 1) pods → Upto o h (n + 1) (pods ++ new ∷ [])
   with_new n le key new now none is upto r k d low pod at among = by (any_last pods among)
     where
       any_last : (ps : List Data) → list_any (have_one_uid d) (ps ++ new ∷ []) ≡ true → (is_among ps d ≡ true) ⊎ (have_one_uid d new ≡ true)
