@@ -62,3 +62,4 @@ mod EditedVersions
 mod PodWrites
 mod PodsStay
 mod LooksOfTurns
+mod MadeByTurns

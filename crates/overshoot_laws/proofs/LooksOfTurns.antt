@@ -14,7 +14,7 @@ use Rattle.laws.proofs.EachWrite.{AllPut, listed_put}
 use Rattle.laws.proofs.SentChanges.{same_kind}
 use Rattle.plans.specs.ReplicaSets.{set_looked_at}
 use Rattle.reconciling.specs.ControlPlanes.{Step, opened, run}
-use Rattle.reconciling.specs.Turns.{Turn, Sight, looked, satisfied, shown, hand, is_pod}
+use Rattle.reconciling.specs.Turns.{Turn, Sight, looked, satisfied, shown, hand}
 use Rattle.reconciling_laws.specs.IssuedLaws.{WasPublished, IsSeen}
 use Rattle.reconciling_laws.specs.LookLaws.{WasPublishedSince}
 use Rattle.reconciling_laws.proofs.LookRuns.{under_way}
@@ -32,7 +32,7 @@ reversed Less e = cc
 reversed Equal e = refl
 reversed Greater e = cc
 
-is_itself : (k : Key) → is_same_key k k ≡ true
+pub is_itself : (k : Key) → is_same_key k k ≡ true
 is_itself k = ap is_eq (reversed (key_cmp k k) (name_cmp_total.antisymm k k))
 
 last_put : (k : Key) (x : Option Data) (before : List Write) (w : Write) → last_of x k (before ++ w ∷ []) ≡ cond (is_same_key k w.key) w.put (last_of x k before)
