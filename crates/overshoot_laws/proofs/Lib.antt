@@ -63,3 +63,4 @@ mod PodWrites
 mod PodsStay
 mod LooksOfTurns
 mod MadeByTurns
+mod MadePods

@@ -158,6 +158,14 @@ module _ (o : Owner) where
 abbrev pub Known : History → ℕ → List Data → Type 0
 Known h n ps = AllByRecursion (λ (p : Data). (s : ℕ) × (l : Key) × (s ≤ n) × (state h s l ≡ Some p)) ps
 
+-- and so it was by a later one
+pub known_later : (h : History) (n m : ℕ) → n ≤ m → (ps : List Data) → Known h n ps → Known h m ps
+known_later h n m le [] known = tt
+known_later h n m le (p ∷ ps) known = let k = known.0 in ((k.0, k.1, low k.0 n m k.2 le, k.3), known_later h n m le ps known.1)
+  where
+    low : (s n m : ℕ) → s ≤ n → n ≤ m → s ≤ m
+    low s n m e f = omega (arith, e, f)
+
 -- up to a revision each of them that was there is the set's own
 abbrev pub Upto : Owner → History → ℕ → List Data → Type 0
 Upto o h n ps = (r : ℕ) (k : Key) (d : Data) → r ≤ n → k.kind ≡ Pod → state h r k ≡ Some d → is_among ps d ≡ true → IsOfSet o h d
@@ -216,13 +224,6 @@ module _ (o : Owner) (pods : List Data) (h : History) (reached : IsReached h) wh
           still : (n : ℕ) → n ≤ n
           still n = omega arith
 
-  known_later : (n m : ℕ) → n ≤ m → (ps : List Data) → Known h n ps → Known h m ps
-  known_later n m le [] known = tt
-  known_later n m le (p ∷ ps) known = let k = known.0 in ((k.0, k.1, low k.0 n m k.2 le, k.3), known_later n m le ps known.1)
-    where
-      low : (s n m : ℕ) → s ≤ n → n ≤ m → s ≤ m
-      low s n m e f = omega (arith, e, f)
-
   -- over many writes
   pub many_more : (i n m : ℕ) → m ≡ n + i → m ≤ present h → Known h n pods → ((r : ℕ) → n ≤ r → r + 1 ≤ m → Onward o h r) → Upto o h n pods → Upto o h m pods
   many_more zero n m is le known onward upto = subst (λ x. Upto o h x pods) (plain n m is) upto
@@ -231,7 +232,7 @@ module _ (o : Owner) (pods : List Data) (h : History) (reached : IsReached h) wh
       plain n m is = omega (arith, is)
   many_more (suc i) n m is le known onward upto =
       subst (λ x. Upto o h x pods) (whole n m i is)
-      (one_more (m - 1) (subst (λ x. x ≤ present h) (sym (whole n m i is)) le) (known_later n (m - 1) (first n m i is) pods known) (onward (m - 1) (first n m i is) (last n m i is))
+      (one_more (m - 1) (subst (λ x. x ≤ present h) (sym (whole n m i is)) le) (known_later h n (m - 1) (first n m i is) pods known) (onward (m - 1) (first n m i is) (last n m i is))
       (many_more i n (m - 1) (less n m i is) (low m (present h) le) known (λ r a b. onward r a (further r m b)) upto))
     where
       whole : (n m i : ℕ) → m ≡ n + suc i → m - 1 + 1 ≡ m

@@ -4,6 +4,7 @@
 pub mod bound_laws;
 pub mod command_laws;
 pub mod kind_laws;
+pub mod made_pods;
 pub mod new_pod_laws;
 pub mod overshoot_examples;
 pub mod reserve_laws;
