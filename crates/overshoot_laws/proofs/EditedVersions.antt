@@ -1,5 +1,5 @@
 -- A pod with other owner references is read at the version that it has.
-use Rattle.std.proofs.Common.{◌≡◌, List, ℕ, true, codes, is_some, Option, Some, None, option_and_then, Ok, refl, sym, ap, ◌∙◌, subst}
+use Rattle.std.proofs.Common.{◌≡◌, List, ℕ, codes, is_some, Some, option_and_then, Ok, refl, sym, ap, ◌∙◌}
 use Rattle.serde_json.specs.Data.{Data, Items, array, object, Members, put}
 use Rattle.serde_json.specs.Find.{as_str, get, get_member}
 use Rattle.serde_json.proofs.Views.{get_member-put, get_member-put_other}

@@ -5,23 +5,21 @@ use Rattle.std.specs.Ordering.{ordering_reverse}
 use Rattle.serde_json.specs.Data.{Data}
 use Rattle.definitions.proofs.PutLaws.{name_cmp_total}
 use Rattle.definitions.specs.declared.kinds.Kind.{Kind}
-use Rattle.definitions.specs.declared.kinds.Kind.TheVariants.{ConfigMap, Pod, ReplicaSet, Deployment}
-use Rattle.definitions.specs.History.{History, Entries, Write, View, writes, present, last_of, state, found, seen, entries_at, in_view, unfiltered, list}
+use Rattle.definitions.specs.declared.kinds.Kind.TheVariants.{Pod, ReplicaSet}
+use Rattle.definitions.specs.History.{History, Entries, Write, writes, present, last_of, state, found, seen, entries_at, in_view, unfiltered, list}
 use Rattle.definitions.specs.Keys.{Key, key_cmp, is_same_key}
 use Rattle.definitions.specs.Kinds.{rank}
-use Rattle.controllers.specs.Expectations.{Owner}
 use Rattle.laws.proofs.EachWrite.{AllPut, listed_put}
 use Rattle.laws.proofs.SentChanges.{same_kind}
 use Rattle.plans.specs.ReplicaSets.{set_looked_at}
 use Rattle.reconciling.specs.ControlPlanes.{Step, opened, run}
 use Rattle.reconciling.specs.Turns.{Turn, Sight, looked, satisfied, shown, hand}
-use Rattle.reconciling_laws.specs.IssuedLaws.{WasPublished, IsSeen}
+use Rattle.reconciling_laws.specs.IssuedLaws.{IsSeen}
 use Rattle.reconciling_laws.specs.LookLaws.{WasPublishedSince}
 use Rattle.reconciling_laws.proofs.LookRuns.{under_way}
 use Rattle.control_plane_laws.specs.PlaneLaws.{IsServerList}
 use Rattle.control_plane_laws.proofs.PlaneRuns.{look_listed}
 use Rattle.simulation.specs.Clusters.{history}
-use Rattle.server_state.specs.Snapshots.{Snapshot}
 use Rattle.overshoot_laws.proofs.Bounding.{lists_show, shows_there}
 use Rattle.overshoot_laws.proofs.PodWrites.{WasPod}
 
@@ -53,11 +51,11 @@ take_past (x ∷ xs) ys i (suc n) e = ap (λ zs. x ∷ zs) (take_past xs ys i n 
 pub put_there : (h : History) (before : List Write) (w : Write) (ws : List Write) → writes h ≡ before ++ (w ∷ ws) → (length before + 2 ≤ present h) × (state h (length before + 2) w.key ≡ w.put)
 put_there h before w ws e = (
   let long : length (writes h) ≡ length before + length (w ∷ ws) = ap length e ∙ length-append before (w ∷ ws) in
-  within (length (writes h)) (length before) (length ws) long,
+      within (length (writes h)) (length before) (length ws) long,
   ap (λ vs. last_of None w.key (take (length before + 2 - 1) vs)) e
-  ∙ ap (last_of None w.key) (take_past before (w ∷ ws) 1 (length before + 2 - 1) (one (length before)))
-  ∙ last_put w.key None before w
-  ∙ ap (λ b. cond b w.put (last_of None w.key before)) (is_itself w.key),
+      ∙ ap (last_of None w.key) (take_past before (w ∷ ws) 1 (length before + 2 - 1) (one (length before)))
+      ∙ last_put w.key None before w
+      ∙ ap (λ b. cond b w.put (last_of None w.key before)) (is_itself w.key),
 )
   where
     within : (n b m : ℕ) → n ≡ b + suc m → b + 2 ≤ n + 1

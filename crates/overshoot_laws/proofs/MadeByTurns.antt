@@ -13,14 +13,13 @@ use Rattle.definitions.specs.NewObjects as new_objects
 use Rattle.definitions.specs.ObjectRequests.{create_object}
 use Rattle.definitions.specs.Reached.{IsReached}
 use Rattle.definitions.specs.Reading.{reading}
-use Rattle.definitions.specs.Verbs.{Outcome, accept, new_name, object_in, with_write, write_of}
+use Rattle.definitions.specs.Verbs.{accept, new_name, object_in, with_write, write_of}
 use Rattle.controllers.specs.declared.controller.Controller.{Controller}
 use Rattle.controllers.specs.declared.controller.Controller.TheVariants as controller
-use Rattle.controllers.specs.Commands.{Command, create, update, update_status, delete}
+use Rattle.controllers.specs.Commands.{Command, update, update_status, delete}
 use Rattle.controllers.specs.Expectations.{Owner}
 use Rattle.controllers.specs.Hands.{Hand}
 use Rattle.controllers.specs.OwedKeys.{one_of}
-use Rattle.controllers.specs.WorkQueues.{WorkKey, handed}
 use Rattle.laws.proofs.Cases.{of_create}
 use Rattle.laws.proofs.Traced.{there_after, traced}
 use Rattle.laws.proofs.VerbLaws.{found-state, none_from, of_none, present-write}
@@ -29,19 +28,18 @@ use Rattle.plans.specs.PodClaims.{released, adopted}
 use Rattle.plans.specs.ReplicaSets.{set_looked_at}
 use Rattle.simulation.specs.Clusters.{Cluster, history}
 use Rattle.reconciling.specs.ControlPlanes.{ControlPlane, works, client, after_request, step, step_in}
-use Rattle.reconciling.specs.Managers.{Manager, Acted, Action, Delivery, delivered, answer_lost, dropped, requested, take_key, carry_out, act}
+use Rattle.reconciling.specs.Managers.{Manager, Acted, Action, Delivery, delivered, answer_lost, dropped, requested, carry_out}
 use Rattle.reconciling.specs.NextSteps.{NextStep, next, look, ask_satisfied, read, expect, issue, finish}
-use Rattle.reconciling.specs.Turns.{Turn, Sight, hand, left, owner_by, creates_pod, version_answered}
+use Rattle.reconciling.specs.Turns.{Turn, hand, left, owner_by, version_answered}
 use Rattle.reconciling_laws.specs.IssuedLaws.{IsSeen}
 use Rattle.reconciling_laws.proofs.Acting.{by_act}
 use Rattle.reconciling_laws.proofs.Counting.{by_counted}
 use Rattle.reconciling_laws.proofs.Growing.{state_stands, present_grows}
 use Rattle.reconciling_laws.proofs.Nexts.{Stands, to_look, to_ask, to_read, to_expect, to_issue, to_finish, stands}
 use Rattle.control_plane_laws.specs.PlaneLaws.{IsServerList}
-use Rattle.overshoot_laws.specs.KeptPods.{is_among}
 use Rattle.overshoot_laws.specs.MadePods.{IsOfSet}
 use Rattle.overshoot_laws.specs.Overshoot.{is_replica_sets, pods_created}
-use Rattle.overshoot_laws.specs.Reserves.{is_set, is_controlled, is_turn_for, created}
+use Rattle.overshoot_laws.specs.Reserves.{is_set, is_turn_for, created}
 use Rattle.overshoot_laws.proofs.Asking.{just}
 use Rattle.overshoot_laws.proofs.Births.{writes-append}
 use Rattle.overshoot_laws.proofs.Bounding.{has_uid, plan_creates}
@@ -91,7 +89,7 @@ module _ (o : Owner) where
     one_step = subst (λ n. present h + 1 ≤ n) (sym (present-write h w)) (omega arith)
 
     module _ (reached : IsReached later) (r : ℕ) (key : Key) (set : Data) (low : r ≤ present h) (at : state h r key ≡ Some set) (kind : key.kind ≡ ReplicaSet)
-      (leaves : IfSome w.put (λ new. IfSome (state h (present h) w.key) (λ was. Replaces set was new))) where
+        (leaves : IfSome w.put (λ new. IfSome (state h (present h) w.key) (λ was. Replaces set was new))) where
       in_later : r ≤ present later
       in_later = over r (present h) (present later) low one_step
         where
@@ -132,10 +130,11 @@ module _ (o : Owner) where
       pub create_stays : (ps : List Data) (new : Data) → w.put ≡ Some new → state h (present h) w.key ≡ None → is_same_key w.key w.key ≡ true → IsOfSet o later new → Stays o ps h → Stays o (ps ++ new ∷ []) later
       create_stays ps new put none itself is stays =
           let now : state later (present h + 1) w.key ≡ Some new = state_after w.key ∙ ap (λ b. cond b w.put (state h (present h) w.key)) itself ∙ put in
-          let all = write_stays ps stays in
-          (subst (λ n. Upto o later n (ps ++ new ∷ [])) (sym (present-write h w))
-          (with_new o ps later reached (present h) one_step w.key new now (state_before w.key ∙ none) is (subst (λ n. Upto o later n ps) (present-write h w) all.0)),
-          known_new ps new now all.1)
+          let all = write_stays ps stays in (
+            subst (λ n. Upto o later n (ps ++ new ∷ [])) (sym (present-write h w))
+                (with_new o ps later reached (present h) one_step w.key new now (state_before w.key ∙ none) is (subst (λ n. Upto o later n ps) (present-write h w) all.0)),
+            known_new ps new now all.1,
+          )
 
 -- ---- the command of a turn
 
@@ -277,7 +276,7 @@ module _ (o : Owner) (pods : List Data) (c : Cluster) (t : Turn) (sets : is_repl
 -- ---- the action of a worker
 
 module _ (o : Owner) (pods : List Data) (p : ControlPlane) (w : ℕ) (reached : IsReached (history p.cluster)) (is : Stays o pods (history p.cluster))
-  (seen : (t : Turn) → slice_get p.manager.turns w ≡ Some (Some t) → AllByRecursion (IsSeen (IsServerList (history p.cluster))) t.sights) where
+    (seen : (t : Turn) → slice_get p.manager.turns w ≡ Some (Some t) → AllByRecursion (IsSeen (IsServerList (history p.cluster))) t.sights) where
   abbrev m : Manager
   m = p.manager
 

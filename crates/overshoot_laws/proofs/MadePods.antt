@@ -1,5 +1,5 @@
 -- Whatever steps are taken that let a set alone, the pods that are made for it stay its own, and match it.
-use Rattle.std.proofs.Common.{◌≡◌, ◌≤◌, ◌+◌, ◌-◌, ◌⊎◌, inl, inr, ◌&&◌, not, ℕ, suc, List, [], ◌∷◌, ◌++◌, length, length-append, take, drop, Bool, true, false, cond, IfSome, Option, Some, None, option_map, is_some, slice_get, refl, sym, ap, ◌∙◌, subst, append-nil, append_assoc, arith}
+use Rattle.std.proofs.Common.{◌≡◌, ◌≤◌, ◌+◌, ◌-◌, inl, inr, ◌&&◌, not, ℕ, suc, List, [], ◌∷◌, ◌++◌, length, length-append, take, drop, Bool, true, false, cond, IfSome, Option, Some, None, is_some, slice_get, refl, sym, ap, ◌∙◌, subst, append-nil, append_assoc, arith}
 use Rattle.std.specs.List.{list_any, AllByRecursion}
 use Rattle.std.proofs.lemmas.Slice.Eq.{bytes_eq-Decides}
 use Rattle.serde_json.specs.Data.{Data}
@@ -14,7 +14,6 @@ use Rattle.definitions.specs.SelectorValues.{is_some_and}
 use Rattle.controllers.specs.declared.controller.Controller.{Controller}
 use Rattle.controllers.specs.declared.controller.Controller.TheVariants as controller
 use Rattle.controllers.specs.Expectations.{Owner}
-use Rattle.controllers.specs.Hands.{Hand}
 use Rattle.controllers.specs.OwedKeys.{one_of}
 use Rattle.controllers.specs.OwnerReferences.{is_text}
 use Rattle.laws.proofs.Traced.{traced}
@@ -43,7 +42,7 @@ use Rattle.overshoot_laws.proofs.LooksOfTurns.{take_past, put_there, pods_seen, 
 use Rattle.overshoot_laws.proofs.MadeByTurns.{Stays, stays_still, acted}
 use Rattle.overshoot_laws.proofs.Matching.{its_uid}
 use Rattle.overshoot_laws.proofs.OneSelector.{Next, along_at}
-use Rattle.overshoot_laws.proofs.PodsStay.{Known, Upto, Onward, known_later, matches_set, many_more, with_labels}
+use Rattle.overshoot_laws.proofs.PodsStay.{Onward, known_later, matches_set, many_more, with_labels}
 use Rattle.overshoot_laws.proofs.PodWrites.{WasPod}
 use Rattle.overshoot_laws.proofs.SameTexts.{same_labels, stored_plain}
 use Rattle.overshoot_laws.proofs.Sound.{planes_are_sound}
@@ -139,7 +138,7 @@ not_for o (Some t) off = by t.work_key.controller refl
 -- ---- each step
 
 module _ (o : Owner) (pods : List Data) (p : ControlPlane) (s : Step) (reached : IsReached (history p.cluster)) (later : IsReached (history (step p s).plane.cluster))
-  (seen : (w : ℕ) (t : Turn) → slice_get p.manager.turns w ≡ Some (Some t) → AllByRecursion (IsSeen (IsServerList (history p.cluster))) t.sights) where
+    (seen : (w : ℕ) (t : Turn) → slice_get p.manager.turns w ≡ Some (Some t) → AllByRecursion (IsSeen (IsServerList (history p.cluster))) t.sights) where
   abbrev h : History
   h = history p.cluster
 
@@ -211,7 +210,7 @@ module _ (o : Owner) (pods : List Data) (p : ControlPlane) (s : Step) (reached :
   turn_in (Some (Some u)) t e = ap (λ y. Some y) e
 
 module _ (o : Owner) (pods : List Data) (p : ControlPlane) (reached : IsReached (history p.cluster))
-  (seen : (w : ℕ) (t : Turn) → slice_get p.manager.turns w ≡ Some (Some t) → AllByRecursion (IsSeen (IsServerList (history p.cluster))) t.sights) (is : Stays o pods (history p.cluster)) where
+    (seen : (w : ℕ) (t : Turn) → slice_get p.manager.turns w ≡ Some (Some t) → AllByRecursion (IsSeen (IsServerList (history p.cluster))) t.sights) (is : Stays o pods (history p.cluster)) where
   -- each step leaves them its own, with those that it makes
   stays_step : (s : Step) → IsReached (history (step p s).plane.cluster) → LetsAlone o p s → Stays o (pods ++ made_by o p s) (history (step p s).plane.cluster)
   stays_step s later alone = by s later alone (is_replica_sets (turn_of p s)) refl

@@ -3,7 +3,6 @@ use Rattle.std.proofs.Common.{◌≡◌, ◌≤◌, ◌+◌, ◌⊎◌, inl, inr
 use Rattle.std.specs.List.{AllByRecursion}
 use Rattle.serde_json.specs.Data.{Data, Items, object}
 use Rattle.serde_json.specs.Find.{as_str}
-use Rattle.definitions.proofs.Truths.{both_true}
 use Rattle.definitions.proofs.VerbSteps.{update_read, with_defaults}
 use Rattle.definitions.specs.declared.kinds.Kind.TheVariants.{Pod}
 use Rattle.definitions.specs.declared.refusals.Part.{Part}
@@ -130,8 +129,8 @@ by_controller P controller.ReplicaSet h n x rest is next looks = by (found h.key
       set,
       f,
       of_all P h.key set n (plan_of h (Some set)) x rest
-      (all_planned P h.key set h.is_satisfied (may_adopt set (live h.reads h.key)) (pods_looked_at h) (passing P h.key set (λ m. bytes_eq m.0.namespace h.key.namespace) h.looks.pods looks))
-      (ap (drop n) (sym (ap (plan_of h) f)) ∙ next),
+          (all_planned P h.key set h.is_satisfied (may_adopt set (live h.reads h.key)) (pods_looked_at h) (passing P h.key set (λ m. bytes_eq m.0.namespace h.key.namespace) h.looks.pods looks))
+          (ap (drop n) (sym (ap (plan_of h) f)) ∙ next),
     )
 
 pub planned_next : (P : Key → Data → Type 0) (t : Turn) (x : Command) (rest : List Command) → is_replica_sets (Some t) ≡ true → still_left t ≡ x ∷ rest → AllByRecursion (λ (e : Key × Data). P e.0 e.1) (hand t).looks.pods

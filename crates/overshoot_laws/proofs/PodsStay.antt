@@ -1,5 +1,5 @@
 -- Pods that are a set's own, and match it, stay so from write to write.
-use Rattle.std.proofs.Common.{◌≡◌, ◌≤◌, ◌+◌, ◌-◌, ◌⊎◌, inl, inr, ◌&&◌, ◌||◌, not, ℕ, zero, suc, List, [], ◌∷◌, ◌++◌, length, filter, Bool, true, false, true≢false, cond, codes, nat_le, is_some, Option, Some, None, option_and_then, unwrap_or, refl, sym, ap, ◌∙◌, subst, append-nil, arith}
+use Rattle.std.proofs.Common.{◌≡◌, ◌≤◌, ◌+◌, ◌-◌, ◌⊎◌, inl, inr, ◌&&◌, ◌||◌, not, ℕ, zero, suc, List, [], ◌∷◌, ◌++◌, filter, Bool, true, false, true≢false, cond, codes, Option, Some, None, option_and_then, unwrap_or, refl, sym, ap, ◌∙◌, subst, arith}
 use Rattle.std.proofs.lemmas.Slice.Eq.{bytes_eq-Decides}
 use Rattle.std.specs.List.{list_any, filter_map, AllByRecursion}
 use Rattle.std.specs.Result.{result_ok}
@@ -8,7 +8,7 @@ use Rattle.serde_json.specs.Find.{as_array, as_str}
 use Rattle.definitions.proofs.Truths.{both_true, left_true, right_true}
 use Rattle.definitions.specs.declared.kinds.Kind.TheVariants.{Pod, ReplicaSet}
 use Rattle.definitions.specs.Checks.{controllers, in_spec}
-use Rattle.definitions.specs.History.{History, Write, writes, present, state}
+use Rattle.definitions.specs.History.{History, present, state}
 use Rattle.definitions.specs.Keys.{Key}
 use Rattle.definitions.specs.Metadata as metadata
 use Rattle.definitions.specs.Metadata.{uid, owners, owners_in, is_being_deleted}
@@ -24,7 +24,7 @@ use Rattle.plans.specs.Pods.{is_active, is_owned, is_orphan, matches}
 use Rattle.reconciling.specs.PodObservations.{set_named}
 use Rattle.reconciling_laws.proofs.Growing.{state_stands, present_grows}
 use Rattle.overshoot_laws.specs.KeptPods.{is_among}
-use Rattle.overshoot_laws.specs.MadePods.{IsOfSet, StayOfSet}
+use Rattle.overshoot_laws.specs.MadePods.{IsOfSet}
 use Rattle.overshoot_laws.specs.Reserves.{is_set, is_controlled}
 use Rattle.overshoot_laws.proofs.Births.{le_or}
 use Rattle.overshoot_laws.proofs.KeptPods.{same_uid}

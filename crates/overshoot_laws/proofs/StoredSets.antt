@@ -1,5 +1,5 @@
 -- Each ReplicaSet that is stored matches its template and keeps its selector, and each object has one controller at most.
-use Rattle.std.proofs.Common.{◌≡◌, ◌≤◌, ◌+◌, ◌&&◌, ℕ, List, [], ◌∷◌, Bool, true, codes, nat_le, IfSome, Option, Some, None, option_and_then, unwrap_or, refl, sym, ap, ◌∙◌, subst}
+use Rattle.std.proofs.Common.{◌≡◌, ◌+◌, ℕ, List, [], ◌∷◌, Bool, true, codes, nat_le, IfSome, Option, Some, None, option_and_then, unwrap_or, refl, sym, ap, ◌∙◌, subst}
 use Rattle.std.proofs.lemmas.Bool.{leb-true}
 use Rattle.std.proofs.lemmas.Slice.Eq.{bytes_eq-Decides}
 use Rattle.std.specs.List.{list_all}
@@ -10,7 +10,7 @@ use Rattle.definitions.proofs.FirstStatus.{metadata_of-first}
 use Rattle.definitions.proofs.Truths.{both_true, right_true}
 use Rattle.definitions.specs.declared.kinds.Kind.{Kind}
 use Rattle.definitions.specs.declared.kinds.Kind.TheVariants.{ConfigMap, Pod, ReplicaSet, Deployment}
-use Rattle.definitions.specs.Checks.{finalizers, is_owner, are_owners_valid, controllers, checks, checks_of, update_fault, adds_no_finalizer, is_selector_kept, is_selected, is_template_valid, in_spec, text_or_empty}
+use Rattle.definitions.specs.Checks.{finalizers, is_owner, are_owners_valid, controllers, checks, checks_of, adds_no_finalizer, is_selector_kept, is_selected, is_template_valid, in_spec, text_or_empty}
 use Rattle.definitions.specs.Deletion.{left_by, being_deleted}
 use Rattle.definitions.specs.History.{History, Write, write, writes, present, state, last_of, found, entries_at}
 use Rattle.definitions.specs.Keys.{Key}
@@ -35,7 +35,7 @@ use Rattle.overshoot_laws.specs.KeptPods.{Along}
 use Rattle.overshoot_laws.specs.SetLaws.{ControllersAreOne, SetsMatchTheirTemplates}
 use Rattle.overshoot_laws.proofs.Births.{writes-append}
 use Rattle.overshoot_laws.proofs.Finishing.{along_last, now_is}
-use Rattle.overshoot_laws.proofs.StoredParts.{member-created, member-marked, spec, spec-created, spec-in_place, spec-updated, spec-restated, spec-marked}
+use Rattle.overshoot_laws.proofs.StoredParts.{member-created, member-marked, spec, spec-created, spec-updated, spec-restated, spec-marked}
 
 -- ---- one controller at most
 

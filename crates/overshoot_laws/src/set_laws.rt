@@ -16,7 +16,6 @@ pub fn selectors_stay()
     ensures { SelectorsStay }
 {}
 
-
 /// What is stored of the pod that is made of a set's template matches the set.
 pub fn new_pods_match_their_set()
     ensures { NewPodsMatchTheirSet }
