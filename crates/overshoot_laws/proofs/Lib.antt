@@ -55,3 +55,7 @@ mod Claiming
 mod KeptReferences
 mod TurnWrites
 mod Claimed
+mod LookedPods
+mod ClaimedSteps
+mod ClaimedMoves
+mod Fairness
