@@ -31,8 +31,8 @@ use Rattle.overshoot_laws.proofs.Claimed.{Claims, ClaimsIn}
 use Rattle.overshoot_laws.proofs.ClaimedMoves.{settled_step}
 use Rattle.overshoot_laws.proofs.ClaimedSteps.{IsBegun, IsWaiting, IsSettled, grown}
 use Rattle.overshoot_laws.proofs.Claiming.{claimed_adds, claimed_show}
+use Rattle.overshoot_laws.proofs.Forgetting.{none_begun}
 use Rattle.overshoot_laws.proofs.KeptReferences.{all_single, single_shown}
-use Rattle.overshoot_laws.proofs.KeptRuns.{none_begun}
 use Rattle.overshoot_laws.proofs.LookedPods.{looked_standing}
 use Rattle.overshoot_laws.proofs.PlanesLed.{have_uids, planes_lead}
 use Rattle.overshoot_laws.proofs.Publishing.{deltas, seen-append}
