@@ -1,12 +1,10 @@
 -- Which writes claim pods for a set: none but those of the ReplicaSet controller, and these claim what stood there since it was looked at.
 use Rattle.std.proofs.Common.{◌≡◌, ◌≤◌, ◌⊎◌, inl, inr, ◌+◌, ◌-◌, ◌&&◌, ℕ, List, [], ◌∷◌, ◌++◌, length, take, drop, Bool, true, false, cond, not, IfSome, Option, Some, None, refl, sym, ap, ◌∙◌, subst, append-nil, append_assoc, arith}
 use Rattle.std.proofs.lemmas.List.{take-append-le, drop-append-le, take-append-drop, drop_all, length-append}
-use Rattle.std.specs.List.{AllByRecursion}
 use Rattle.serde_json.specs.Data.{Data}
-use Rattle.definitions.proofs.PutLaws.{found-after_all, found-viewed, IsAscending-after_all}
 use Rattle.definitions.proofs.Truths.{both_true}
 use Rattle.definitions.specs.declared.kinds.Kind.TheVariants.{Pod}
-use Rattle.definitions.specs.History.{History, Entries, Write, write, writes, present, up_to, last_of, state, after_all, entries_at, found, viewed, list, unfiltered, in_view, seen}
+use Rattle.definitions.specs.History.{History, Entries, Write, write, writes, present, last_of, state, after_all, found, viewed, list, unfiltered, seen}
 use Rattle.definitions.specs.Keys.{Key}
 use Rattle.definitions.specs.Metadata.{uid}
 use Rattle.definitions.specs.Reached.{IsReached}
@@ -14,7 +12,6 @@ use Rattle.definitions.specs.SelectorValues.{is_some_and}
 use Rattle.definitions.specs.Verbs.{accept, write_of}
 use Rattle.laws.proofs.Past.{writes-append}
 use Rattle.laws.proofs.Traced.{stand}
-use Rattle.control.specs.Boards.{Observation}
 use Rattle.controllers.specs.Commands.{Command, create, update, update_status, delete, request_of}
 use Rattle.controllers.specs.Expectations.{Owner}
 use Rattle.controllers.specs.OwnerReferences.{is_text}
@@ -26,6 +23,7 @@ use Rattle.overshoot_laws.specs.Reserves.{is_controlled, born_after, born}
 use Rattle.overshoot_laws.specs.ShowLaws.{IsClaimed}
 use Rattle.overshoot_laws.proofs.Asking.{just, one_write}
 use Rattle.overshoot_laws.proofs.Births.{le_or}
+use Rattle.overshoot_laws.proofs.Bounding.{lists_show}
 use Rattle.overshoot_laws.proofs.Finishing.{now_is}
 use Rattle.overshoot_laws.proofs.KeptPods.{same_uid, in_pods}
 use Rattle.overshoot_laws.proofs.KeptReferences.{references_kept}
@@ -168,7 +166,7 @@ module _ (o : Owner) where
 -- ---- what a list shows
 
 pub listed_is : (h : History) (r : ℕ) (k : Key) → k.kind ≡ Pod → found k (list h (unfiltered Pod None) r) ≡ state h r k
-listed_is h r k pod = found-viewed (unfiltered Pod None) k (entries_at h r) (IsAscending-after_all [] (up_to r h) tt) ∙ ap (seen (unfiltered Pod None) k) (found-after_all k [] (up_to r h) tt) ∙ shown (state h r k)
+listed_is h r k pod = lists_show h (unfiltered Pod None) r k ∙ shown (state h r k)
   where
     shown : (x : Option Data) → seen (unfiltered Pod None) k x ≡ x
     shown None = refl

@@ -1,23 +1,22 @@
 -- As followers move, changes are handled and workers act, the pods of a set that is let alone stay claimed.
-use Rattle.std.proofs.Common.{◌≡◌, ◌≤◌, ◌⊎◌, inl, inr, ◌+◌, ◌-◌, ◌==◌, ◌&&◌, ℕ, List, [], ◌∷◌, ◌++◌, length, drop, Bool, true, false, cond, Option, Some, None, slice_get, refl, sym, ap, ◌∙◌, subst, arith}
+use Rattle.std.proofs.Common.{◌≡◌, ◌≤◌, inl, inr, ◌+◌, ◌-◌, ◌==◌, ◌&&◌, ℕ, List, [], ◌∷◌, ◌++◌, length, Bool, true, false, Option, Some, None, slice_get, refl, sym, ap, ◌∙◌, subst, arith}
 use Rattle.std.proofs.lemmas.List.{drop_all}
 use mathlib.Core.Bool.{true≢false}
 use Rattle.definitions.specs.declared.kinds.Kind.{Kind}
 use Rattle.definitions.specs.declared.kinds.Kind.TheVariants.{ConfigMap, Pod, ReplicaSet, Deployment}
-use Rattle.definitions.specs.History.{History, Write, writes, present}
+use Rattle.definitions.specs.History.{History, writes, present}
 use Rattle.definitions.specs.ObjectRequests.{Request}
-use Rattle.controllers.specs.declared.reflectors.Phase.TheVariants.{Listing}
 use Rattle.controllers.specs.Expectations.{Owner}
 use Rattle.controllers.specs.Informers.{applied, all_applied}
 use Rattle.controllers.specs.Reflectors.{Delta, replace, Listed, list_delta, Fed, fed, fed_in, nothing}
-use Rattle.controllers.specs.WorkQueues.{WorkKey, handed}
+use Rattle.controllers.specs.WorkQueues.{handed}
 use Rattle.server_state.specs.Snapshots.{Snapshot}
 use Rattle.simulation.specs.Clusters.{Cluster, history, follower, with_follower, request, compact, moves, restart}
-use Rattle.simulation.specs.Followers.{Link, Follower, Notification, after_list, after_open, after_expiry, after_bytes, after_cut, after_publishing}
+use Rattle.simulation.specs.Followers.{Link, Follower, Notification, after_list, after_open, after_expiry, after_bytes, after_cut}
 use Rattle.simulation.specs.Moves.{Move, answers_after, listed_of, with_link, move, move_by}
 use Rattle.simulation_laws.specs.LeadLaws.{Leads, IsLed}
-use Rattle.reconciling.specs.ControlPlanes.{ControlPlane, Step, in_cluster, handle, works, tick, client, have_all_listed, after_request, handle_in, step_in, step}
-use Rattle.reconciling.specs.Managers.{Manager, Acted, Action, Delivery, take_key, carry_out, act}
+use Rattle.reconciling.specs.ControlPlanes.{ControlPlane, Step, in_cluster, handle, works, tick, client, after_request, handle_in, step_in, step}
+use Rattle.reconciling.specs.Managers.{Manager, Acted, Action, take_key, carry_out, act}
 use Rattle.reconciling.specs.NextSteps.{next}
 use Rattle.reconciling.specs.Turns.{Turn}
 use Rattle.reconciling_laws.proofs.Acting.{by_act}
@@ -25,7 +24,7 @@ use Rattle.reconciling_laws.proofs.Counting.{by_counted, by_tick}
 use Rattle.overshoot_laws.specs.Reserves.{born_after}
 use Rattle.overshoot_laws.proofs.Asking.{none_after}
 use Rattle.overshoot_laws.proofs.Claimed.{ClaimsIn, born_in, none_since, claims_later}
-use Rattle.overshoot_laws.proofs.ClaimedSteps.{IsBegun, IsWaiting, IsSettled}
+use Rattle.overshoot_laws.proofs.ClaimedSteps.{IsBegun, IsSettled}
 use Rattle.overshoot_laws.proofs.OpenMoves.{by_open_move}
 
 le : (a b c : ℕ) → a ≤ b → b ≤ c → a ≤ c

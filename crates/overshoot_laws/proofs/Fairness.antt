@@ -1,17 +1,17 @@
 -- Whatever steps are taken that let a set alone are fair to it.
-use Rattle.std.proofs.Common.{◌≡◌, ◌≤◌, ◌⊎◌, inl, inr, ◌+◌, ◌-◌, ◌==◌, ◌&&◌, ℕ, zero, suc, List, [], ◌∷◌, ◌++◌, take, drop, Bool, true, false, cond, IfSome, Option, Some, None, slice_get, refl, sym, ap, ◌∙◌, subst, arith}
+use Rattle.std.proofs.Common.{◌≡◌, ◌≤◌, inl, inr, ◌+◌, ◌-◌, ◌==◌, ℕ, zero, suc, List, [], ◌∷◌, ◌++◌, drop, true, false, IfSome, Option, Some, None, slice_get, refl, sym, ap, ◌∙◌, subst, arith}
 use mathlib.Core.Bool.{true≢false}
 use Rattle.serde_json.specs.Data.{Data}
 use Rattle.definitions.specs.Checks.{controllers}
 use Rattle.definitions.specs.declared.kinds.Kind.TheVariants.{Pod}
-use Rattle.definitions.specs.History.{History, Entries, Write, writes, present, up_to, last_of}
+use Rattle.definitions.specs.History.{History, Entries, Write, writes, up_to}
 use Rattle.definitions.specs.Keys.{Key}
 use Rattle.definitions.specs.Metadata.{owners}
 use Rattle.definitions.specs.Reached.{IsReached}
 use Rattle.laws.proofs.EachWrite.{AllPut}
 use Rattle.controllers.specs.Expectations.{Owner}
 use Rattle.controllers.specs.Informers.{applied, all_applied}
-use Rattle.controllers.specs.Reflectors.{Delta, replace, apply_delta}
+use Rattle.controllers.specs.Reflectors.{Delta, replace}
 use Rattle.controllers.specs.Shifts.{Shift, shifts_of, all_shifts}
 use Rattle.server_state.specs.Snapshots.{Snapshot}
 use Rattle.simulation.specs.Clusters.{Cluster, history, with_follower}
@@ -19,7 +19,6 @@ use Rattle.simulation.specs.Followers.{Notification, notified, notifications, af
 use Rattle.simulation_laws.specs.LeadLaws.{Leads}
 use Rattle.reconciling.specs.ControlPlanes.{ControlPlane, Step, opened, step, run}
 use Rattle.reconciling.specs.Managers.{Manager}
-use Rattle.reconciling.specs.PodObservations.{observations}
 use Rattle.reconciling.specs.Turns.{Turn}
 use Rattle.control_plane_laws.proofs.PlaneRuns.{followed, run_append}
 use Rattle.overshoot_laws.specs.ClaimLaws.{LetAloneIsClaimed, LetAloneIsFair}
@@ -56,7 +55,7 @@ module _ (o : Owner) where
   claimed_since : (h : History) (at : ℕ) → IsReached h → ClaimsIn o (writes h) at → AreClaimedSince o h at
   claimed_since h at reached is r low high = all_claimed _ (up_to r h) (drop (r - 1) (writes h)) (put_rest (r - 1) (writes h) (all_single h reached)) (is r low high)
 
--- ---- the first publication
+  -- ---- the first publication
 
   initial_shows : (ss : List Shift) → to_be_seen o (notified true ss) ≡ 0
   initial_shows [] = refl

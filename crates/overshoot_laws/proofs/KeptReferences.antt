@@ -15,7 +15,7 @@ use Rattle.definitions.specs.Checks as checks
 use Rattle.definitions.specs.Checks.{finalizers, generate_name, is_owner, are_owners_valid, update_fault, adds_no_finalizer, is_selector_kept}
 use Rattle.definitions.specs.Deletion.{left_by, being_deleted, with_deletion}
 use Rattle.definitions.specs.GeneratedNames.{name_from}
-use Rattle.definitions.specs.History.{History, Write, write, writes, present, found, entries_at, state}
+use Rattle.definitions.specs.History.{History, writes, present, found, entries_at, state}
 use Rattle.definitions.specs.Keys.{Key}
 use Rattle.definitions.specs.Kinds.{has_generation}
 use Rattle.definitions.specs.Metadata as metadata
@@ -40,7 +40,7 @@ use Rattle.laws.proofs.VerbLaws.{found-state, none_from, of_none}
 use Rattle.control.specs.Boards.{creation_observed}
 use Rattle.controllers.specs.Expectations.{Owner}
 use Rattle.reconciling.specs.PodObservations.{set_named, sets_of, creation}
-use Rattle.overshoot_laws.specs.Reserves.{is_set, is_controlled, shown_by, shown as shows}
+use Rattle.overshoot_laws.specs.Reserves.{is_set, is_controlled, shown as shows}
 use Rattle.overshoot_laws.specs.ClaimLaws.{StoredHaveOneController}
 
 -- ---- what a delete leaves

@@ -1,5 +1,5 @@
 -- The pods that a turn has looked at stood there at a revision that is published.
-use Rattle.std.proofs.Common.{◌≡◌, ◌≤◌, ◌-◌, ℕ, List, [], ◌∷◌, filter, Bool, true, false, cond, Some, None, slice_get, refl, sym, ap, ◌∙◌, subst}
+use Rattle.std.proofs.Common.{◌≡◌, ◌≤◌, ℕ, List, [], ◌∷◌, filter, Bool, true, false, cond, Some, None, slice_get, refl, sym, ap, ◌∙◌, subst}
 use Rattle.std.specs.List.{AllByRecursion}
 use Rattle.serde_json.specs.Data.{Data}
 use Rattle.definitions.proofs.PutLaws.{found-after_all, IsAscending-after_all}
@@ -84,9 +84,10 @@ module _ (window workers : ℕ) (steps : List Step) where
   look_published k s x =
       let f = follower k (run v x.0).cluster in
       let rises : f.informer.published.revision ≤ (follower k (run (run v x.0) x.1).cluster).informer.published.revision = revisions_rise window workers x.0 x.1 k x.3 in
-      let all : run (run v x.0) x.1 ≡ p = sym (ap (run v) x.2 ∙ run_append v x.0 x.1) in
-      ((look_listed window workers steps k s (x.0, x.1, x.2, x.4)).0,
-      subst (λ (z : Snapshot). z.revision ≤ revision_of k) (sym x.4.0) (subst (λ (z : ControlPlane). f.informer.published.revision ≤ (follower k z.cluster).informer.published.revision) all rises))
+      let all : run (run v x.0) x.1 ≡ p = sym (ap (run v) x.2 ∙ run_append v x.0 x.1) in (
+        (look_listed window workers steps k s (x.0, x.1, x.2, x.4)).0,
+        subst (λ (z : Snapshot). z.revision ≤ revision_of k) (sym x.4.0) (subst (λ (z : ControlPlane). f.informer.published.revision ≤ (follower k z.cluster).informer.published.revision) all rises),
+      )
 
   seen_published : (s : Sight) → IsSeen (WasPublishedSince v steps) s → IsSeen (IsPublished (history p.cluster) revision_of) s
   seen_published (looked k s) x = look_published k s x

@@ -1,17 +1,15 @@
 -- What an update in a turn of the ReplicaSet controller replaces: just the pod that was looked at.
-use Rattle.std.proofs.Common.{◌≡◌, ◌≤◌, ◌<◌, ◌-◌, ◌^◌, ◌==◌, ◌&&◌, ◌||◌, ℕ, zero, suc, List, [], ◌∷◌, ◌++◌, length, drop, map, flat_map, replicate, Bool, true, false, cond, not, codes, bytes_eq, decimal, is_some, IfSome, Option, Some, None, Result, Ok, Err, Ordering, Less, Equal, Greater, nat_cmp, refl, sym, ap, ◌∙◌, subst, arith}
+use Rattle.std.proofs.Common.{◌≡◌, ◌≤◌, ◌<◌, ◌^◌, ◌==◌, ◌&&◌, ℕ, zero, suc, List, [], ◌∷◌, ◌++◌, length, drop, map, replicate, Bool, true, false, cond, not, codes, decimal, is_some, IfSome, Option, Some, None, Ok, Ordering, Less, Equal, Greater, nat_cmp, refl, sym, ap, ◌∙◌, subst, arith}
 use Rattle.std.proofs.lemmas.Bool.Decides.{nat_tests}
 use Rattle.std.proofs.lemmas.Fmt.{decimal_nonempty}
 use Rattle.std.specs.Cmp.Lexicographic.{slice_cmp}
 use Rattle.std.specs.List.{AllByRecursion}
 use Rattle.std.specs.Option.{option_and_then}
 use Rattle.std.specs.Ordering.{match_ordering}
-use Rattle.std.specs.Result.{result_map_both}
 use Rattle.serde_json.specs.Data.{Data, null, boolean, number, string, array, object, Items, Members, no_members, member, put}
-use Rattle.serde_json.specs.Find.{get, get_member, as_str}
+use Rattle.serde_json.specs.Find.{get_member, as_str}
 use Rattle.serde_json.proofs.Views.{get_member-put, get_member-put_other}
 use Rattle.definitions.proofs.JsonMembers.{apart}
-use Rattle.definitions.specs.declared.kinds.Kind.{Kind}
 use Rattle.definitions.specs.declared.kinds.Kind.TheVariants.{Pod}
 use Rattle.definitions.specs.declared.schemas.Schema.{Schema}
 use Rattle.definitions.specs.declared.schemas.Schema.TheVariants.{Root, Metadata as TheMetadata}
@@ -25,8 +23,8 @@ use Rattle.definitions.specs.Reading.{reading, filled, tidied, tidied_members, i
 use Rattle.definitions.specs.Replacements.{says_the_same}
 use Rattle.definitions.specs.Schemas.{property_at}
 use Rattle.definitions.specs.Values.{members_of, inner_of}
-use Rattle.definitions.specs.Verbs.{Outcome, accept, object_in, write_of}
-use Rattle.controllers.specs.Commands.{Command, create, update, update_status, delete}
+use Rattle.definitions.specs.Verbs.{accept, object_in, write_of}
+use Rattle.controllers.specs.Commands.{Command, create, update, update_status}
 use Rattle.controllers.specs.Hands.{Hand, live}
 use Rattle.laws.proofs.Cases.{of_update}
 use Rattle.laws.proofs.Limited.{limited}
