@@ -47,12 +47,9 @@ module _ (o : Owner) where
   abbrev pub ClaimsIn : List Write → ℕ → Type 0
   ClaimsIn ws at = (r : ℕ) → at ≤ r → r ≤ length ws + 1 → Claims (pods_after (take (r - 1) ws)) (take (r - 1) ws) (drop (r - 1) ws)
 
-  abbrev At : Entries → List Write → List Write → Type 0
-  At old before ws = Claims old before ws
-
   -- after the last of them there is none
   pub none_since : (ws : List Write) (at : ℕ) → length ws + 1 ≤ at → ClaimsIn ws at
-  none_since ws at far r low high = subst (At (pods_after (take (r - 1) ws)) (take (r - 1) ws)) (sym (drop_all (r - 1) ws (less (length ws) at r far low))) tt
+  none_since ws at far r low high = subst (λ z. Claims (pods_after (take (r - 1) ws)) (take (r - 1) ws) z) (sym (drop_all (r - 1) ws (less (length ws) at r far low))) tt
     where
       less : (n a r : ℕ) → n + 1 ≤ a → a ≤ r → n ≤ r - 1
       less n a r e f = omega arith
@@ -85,20 +82,21 @@ module _ (o : Owner) where
           let lasts : drop (r - 1) (ws ++ w ∷ []) ≡ drop (r - 1) ws ++ w ∷ [] = drop-append-le (r - 1) ws (w ∷ []) (within (length ws) r le) in
           let more : Claims (pods_after (take (r - 1) ws)) (take (r - 1) ws) (drop (r - 1) ws ++ w ∷ []) =
           claims_last (pods_after (take (r - 1) ws)) (take (r - 1) ws) (drop (r - 1) ws) w (is r low le) (subst (λ z. Claim (found w.key (pods_after (take (r - 1) ws))) (last_of None w.key z) w) (sym (take-append-drop (r - 1) ws)) (last r low le)) in
-          subst (λ z. Claims (pods_after z) z (drop (r - 1) (ws ++ w ∷ []))) (sym firsts) (subst (At (pods_after (take (r - 1) ws)) (take (r - 1) ws)) (sym lasts) more)
+          subst (λ z. Claims (pods_after z) z (drop (r - 1) (ws ++ w ∷ []))) (sym firsts) (subst (λ z. Claims (pods_after (take (r - 1) ws)) (take (r - 1) ws) z) (sym lasts) more)
       by (inr far) =
-          subst (At (pods_after (take (r - 1) (ws ++ w ∷ []))) (take (r - 1) (ws ++ w ∷ [])))
+          subst (λ z. Claims (pods_after (take (r - 1) (ws ++ w ∷ []))) (take (r - 1) (ws ++ w ∷ [])) z)
           (sym (drop_all (r - 1) (ws ++ w ∷ []) (subst (λ n. n ≤ r - 1) (sym (length-append ws (w ∷ []))) (beyond (length ws) r far)))) tt
 
   -- ---- who had the reference keeps it
 
-  stood : (listed : Option Data) (old d : Data) → have_one_uid d old ≡ true → is_controlled o old ≡ true
-      → (is_same_pod d listed ≡ true) ⊎ ((is_controlled o d ≡ false) ⊎ ((e : Data) × (Some old ≡ Some e) × (is_controlled o e ≡ true) × (is_same_pod e listed ≡ false)))
+  abbrev Was : Option Data → Data → Data → Type 0
+  Was listed old d = (is_same_pod d listed ≡ true) ⊎ ((is_controlled o d ≡ false) ⊎ ((e : Data) × (Some old ≡ Some e) × (is_controlled o e ≡ true) × (is_same_pod e listed ≡ false)))
+
+  stood : (listed : Option Data) (old d : Data) → have_one_uid d old ≡ true → is_controlled o old ≡ true → Was listed old d
   stood None old d same ctl = inr (inr (old, refl, ctl, refl))
   stood (Some x) old d same ctl = by (have_one_uid old x) refl
     where
-      by : (b : Bool) → have_one_uid old x ≡ b
-          → (have_one_uid d x ≡ true) ⊎ ((is_controlled o d ≡ false) ⊎ ((e : Data) × (Some old ≡ Some e) × (is_controlled o e ≡ true) × (have_one_uid e x ≡ false)))
+      by : (b : Bool) → have_one_uid old x ≡ b → Was (Some x) old d
       by true is = inl (ap (is_some_and (λ t. is_text t (uid x))) (same_uid (uid d) (uid old) same) ∙ is)
       by false is = inr (inr (old, refl, ctl, is))
 
@@ -106,8 +104,7 @@ module _ (o : Owner) where
   by_same listed None d is same = cc
   by_same listed (Some old) d is same = by (is_controlled o old) refl
     where
-      by : (b : Bool) → is_controlled o old ≡ b
-          → (is_same_pod d listed ≡ true) ⊎ ((is_controlled o d ≡ false) ⊎ ((e : Data) × (Some old ≡ Some e) × (is_controlled o e ≡ true) × (is_same_pod e listed ≡ false)))
+      by : (b : Bool) → is_controlled o old ≡ b → Was listed old d
       by true ctl = stood listed old d same ctl
       by false free = inr (inl (is ∙ free))
 
@@ -123,8 +120,7 @@ module _ (o : Owner) where
       free true false false x p q r = refl
       free false b c x p q r = cc
 
-      by : (b : Bool) → is_controlled o old ≡ b
-          → (is_same_pod d listed ≡ true) ⊎ ((is_controlled o d ≡ false) ⊎ ((x : Data) × (Some old ≡ Some x) × (is_controlled o x ≡ true) × (is_same_pod x listed ≡ false)))
+      by : (b : Bool) → is_controlled o old ≡ b → Was listed old d
       by true ctl = stood listed old d same ctl
       by false unclaimed = inr (inl (free (have_one_uid d old) (is_controlled o old) (is_controlled o d) (is_controlled o d && have_same_labels old d) same unclaimed e))
 
