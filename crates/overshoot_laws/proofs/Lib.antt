@@ -64,3 +64,10 @@ mod PodsStay
 mod LooksOfTurns
 mod MadeByTurns
 mod MadePods
+mod KeptReferences
+mod TurnWrites
+mod Claimed
+mod LookedPods
+mod ClaimedSteps
+mod ClaimedMoves
+mod Fairness

@@ -31,8 +31,8 @@ use Rattle.control_plane_laws.proofs.PlaneRuns.{run_append}
 use Rattle.overshoot_laws.specs.BoundLaws.{is_counted}
 use Rattle.overshoot_laws.specs.BoundRuns.{made_by, AreKept, AllAreKept}
 use Rattle.overshoot_laws.specs.KeptPods.{is_among, Along, AllMatch, ArePutFor}
-use Rattle.overshoot_laws.specs.MadePods.{IsOfSet, StayOfSet, MadePodsStayOfSet, MadePodsAreKept, FairPlanesNeverOvershoot}
-use Rattle.overshoot_laws.specs.Overshoot.{turn_of, made, written, pods_created, each_of_pods, keeps_claims, have_same_labels, is_replica_sets, LetsAlone, LetAlone}
+use Rattle.overshoot_laws.specs.MadePods.{IsOfSet, StayOfSet, MadePodsStayOfSet, MadePodsAreKept}
+use Rattle.overshoot_laws.specs.Overshoot.{turn_of, made, written, pods_created, each_of_pods, keeps_claims, have_same_labels, is_replica_sets, LetsAlone, LetAlone, NoOvershoot}
 use Rattle.overshoot_laws.specs.Reserves.{is_set, is_controlled, is_turn_for, turn_at}
 use Rattle.overshoot_laws.proofs.Births.{writes-append}
 use Rattle.overshoot_laws.proofs.Bounding.{has_uid, plan_creates}
@@ -274,5 +274,6 @@ made_pods_stay_of_set window workers steps o alone = (go window workers o [] ste
 pub made_pods_are_kept : MadePodsAreKept
 made_pods_are_kept window workers steps o alone = (go window workers o [] steps [] (none_yet window workers o) alone).0
 
-pub fair_planes_never_overshoot : FairPlanesNeverOvershoot
-fair_planes_never_overshoot window workers steps o alone fair = kept_pods_are_few window workers steps o alone fair (made_pods_are_kept window workers steps o alone)
+-- so there are never more of them than the set was to have at most
+pub no_overshoot : NoOvershoot
+no_overshoot window workers steps o alone = kept_pods_are_few window workers steps o alone (made_pods_are_kept window workers steps o alone)

@@ -31,7 +31,7 @@ found_later e (m ∷ es) rest a h =
     let other : key_cmp m.0 e.0 ≡ Greater = name_cmp_total.antisymm m.0 e.0 ∙ ap ordering_reverse a.0 in
     (ap (λ r. cond (is_eq r) (Some e.1) (found m.0 rest)) other ∙ h.0, found_later e es rest a.1 h.1)
 
-all_found : (es : Entries) → IsAscending key_cmp es → AllByRecursion (λ m. found m.0 es ≡ Some m.1) es
+pub all_found : (es : Entries) → IsAscending key_cmp es → AllByRecursion (λ m. found m.0 es ≡ Some m.1) es
 all_found [] a = tt
 all_found (e ∷ es) a = (ap (λ r. cond (is_eq r) (Some e.1) (found e.0 es)) (tied_itself name_cmp_total e.0), found_later e es es a.0 (all_found es a.1))
 

@@ -15,3 +15,4 @@ pub mod OvershootExamples
 pub mod ShowLaws
 pub mod SetLaws
 pub mod MadePods
+pub mod ClaimLaws

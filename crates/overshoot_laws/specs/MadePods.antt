@@ -11,9 +11,8 @@ use Rattle.reconciling.specs.ControlPlanes.{Step, opened, run}
 use Rattle.simulation.specs.Clusters.{history}
 use Rattle.overshoot_laws.specs.BoundRuns.{AllAreKept}
 use Rattle.overshoot_laws.specs.KeptPods.{is_among}
-use Rattle.overshoot_laws.specs.Overshoot.{made, LetAlone, NeverMoreThanDeclared}
+use Rattle.overshoot_laws.specs.Overshoot.{made, LetAlone}
 use Rattle.overshoot_laws.specs.Reserves.{is_controlled}
-use Rattle.overshoot_laws.specs.StepLaws.{AreFair}
 
 -- a pod names the set as its controller, and the set, as it was at a revision, matches it
 pub record IsOfSet (o : Owner) (h : History) (pod : Data) : Type 0 where
@@ -32,8 +31,3 @@ MadePodsStayOfSet =
 -- so they are kept, step by step
 abbrev pub MadePodsAreKept : Type 0
 MadePodsAreKept = (window workers : ℕ) (steps : List Step) (o : Owner) → (let v = opened window workers in LetAlone o v steps → AllAreKept o [] v steps)
-
--- and the set never has more of them than it was to have at most, where what is published of pods is as it is asked of each step
-abbrev pub FairPlanesNeverOvershoot : Type 0
-FairPlanesNeverOvershoot =
-    (window workers : ℕ) (steps : List Step) (o : Owner) → (let v = opened window workers in LetAlone o v steps → AreFair o v steps → NeverMoreThanDeclared o v steps)

@@ -2,10 +2,12 @@
 #![tactic(auto)]
 
 pub mod bound_laws;
+pub mod claim_laws;
 pub mod command_laws;
 pub mod kind_laws;
 pub mod made_pods;
 pub mod new_pod_laws;
+pub mod overshoot;
 pub mod overshoot_examples;
 pub mod reserve_laws;
 pub mod set_laws;
