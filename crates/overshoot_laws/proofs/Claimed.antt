@@ -27,7 +27,9 @@ use Rattle.overshoot_laws.proofs.Bounding.{lists_show}
 use Rattle.overshoot_laws.proofs.Finishing.{now_is}
 use Rattle.overshoot_laws.proofs.KeptPods.{same_uid, in_pods}
 use Rattle.overshoot_laws.proofs.KeptReferences.{references_kept}
-use Rattle.overshoot_laws.proofs.TurnWrites.{Edits, edits_replace}
+use Rattle.overshoot_laws.proofs.LookedPods.{IsStanding}
+use Rattle.overshoot_laws.proofs.PodWrites.{Edits}
+use Rattle.overshoot_laws.proofs.TurnWrites.{edits_replace}
 
 -- ---- what is claimed
 
@@ -169,10 +171,6 @@ listed_is h r k pod = lists_show h (unfiltered Pod None) r k ∙ shown (state h 
     shown (Some d) = ap (λ b. cond b (Some d) None) (in_pods k d ∙ ap is_pod pod)
 
 -- ---- a command of the ReplicaSet controller
-
--- a pod that stood at a revision that is published
-abbrev pub IsStanding : History → ℕ → Key × Data → Type 0
-IsStanding h at e = (e.0.kind ≡ Pod) × (q : ℕ) × (q ≤ at) × (state h q e.0 ≡ Some e.1)
 
 module _ (o : Owner) (h : History) (moment : List ℕ) (at : ℕ) (reached : IsReached h) where
   abbrev pub IsClaim : Write → Type 0

@@ -28,10 +28,10 @@ use Rattle.reconciling_laws.proofs.Growing.{step_begins}
 use Rattle.reconciling_laws.proofs.Nexts.{Stands, to_look, to_ask, to_read, to_expect, to_issue, to_finish, stands}
 use Rattle.overshoot_laws.specs.Overshoot.{turn_of, written, each_of_pods, keeps_claims, is_replica_sets, LetsAlone}
 use Rattle.overshoot_laws.specs.Reserves.{turn_at}
-use Rattle.overshoot_laws.proofs.Claimed.{ClaimsIn, IsStanding, IsClaim, Claim, born_in, claims_one, claims_many, born_many, commands_claim}
+use Rattle.overshoot_laws.proofs.Claimed.{ClaimsIn, IsClaim, Claim, born_in, claims_one, claims_many, born_many, commands_claim}
 use Rattle.overshoot_laws.proofs.Finishing.{now_is}
-use Rattle.overshoot_laws.proofs.LookedPods.{turns_edit}
-use Rattle.overshoot_laws.proofs.TurnWrites.{edits_left}
+use Rattle.overshoot_laws.proofs.LookedPods.{IsStanding}
+use Rattle.overshoot_laws.proofs.PodWrites.{next_edits}
 
 -- ---- what is kept
 
@@ -109,7 +109,7 @@ module _ (o : Owner) (p : ControlPlane) (reached : IsReached (history p.cluster)
     asked t x rest here set g =
         wrote (write_of (accept (requested t x) h c.session.moment))
         (commands_claim o h c.session.moment at reached (version_answered t.issues) x
-        (edits_left (IsStanding h at) (length t.issues) (commands t) x rest g (turns_edit (IsStanding h at) t set (looks w t here)))) is
+        (next_edits (IsStanding h at) t x rest set g (looks w t here))) is
 
     goes : (t : Turn) (d : Delivery) (n : NextStep) → slice_get p.manager.turns w ≡ Some (Some t) → t.work_key.controller ≡ controller.ReplicaSet → Stands t n → After (carry_out (client c) w t d n p.manager)
     goes t d (look k) here set (to_look _ rest u) = is

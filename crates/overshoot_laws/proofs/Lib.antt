@@ -58,7 +58,6 @@ mod SameTexts
 mod OneSelector
 mod TidyMembers
 mod PodLabels
-mod EditedVersions
 mod PodWrites
 mod PodsStay
 mod LooksOfTurns

@@ -8,26 +8,25 @@ use Rattle.definitions.specs.declared.kinds.Kind.TheVariants.{ConfigMap, Pod, Re
 use Rattle.definitions.specs.History.{History, Entries, up_to, state, entries_at, found, list, unfiltered, in_view}
 use Rattle.definitions.specs.Keys.{Key}
 use Rattle.server_state.specs.Snapshots.{Snapshot}
-use Rattle.controllers.specs.declared.controller.Controller.{Controller}
-use Rattle.controllers.specs.declared.controller.Controller.TheVariants as controller
-use Rattle.controllers.specs.Hands.{Hand}
 use Rattle.simulation.specs.Clusters.{history, follower}
 use Rattle.reconciling.specs.ControlPlanes.{ControlPlane, Step, opened, run}
-use Rattle.reconciling.specs.Turns.{Turn, Sight, looked, satisfied, shown, hand, commands, plan_by, is_pod}
+use Rattle.reconciling.specs.Turns.{Turn, Sight, looked, satisfied, shown, hand, is_pod}
 use Rattle.reconciling_laws.specs.IssuedLaws.{IsSeen}
 use Rattle.reconciling_laws.specs.LookLaws.{WasPublishedSince}
 use Rattle.reconciling_laws.proofs.Lists.{all_map}
 use Rattle.reconciling_laws.proofs.LookRuns.{under_way}
 use Rattle.control_plane_laws.proofs.PlaneRuns.{look_listed, run_append}
 use Rattle.control_plane_laws.proofs.Rising.{revisions_rise}
-use Rattle.overshoot_laws.proofs.Claimed.{IsStanding}
 use Rattle.overshoot_laws.proofs.KeptPods.{in_pods}
 use Rattle.overshoot_laws.proofs.Relists.{all_found}
-use Rattle.overshoot_laws.proofs.TurnWrites.{Edits, plans_edit}
 
 -- ---- a list of pods
 
-is_kind : (k : Kind) → is_pod k ≡ true → k ≡ Pod
+-- a pod that stood there at a revision up to this one
+abbrev pub IsStanding : History → ℕ → Key × Data → Type 0
+IsStanding h at e = (e.0.kind ≡ Pod) × (q : ℕ) × (q ≤ at) × (state h q e.0 ≡ Some e.1)
+
+pub is_kind : (k : Kind) → is_pod k ≡ true → k ≡ Pod
 is_kind ConfigMap e = cc
 is_kind Pod e = refl
 is_kind ReplicaSet e = cc
@@ -51,7 +50,7 @@ module _ (h : History) (q at : ℕ) (low : q ≤ at) where
   found_stood : (e : Key × Data) → found e.0 (entries_at h q) ≡ Some e.1 → Stood e
   found_stood e is = sym (found-after_all e.0 [] (up_to q h) tt) ∙ is
 
-  list_standing : AllByRecursion (IsStanding h at) (list h (unfiltered Pod None) q)
+  pub list_standing : AllByRecursion (IsStanding h at) (list h (unfiltered Pod None) q)
   list_standing =
       all_standing (entries_at h q)
       (all_map (λ (e : Key × Data). found e.0 (entries_at h q) ≡ Some e.1) Stood found_stood (entries_at h q) (all_found (entries_at h q) (IsAscending-after_all [] (up_to q h) tt)))
@@ -97,14 +96,3 @@ module _ (window workers : ℕ) (steps : List Step) where
   looked_standing w t here =
       shown_standing (history p.cluster) revision_of t.sights
       (all_map (IsSeen (WasPublishedSince v steps)) (IsSeen (IsPublished (history p.cluster) revision_of)) seen_published t.sights (under_way window workers steps w t here).looks)
-
--- ---- so each update of a turn of the ReplicaSet controller is of such a pod
-
-plan_edits : (P : Key × Data → Type 0) (j : Controller) (h : Hand) → j ≡ controller.ReplicaSet → AllByRecursion P h.looks.pods → AllByRecursion (Edits P) (plan_by j h)
-unfolding plan_by
-plan_edits P controller.ReplicaSet h is a = plans_edit P h a
-plan_edits P controller.Deployment h is a = cc
-plan_edits P controller.Collector h is a = cc
-
-pub turns_edit : (P : Key × Data → Type 0) (t : Turn) → t.work_key.controller ≡ controller.ReplicaSet → AllByRecursion P (hand t).looks.pods → AllByRecursion (Edits P) (commands t)
-turns_edit P t is a = plan_edits P t.work_key.controller (hand t) is a

@@ -1,26 +1,27 @@
 -- What a turn has looked at was there.
-use Rattle.std.proofs.Common.{◌≡◌, ◌≤◌, ◌+◌, ◌-◌, ◌==◌, ◌&&◌, ◌⊎◌, inl, inr, ℕ, zero, suc, List, [], ◌∷◌, ◌++◌, length, length-append, take, filter, Bool, true, false, cond, IfSome, Option, Some, None, Ordering, Less, Equal, Greater, is_eq, refl, sym, ap, ◌∙◌, subst, append_assoc, slice_get, arith}
+use Rattle.std.proofs.Common.{◌≡◌, ◌≤◌, ◌+◌, ◌-◌, ◌==◌, ◌&&◌, ◌⊎◌, inl, inr, ℕ, zero, suc, List, [], ◌∷◌, ◌++◌, length, length-append, take, Bool, true, false, cond, Option, Some, None, Ordering, Less, Equal, Greater, is_eq, refl, sym, ap, ◌∙◌, subst, slice_get, arith}
 use Rattle.std.specs.List.{AllByRecursion}
 use Rattle.std.specs.Ordering.{ordering_reverse}
 use Rattle.serde_json.specs.Data.{Data}
 use Rattle.definitions.proofs.PutLaws.{name_cmp_total}
 use Rattle.definitions.specs.declared.kinds.Kind.{Kind}
 use Rattle.definitions.specs.declared.kinds.Kind.TheVariants.{Pod, ReplicaSet}
-use Rattle.definitions.specs.History.{History, Entries, Write, writes, present, last_of, state, found, seen, entries_at, in_view, unfiltered, list}
+use Rattle.definitions.specs.History.{History, Write, writes, present, last_of, state, found, seen, in_view, unfiltered, list}
 use Rattle.definitions.specs.Keys.{Key, key_cmp, is_same_key}
 use Rattle.definitions.specs.Kinds.{rank}
-use Rattle.laws.proofs.EachWrite.{AllPut, listed_put}
 use Rattle.laws.proofs.SentChanges.{same_kind}
 use Rattle.plans.specs.ReplicaSets.{set_looked_at}
 use Rattle.reconciling.specs.ControlPlanes.{Step, opened, run}
 use Rattle.reconciling.specs.Turns.{Turn, Sight, looked, satisfied, shown, hand}
 use Rattle.reconciling_laws.specs.IssuedLaws.{IsSeen}
 use Rattle.reconciling_laws.specs.LookLaws.{WasPublishedSince}
+use Rattle.reconciling_laws.proofs.Lists.{all_map}
 use Rattle.reconciling_laws.proofs.LookRuns.{under_way}
 use Rattle.control_plane_laws.specs.PlaneLaws.{IsServerList}
 use Rattle.control_plane_laws.proofs.PlaneRuns.{look_listed}
 use Rattle.simulation.specs.Clusters.{history}
 use Rattle.overshoot_laws.proofs.Bounding.{lists_show, shows_there}
+use Rattle.overshoot_laws.proofs.LookedPods.{list_standing}
 use Rattle.overshoot_laws.proofs.PodWrites.{WasPod}
 
 -- ---- what a write puts is there after it
@@ -64,30 +65,6 @@ put_there h before w ws e = (
     one : (b : ℕ) → b + 2 - 1 ≡ b + 1
     one b = omega arith
 
--- ---- what is listed was there
-
-abbrev Was : History → Key → Data → Type 0
-Was h k d = (r : ℕ) × (r ≤ present h) × (state h r k ≡ Some d)
-
-put_was : (h : History) (before ws : List Write) → writes h ≡ before ++ ws → AllPut (Was h) ws
-put_was h before [] e = tt
-put_was h before (w ∷ ws) e = (of_put w.put refl, put_was h (before ++ w ∷ []) ws (e ∙ sym (append_assoc before (w ∷ []) ws)))
-  where
-    of_put : (x : Option Data) → w.put ≡ x → IfSome x (Was h w.key)
-    of_put None f = tt
-    of_put (Some d) f = let there = put_there h before w ws e in (length before + 2, there.0, there.1 ∙ f)
-
-pods_listed : (h : History) (es : Entries) → AllByRecursion (λ (e : Key × Data). Was h e.0 e.1) (filter (λ m. in_view (unfiltered Pod None) m.0 m.1) es)
-    → AllByRecursion (λ (e : Key × Data). WasPod h e.0 e.1) (filter (λ m. in_view (unfiltered Pod None) m.0 m.1) es)
-pods_listed h [] a = tt
-pods_listed h (e ∷ es) a = by (in_view (unfiltered Pod None) e.0 e.1) refl a (pods_listed h es)
-  where
-    by : (b : Bool) → in_view (unfiltered Pod None) e.0 e.1 ≡ b → AllByRecursion (λ (x : Key × Data). Was h x.0 x.1) (cond b (e ∷ filter (λ m. in_view (unfiltered Pod None) m.0 m.1) es) (filter (λ m. in_view (unfiltered Pod None) m.0 m.1) es))
-        → (AllByRecursion (λ (x : Key × Data). Was h x.0 x.1) (filter (λ m. in_view (unfiltered Pod None) m.0 m.1) es) → AllByRecursion (λ (x : Key × Data). WasPod h x.0 x.1) (filter (λ m. in_view (unfiltered Pod None) m.0 m.1) es))
-        → AllByRecursion (λ (x : Key × Data). WasPod h x.0 x.1) (cond b (e ∷ filter (λ m. in_view (unfiltered Pod None) m.0 m.1) es) (filter (λ m. in_view (unfiltered Pod None) m.0 m.1) es))
-    by true is a later = ((sym (same_kind Pod e.0.kind is), a.0), later a.1)
-    by false is a later = later a
-
 -- ---- the looks of a turn
 
 module _ (h : History) where
@@ -110,9 +87,7 @@ module _ (h : History) where
     where
       by : (shown Pod t.sights ≡ []) ⊎ ((r : ℕ) × (r ≤ present h) × (shown Pod t.sights ≡ list h (unfiltered Pod None) r)) → AllByRecursion (λ (e : Key × Data). WasPod h e.0 e.1) (shown Pod t.sights)
       by (inl none) = subst (AllByRecursion (λ (e : Key × Data). WasPod h e.0 e.1)) (sym none) tt
-      by (inr l) =
-          subst (AllByRecursion (λ (e : Key × Data). WasPod h e.0 e.1)) (sym l.2)
-          (pods_listed h (entries_at h l.0) (listed_put (Was h) h (unfiltered Pod None) l.0 (put_was h [] (writes h) refl)))
+      by (inr l) = subst (AllByRecursion (λ (e : Key × Data). WasPod h e.0 e.1)) (sym l.2) (list_standing h l.0 (present h) l.1)
 
   -- and so was the set
   pub set_seen : (t : Turn) (set : Data) → Seen t.sights → set_looked_at (hand t) ≡ Some set
@@ -140,10 +115,7 @@ module _ (window workers : ℕ) (steps : List Step) where
   listed_since (looked k s) x = look_listed window workers steps k s (x.0, x.1, x.2, x.4)
   listed_since (satisfied b) x = tt
 
-  all_listed : (ss : List Sight) → AllByRecursion (IsSeen (WasPublishedSince (opened window workers) steps)) ss → AllByRecursion (IsSeen (IsServerList (history (run (opened window workers) steps).cluster))) ss
-  all_listed [] a = tt
-  all_listed (s ∷ ss) a = (listed_since s a.0, all_listed ss a.1)
-
   -- each look of a turn in a worker's hands is the server's list at its revision
   pub turn_listed : (w : ℕ) (t : Turn) → slice_get (run (opened window workers) steps).manager.turns w ≡ Some (Some t) → AllByRecursion (IsSeen (IsServerList (history (run (opened window workers) steps).cluster))) t.sights
-  turn_listed w t here = all_listed t.sights (under_way window workers steps w t here).looks
+  turn_listed w t here =
+      all_map (IsSeen (WasPublishedSince (opened window workers) steps)) (IsSeen (IsServerList (history (run (opened window workers) steps).cluster))) listed_since t.sights (under_way window workers steps w t here).looks

@@ -4,8 +4,7 @@ use Rattle.std.specs.List.{list_any, AllByRecursion}
 use Rattle.std.proofs.lemmas.Slice.Eq.{bytes_eq-Decides}
 use Rattle.serde_json.specs.Data.{Data}
 use Rattle.definitions.proofs.Truths.{both_true, right_true}
-use Rattle.definitions.specs.declared.kinds.Kind.{Kind}
-use Rattle.definitions.specs.declared.kinds.Kind.TheVariants.{ConfigMap, Pod, ReplicaSet, Deployment}
+use Rattle.definitions.specs.declared.kinds.Kind.TheVariants.{Pod, ReplicaSet}
 use Rattle.definitions.specs.History.{History, Entries, Write, write, writes, present, last_of, state}
 use Rattle.definitions.specs.Keys.{Key}
 use Rattle.definitions.specs.Metadata.{uid}
@@ -38,6 +37,7 @@ use Rattle.overshoot_laws.proofs.Births.{writes-append}
 use Rattle.overshoot_laws.proofs.Bounding.{has_uid, plan_creates}
 use Rattle.overshoot_laws.proofs.Finishing.{now_is, since}
 use Rattle.overshoot_laws.proofs.KeptBounds.{kept_pods_are_few}
+use Rattle.overshoot_laws.proofs.LookedPods.{is_kind}
 use Rattle.overshoot_laws.proofs.LooksOfTurns.{take_past, put_there, pods_seen, set_seen, turn_listed}
 use Rattle.overshoot_laws.proofs.MadeByTurns.{Stays, stays_still, acted}
 use Rattle.overshoot_laws.proofs.Matching.{its_uid}
@@ -163,14 +163,8 @@ module _ (o : Owner) (pods : List Data) (p : ControlPlane) (s : Step) (reached :
   module _ (ps : List Data) (is : Stays o ps now) where
     puts : (before ws : List Write) → writes now ≡ before ++ ws → ArePutFor o ps ws
     puts before [] e = tt
-    puts before (w ∷ ws) e = (λ pod. by w.put refl (pod_kind w.key.kind pod), puts (before ++ w ∷ []) ws (e ∙ sym (append_assoc before (w ∷ []) ws)))
+    puts before (w ∷ ws) e = (λ pod. by w.put refl (is_kind w.key.kind pod), puts (before ++ w ∷ []) ws (e ∙ sym (append_assoc before (w ∷ []) ws)))
       where
-        pod_kind : (k : Kind) → is_pod k ≡ true → k ≡ Pod
-        pod_kind Pod e = refl
-        pod_kind ConfigMap e = cc
-        pod_kind ReplicaSet e = cc
-        pod_kind Deployment e = cc
-
         by : (x : Option Data) → w.put ≡ x → w.key.kind ≡ Pod → IfSome x (λ new. is_among ps new ≡ true → is_controlled o new ≡ true)
         by None f pod = tt
         by (Some new) f pod = let there = put_there now before w ws e in λ among. (is.0 (length before + 2) w.key new there.0 pod (there.1 ∙ f) among).controlled
@@ -193,9 +187,9 @@ module _ (o : Owner) (pods : List Data) (p : ControlPlane) (s : Step) (reached :
 
       match_one : (k : Key) (d : Data) → WasPod h k d → is_counted ps d ≡ true → matches set d ≡ true
       match_one k d was counts =
-          let pod = still was.1.0 k d was.1.1 was.1.2 in
+          let pod = still was.1 k d was.2 was.3 in
           let looked_at = still there.0 t.work_key.key set there.1 there.2 in
-          matches_set o now later there.0 t.work_key.key set d looked_at.0 looked_at.1 there.3 named (is.0 was.1.0 k d pod.0 was.0 pod.1 (right_true (is_active d) (is_among ps d) counts))
+          matches_set o now later there.0 t.work_key.key set d looked_at.0 looked_at.1 there.3 named (is.0 was.1 k d pod.0 was.0 pod.1 (right_true (is_active d) (is_among ps d) counts))
 
       match_all : (es : Entries) → AllByRecursion (λ (e : Key × Data). WasPod h e.0 e.1) es → AllByRecursion (λ (e : Key × Data). is_counted ps e.1 ≡ true → matches set e.1 ≡ true) es
       match_all [] a = tt

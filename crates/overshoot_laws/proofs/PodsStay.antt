@@ -1,10 +1,9 @@
 -- Pods that are a set's own, and match it, stay so from write to write.
-use Rattle.std.proofs.Common.{◌≡◌, ◌≤◌, ◌+◌, ◌-◌, ◌⊎◌, inl, inr, ◌&&◌, ◌||◌, not, ℕ, zero, suc, List, [], ◌∷◌, ◌++◌, filter, Bool, true, false, true≢false, cond, codes, Option, Some, None, option_and_then, unwrap_or, refl, sym, ap, ◌∙◌, subst, arith}
+use Rattle.std.proofs.Common.{◌≡◌, ◌≤◌, ◌+◌, ◌-◌, ◌⊎◌, inl, inr, ◌&&◌, ◌||◌, not, ℕ, zero, suc, List, [], ◌∷◌, ◌++◌, Bool, true, false, true≢false, cond, codes, Option, Some, None, option_and_then, refl, sym, ap, ◌∙◌, subst, arith}
 use Rattle.std.proofs.lemmas.Slice.Eq.{bytes_eq-Decides}
-use Rattle.std.specs.List.{list_any, filter_map, AllByRecursion}
+use Rattle.std.specs.List.{list_any, AllByRecursion}
 use Rattle.std.specs.Result.{result_ok}
-use Rattle.serde_json.specs.Data.{Data, no_items}
-use Rattle.serde_json.specs.Find.{as_array, as_str}
+use Rattle.serde_json.specs.Data.{Data}
 use Rattle.definitions.proofs.Truths.{both_true, left_true, right_true}
 use Rattle.definitions.specs.declared.kinds.Kind.TheVariants.{Pod, ReplicaSet}
 use Rattle.definitions.specs.Checks.{controllers, in_spec}
@@ -17,21 +16,20 @@ use Rattle.definitions.specs.Selectors.{Requirement, meets_all}
 use Rattle.definitions.specs.SelectorValues.{is_some_and, selector_of_value}
 use Rattle.definitions.specs.Values.{inner_of}
 use Rattle.controllers.specs.Expectations.{Owner}
-use Rattle.controllers.specs.OwnerReferences.{controls_as, is_text, is_controlled_by, has_controller, namespace_of}
+use Rattle.controllers.specs.OwnerReferences.{is_text, is_controlled_by, has_controller, namespace_of}
 use Rattle.laws.proofs.Traced.{once, stand}
 use Rattle.plans.specs.PodClaims.{have_one_uid, is_released, is_adoptable}
 use Rattle.plans.specs.Pods.{is_active, is_owned, is_orphan, matches}
-use Rattle.reconciling.specs.PodObservations.{set_named}
 use Rattle.reconciling_laws.proofs.Growing.{state_stands, present_grows}
 use Rattle.overshoot_laws.specs.KeptPods.{is_among}
 use Rattle.overshoot_laws.specs.MadePods.{IsOfSet}
-use Rattle.overshoot_laws.specs.Reserves.{is_set, is_controlled}
+use Rattle.overshoot_laws.specs.Reserves.{is_controlled}
 use Rattle.overshoot_laws.proofs.Births.{le_or}
 use Rattle.overshoot_laws.proofs.KeptPods.{same_uid}
 use Rattle.overshoot_laws.proofs.OneSelector.{selectors_stay}
 use Rattle.overshoot_laws.proofs.OwnPods.{has_reference}
-use Rattle.overshoot_laws.proofs.PodWrites.{SameParts, Replaces}
-use Rattle.overshoot_laws.proofs.StoredSets.{controllers_are_one}
+use Rattle.overshoot_laws.proofs.PodWrites.{Replaces}
+use Rattle.overshoot_laws.proofs.KeptReferences.{have_one_controller, same_controlled}
 
 -- ---- one controller
 
@@ -85,15 +83,6 @@ module _ (o : Owner) where
   refers : (pod : Data) → is_controlled o pod ≡ true → list_any (Refers o.uid) (owners pod) ≡ true
   refers pod is = (has_reference o (namespace_of pod) (owners pod) is).0
 
-  -- by its namespace and references
-  abbrev controlled_by : Option Data → Option Data → Bool
-  controlled_by ns refs =
-      list_any (is_set o) (filter_map (set_named (unwrap_or (option_and_then as_str ns) [])) (filter (controls_as ReplicaSet) (owners_in (unwrap_or (option_and_then as_array refs) no_items))))
-
-  same_controlled : (was new : Data) → SameParts was new → is_controlled o new ≡ is_controlled o was
-  same_controlled was new same =
-      ap (λ ns. controlled_by ns (metadata.metadata (codes "ownerReferences") new)) same.namespace ∙ ap (controlled_by (metadata.metadata (codes "namespace") was)) same.references
-
   -- by the labels, whether a set matches it
   matched_by : (set was new : Data) → metadata.labels_of new ≡ metadata.labels_of was → matches set was ≡ true → matches set new ≡ true
   matched_by set was new same is = ap (λ ls. is_some_and (λ (rs : List Requirement). meets_all rs ls) (metadata_requirements set)) same ∙ is
@@ -129,7 +118,7 @@ module _ (o : Owner) where
     pub matches_where_owned : (r s : ℕ) (k l : Key) (set pod : Data) → r ≤ present h → state h r k ≡ Some set → k.kind ≡ ReplicaSet → state h s l ≡ Some pod → IsOfSet o h pod
         → (u : List ℕ) → uid set ≡ Some u → is_controlled_by u pod ≡ true → matches set pod ≡ true
     matches_where_owned r s k l set pod low at kind there is u named by_u =
-        let same : u ≡ o.uid = one_refers u o.uid (owners pod) (controllers_are_one h s l pod reached there) by_u (refers pod is.controlled) in
+        let same : u ≡ o.uid = one_refers u o.uid (owners pod) (have_one_controller h s l pod reached there) by_u (refers pod is.controlled) in
         matches_set r k set pod low at kind (named ∙ ap Some same) is
 
     not_released : (r s : ℕ) (k l : Key) (set pod : Data) → r ≤ present h → state h r k ≡ Some set → k.kind ≡ ReplicaSet → state h s l ≡ Some pod → IsOfSet o h pod → is_released set pod ≡ true → ⊥
@@ -148,7 +137,7 @@ module _ (o : Owner) where
         not_true (has_controller pod) (right_true (is_active pod) (not (has_controller pod)) orphan) (any_controls o.uid (owners pod) (refers pod controlled))
 
     pub replaced_stays : (r s : ℕ) (k l : Key) (set was new : Data) → r ≤ present h → state h r k ≡ Some set → k.kind ≡ ReplicaSet → state h s l ≡ Some was → IsOfSet o h was → Replaces set was new → IsOfSet o h new
-    replaced_stays r s k l set was new low at kind there is (inl same) = with_labels h was new (same_controlled was new same ∙ is.controlled) (ap inner_of same.labels) is
+    replaced_stays r s k l set was new low at kind there is (inl same) = with_labels h was new (same_controlled o new was same.namespace same.references ∙ is.controlled) (ap inner_of same.labels) is
     replaced_stays r s k l set was new low at kind there is (inr (inl gone)) = absurd (not_released r s k l set was low at kind there is gone)
     replaced_stays r s k l set was new low at kind there is (inr (inr taken)) = absurd (not_adopted set was is.controlled taken)
 

@@ -1,10 +1,5 @@
-//! Laws of what stays of objects, whoever asks.
-ghost use Rattle.overshoot_laws.specs.SetLaws.{ControllersAreOne, SetsMatchTheirTemplates, SelectorsStay, NewPodsMatchTheirSet};
-
-/// An object has one controller at most, whenever it is there.
-pub fn controllers_are_one()
-    ensures { ControllersAreOne }
-{}
+//! Laws of ReplicaSets and their selectors, whoever asks.
+ghost use Rattle.overshoot_laws.specs.SetLaws.{SetsMatchTheirTemplates, SelectorsStay, NewPodsMatchTheirSet};
 
 /// The selector of a ReplicaSet matches its template, whenever it is there.
 pub fn sets_match_their_templates()
