@@ -1,7 +1,7 @@
 //! Clusters.
 use crate::stopped::Stopped;
 use definitions::kinds::Kind;
-use followers::{Follower, Outcome};
+use followers::{ClusterOutcome, Follower};
 use indexer::Indexed;
 use recorded_sessions::RecordedSession;
 use revisions::Journal;
@@ -95,27 +95,32 @@ impl Cluster {
     }
 
     /// Answers a line. The error is running out of memory, and changes nothing.
-    fn answer(&mut self, alloc: Global, text: &[u8]) -> Result<Outcome, AllocError>
+    fn answer(&mut self, alloc: Global, text: &[u8]) -> Result<ClusterOutcome, AllocError>
         ensures after { OnOk result (self.new ≡ (answered_line self.old (line_of text.now)).cluster) }
         ensures outcome { IfOk result (λ o. outcome_of o ≡ (answered_line self.old (line_of text.now)).outcome) }
         ensures err { OnErr result (self.new ≡ self.old) }
     {
         let reply = self.recorded.serve_text(alloc, text)?;
-        Ok(Outcome::Replied(reply))
+        Ok(ClusterOutcome::Replied(reply))
     }
 
     /// Compacts up to a revision. The error is running out of memory, and changes nothing.
-    fn compact(&mut self, alloc: Global, revision: u64) -> Result<Outcome, AllocError>
+    fn compact(&mut self, alloc: Global, revision: u64) -> Result<ClusterOutcome, AllocError>
         ensures after { OnOk result (self.new ≡ (compacted_to self.old revision).cluster) }
         ensures outcome { IfOk result (λ o. outcome_of o ≡ (compacted_to self.old revision).outcome) }
         ensures err { OnErr result (self.new ≡ self.old) }
     {
         let reply = self.recorded.compact(alloc, revision)?;
-        Ok(Outcome::Replied(reply))
+        Ok(ClusterOutcome::Replied(reply))
     }
 
     /// Moves the follower of a kind. The error is running out of memory, and changes nothing.
-    fn moves(&mut self, alloc: Global, kind: Kind, movement: Move) -> Result<Outcome, AllocError>
+    fn moves(
+        &mut self,
+        alloc: Global,
+        kind: Kind,
+        movement: Move,
+    ) -> Result<ClusterOutcome, AllocError>
         ensures after { OnOk result (self.new ≡ (moved_in kind self.old
             (move_by kind (answers_by kind self.old.session.server) (follower kind self.old) (move_of movement))).cluster) }
         ensures outcome { IfOk result (λ o. outcome_of o
@@ -143,7 +148,7 @@ impl Cluster {
 
     /// Takes a step, and returns what is told of it. The error is running out of memory, and changes nothing.
     #[tactic(auto, unfolding(crate::specs::ClusterStates::step))]
-    fn take(&mut self, alloc: Global, wanted: Step<'_>) -> Result<Outcome, AllocError>
+    fn take(&mut self, alloc: Global, wanted: Step<'_>) -> Result<ClusterOutcome, AllocError>
         ensures after { OnOk result (self.new ≡ (step self.old (step_of wanted.entry)).cluster) }
         ensures outcome { IfOk result (λ o. outcome_of o ≡ (step self.old (step_of wanted.entry)).outcome) }
         ensures err { OnErr result (self.new ≡ self.old) }
@@ -154,7 +159,7 @@ impl Cluster {
             Step::Moves(kind, movement) => self.moves(alloc, kind, movement),
             Step::Restart => {
                 self.restart(alloc);
-                Ok(Outcome::Restarted)
+                Ok(ClusterOutcome::Restarted)
             }
         }
     }
@@ -164,7 +169,7 @@ impl Cluster {
     /// Whatever was asked, then each published map is the server's list at the revision published with it; that revision fell by a
     /// restart alone; and a write that names a version replaced just that version (Kubernetes API Conventions, Concurrency Control
     /// and Consistency).
-    pub fn step(&mut self, alloc: Global, wanted: Step<'_>) -> Result<Outcome, AllocError>
+    pub fn step(&mut self, alloc: Global, wanted: Step<'_>) -> Result<ClusterOutcome, AllocError>
         ensures after { OnOk result (self.new ≡ (step self.old (step_of wanted.entry)).cluster) }
         ensures outcome { IfOk result (λ o. outcome_of o ≡ (step self.old (step_of wanted.entry)).outcome) }
         ensures lists { ShowsLists self.new }

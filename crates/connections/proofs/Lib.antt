@@ -1,6 +1,7 @@
 pub mod OnLiterals
 pub mod Fields
 pub mod Meanings
+pub mod Staying
 pub mod Halves
 pub mod Passing
 pub mod Proper

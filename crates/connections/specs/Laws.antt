@@ -15,6 +15,10 @@ OneThingIsAsked =
     (bytes : List ℕ) (said other : Option (Result Asked Refusal)) → Asks bytes said → Asks bytes other
     → (said ≡ other) ⊎ (NeverHasRequest bytes × (IsHeadTooLarge bytes ⊎ EndsInTarget bytes))
 
+-- what bytes ask stays asked, whatever follows them: where they ask nothing yet, what is asked is still to come
+abbrev pub AskedStaysAsked : Type 0
+AskedStaysAsked = (bytes more : List ℕ) (a : Result Asked Refusal) → Asks bytes (Some a) → Asks (bytes ++ more) (Some a)
+
 -- a head within the limits asks what its checks say, with what follows it, and nothing else
 abbrev pub HeadsAsk : Type 0
 HeadsAsk = (h : RequestHead) (rest : List ℕ) → IsRequestHead h → IsWithinLimits h → AsksOnly (print_request h ++ rest) (asked_after (checked (head_of h)) rest)

@@ -1,10 +1,16 @@
 //! What follows for whoever speaks over a connection.
-ghost use Rattle.connections.specs.Laws.{OneThingIsAsked, HeadsAsk, HalfAHeadAsksNothing, HalfABodyAsksNothing, LargeHeadsAreRefused, ManyFieldsAreRefused, IllFormedHeadsAreRefused, RequestsAreRead, ProperRequestsAreRead};
+ghost use Rattle.connections.specs.Laws.{OneThingIsAsked, AskedStaysAsked, HeadsAsk, HalfAHeadAsksNothing, HalfABodyAsksNothing, LargeHeadsAreRefused, ManyFieldsAreRefused, IllFormedHeadsAreRefused, RequestsAreRead, ProperRequestsAreRead};
 
 /// The bytes of a connection ask one thing, but where two are allowed: of bytes that nothing makes a head, if a limit is passed
 /// too, or if they end in a target.
 pub fn one_thing_is_asked()
     ensures { OneThingIsAsked }
+{}
+
+/// What the bytes of a connection ask stays asked, whatever follows them: who reads a connection as its bytes come may do what is
+/// asked, or refuse it, as soon as anything is asked.
+pub fn asked_stays_asked()
+    ensures { AskedStaysAsked }
 {}
 
 /// A head within the limits asks what its checks say, with what follows it, and nothing else.

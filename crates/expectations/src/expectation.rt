@@ -2,6 +2,7 @@
 ghost use Rattle.std.specs.Prelude.{◌≡◌, ◌-◌, ◌==◌, ◌&&◌, Some};
 ghost use Rattle.std.specs.FinSet as set;
 ghost use Rattle.controllers.specs.Expectations.{is_met};
+ghost use Rattle.expectations.specs.Aged.{ages_out};
 ghost use Rattle.expectations.specs.Seen.{expectation_of};
 
 use std::collections::BTreeSet;
@@ -34,6 +35,13 @@ impl Expectation {
         ensures { result ≡ is_met now (Some (expectation_of self.now)) }
     {
         self.is_over() || now.saturating_sub(self.since) > 300_000
+    }
+
+    /// Returns whether something was left to see at the moment `before`, and by `now` more than five minutes have passed.
+    pub fn ages_out(&self, before: u64, now: u64) -> bool
+        ensures { result ≡ ages_out before now (Some (expectation_of self.now)) }
+    {
+        !self.is_met(before) && self.is_met(now)
     }
 
     /// Returns whether nothing is left.

@@ -3,6 +3,7 @@ ghost use Rattle.std.specs.Prelude.{◌≡◌, ◌-◌, OnOk, OnErr, string_byte
 ghost use Rattle.std.specs.FinMap as map;
 ghost use Rattle.std.specs.FinSet as set;
 ghost use Rattle.controllers.specs.Expectations.{is_met};
+ghost use Rattle.expectations.specs.Aged.{any_ages_out};
 ghost use Rattle.expectations.specs.Seen.{owners_of, expectation_of, changed_at};
 
 use crate::expectation::Expectation;
@@ -48,4 +49,13 @@ pub fn is_satisfied(owners: &BTreeMap<String, Expectation>, uid: &str, now: u64)
         Some(expectation) => expectation.is_met(now),
         None => true,
     }
+}
+
+/// Returns whether one of the ReplicaSets waited for something at the moment `before`, and by its age no longer does `now`.
+pub fn any_ages_out(owners: &BTreeMap<String, Expectation>, before: u64, now: u64) -> bool
+    ensures { result ≡ any_ages_out before now (owners_of owners.now) }
+{
+    owners
+        .values()
+        .any(|expectation| expectation.ages_out(before, now))
 }

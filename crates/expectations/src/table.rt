@@ -5,15 +5,19 @@ ghost use Rattle.controllers.specs.Expectations.{creations_expected, deletions_e
 ghost use Rattle.keys.specs.Keys.{key_of};
 ghost use Rattle.std.specs.Prelude.{IfOk};
 ghost use Rattle.std.specs.FinSet as set;
+ghost use Rattle.expectations.specs.Aged.{AreAgedOut};
 ghost use Rattle.expectations.specs.Seen.{expectation_of, uid_cmp};
 ghost use Rattle.work_keys.specs.Seen.{seen_set};
+ghost use Rattle.work_keys.specs.WorkKeys.{work_key_of};
 
 use crate::expectation::Expectation;
 use crate::owners;
+use controllers::controller::Controller;
 use keys::Key;
 use std::alloc::{AllocError, Global};
 use std::collections::{BTreeMap, BTreeSet};
 use std::marker::Model;
+use work_keys::WorkKey;
 
 /// For each ReplicaSet, by key and uid, what it has asked for and not yet seen. Moments are in milliseconds.
 #[derive(Drop)]
@@ -132,6 +136,23 @@ impl Table {
             Some(owners) => owners::is_satisfied(owners, uid, now),
             None => true,
         }
+    }
+
+    /// Returns the keys of the ReplicaSets that waited for something at the moment `before`, and by its age no longer do `now`: each
+    /// once, in order. The error is running out of memory.
+    pub fn aged_out(&self, before: u64, now: u64) -> Result<Vec<WorkKey>, AllocError>
+        ensures { IfOk result (λ ks. AreAgedOut before now self.now (list_map work_key_of ks.items)) }
+    {
+        let mut keys = Vec::new(self.alloc);
+        for (key, owners) in &self.by_key {
+            if owners::any_ages_out(owners, before, now) {
+                keys.push(WorkKey {
+                    controller: Controller::ReplicaSet,
+                    key: key.try_copy()?,
+                })?;
+            }
+        }
+        Ok(keys)
     }
 
     /// Removes what every ReplicaSet of this key waits for, whatever its uid.

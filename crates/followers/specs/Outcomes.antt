@@ -1,9 +1,9 @@
 -- Outcomes as code has them.
 use Rattle.simulation.specs.Moves as moves
-use Rattle.followers.specs.declared.outcomes.Outcome.{Outcome}
-use Rattle.followers.specs.declared.outcomes.Outcome.TheVariants as code
+use Rattle.followers.specs.declared.outcomes.ClusterOutcome.{ClusterOutcome}
+use Rattle.followers.specs.declared.outcomes.ClusterOutcome.TheVariants as code
 
-abbrev pub outcome_of : Outcome → moves.Outcome
+abbrev pub outcome_of : ClusterOutcome → moves.Outcome
 outcome_of (code.Replied text) = moves.replied text.items
 outcome_of code.NoStep = moves.no_step
 outcome_of (code.Listed k r n) = moves.listed k r n

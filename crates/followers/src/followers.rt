@@ -3,7 +3,7 @@ ghost use Rattle.std.specs.Prelude.{◌≡◌};
 ghost use Rattle.reflector.specs.Deltas.{delta_of};
 ghost use Rattle.followers.specs.Listed.{listed_count};
 
-use crate::outcomes::Outcome;
+use crate::outcomes::ClusterOutcome;
 use controllers::reflectors::Ask;
 use definitions::versions::At;
 use desk::Server;
@@ -119,7 +119,7 @@ impl Follower {
 
     /// Takes in the present list, where a list is asked for. It asks that what the server answers is read as its list, which holds
     /// of every server whose history can have happened. The error is running out of memory, and changes nothing.
-    pub fn list(&mut self, alloc: Global, server: &Server) -> Result<Outcome, AllocError>
+    pub fn list(&mut self, alloc: Global, server: &Server) -> Result<ClusterOutcome, AllocError>
         requires { AnswersLists self.old.reflector.kind server.now }
         ensures after { OnOk result (self.new
             ≡ (list_in self.old.reflector.kind self.old.reflector.phase (answers_by self.old.reflector.kind server.now) self.old).follower) }
@@ -128,7 +128,7 @@ impl Follower {
         ensures err { OnErr result (self.new ≡ self.old) }
     {
         if let Ask::Watch(_) = self.reflector.next() {
-            return Ok(Outcome::NoStep);
+            return Ok(ClusterOutcome::NoStep);
         }
         let view = self.view(alloc);
         // The present list is refused for memory alone.
@@ -143,12 +143,12 @@ impl Follower {
         self.pending.push(delta)?;
         self.reflector = reflector;
         self.link = None;
-        Ok(Outcome::Listed(self.kind, self.reflector.revision(), count))
+        Ok(ClusterOutcome::Listed(self.kind, self.reflector.revision(), count))
     }
 
     /// Opens a watch, where one is asked for and no link is open; where it is refused, a list is asked for again. The error is
     /// running out of memory, and changes nothing.
-    pub fn watch(&mut self, alloc: Global, server: &Server) -> Result<Outcome, AllocError>
+    pub fn watch(&mut self, alloc: Global, server: &Server) -> Result<ClusterOutcome, AllocError>
         ensures after { OnOk result (self.new
             ≡ (watch_in self.old.reflector.kind self.old.reflector.phase self.old.link (answers_by self.old.reflector.kind server.now) self.old).follower) }
         ensures outcome { IfOk result (λ o. outcome_of o
@@ -156,21 +156,21 @@ impl Follower {
         ensures err { OnErr result (self.new ≡ self.old) }
     {
         let Ask::Watch(revision) = self.reflector.next() else {
-            return Ok(Outcome::NoStep);
+            return Ok(ClusterOutcome::NoStep);
         };
         if self.link.is_some() {
-            return Ok(Outcome::NoStep);
+            return Ok(ClusterOutcome::NoStep);
         }
         let view = self.view(alloc);
         match server.watch_from(alloc, &view, revision, 0) {
             Ok(_) => {
                 self.link = Some(Link::opened_at(alloc, revision));
-                Ok(Outcome::Opened(self.kind, revision))
+                Ok(ClusterOutcome::Opened(self.kind, revision))
             }
             Err(Fault::NoMemory) => Err(AllocError),
             Err(_) => {
                 self.reflector.on_expired();
-                Ok(Outcome::Expired(self.kind))
+                Ok(ClusterOutcome::Expired(self.kind))
             }
         }
     }
@@ -182,7 +182,7 @@ impl Follower {
         alloc: Global,
         server: &Server,
         most: usize,
-    ) -> Result<Outcome, AllocError>
+    ) -> Result<ClusterOutcome, AllocError>
         ensures after { OnOk result (self.new
             ≡ (send_on self.old.reflector.kind self.old.link most (answers_by self.old.reflector.kind server.now) self.old).follower) }
         ensures outcome { IfOk result (λ o. outcome_of o
@@ -192,27 +192,31 @@ impl Follower {
         let view = self.view(alloc);
         let kind = self.kind;
         let Some(link) = &mut self.link else {
-            return Ok(Outcome::NoStep);
+            return Ok(ClusterOutcome::NoStep);
         };
         if link.is_refused() {
-            return Ok(Outcome::NoStep);
+            return Ok(ClusterOutcome::NoStep);
         }
         match server.watch_from(alloc, &view, link.stands(), most) {
             Ok(Watched { events, stands }) => {
                 link.write_changes(alloc, kind, events.as_slice(), stands)?;
-                Ok(Outcome::Sent(kind, events.len() as u64))
+                Ok(ClusterOutcome::Sent(kind, events.len() as u64))
             }
             Err(Fault::NoMemory) => Err(AllocError),
             Err(fault) => {
                 link.write_refusal(alloc, &fault)?;
-                Ok(Outcome::Sent(kind, 1))
+                Ok(ClusterOutcome::Sent(kind, 1))
             }
         }
     }
 
     /// Has the server write a bookmark at the present revision, where a link is open and no change is left to send. The error is
     /// running out of memory, and changes nothing.
-    pub fn send_bookmark(&mut self, alloc: Global, server: &Server) -> Result<Outcome, AllocError>
+    pub fn send_bookmark(
+        &mut self,
+        alloc: Global,
+        server: &Server,
+    ) -> Result<ClusterOutcome, AllocError>
         ensures after { OnOk result (self.new
             ≡ (bookmark_on self.old.reflector.kind self.old.link (answers_by self.old.reflector.kind server.now) self.old).follower) }
         ensures outcome { IfOk result (λ o. outcome_of o
@@ -223,35 +227,35 @@ impl Follower {
         let kind = self.kind;
         let present = server.revision();
         let Some(link) = &mut self.link else {
-            return Ok(Outcome::NoStep);
+            return Ok(ClusterOutcome::NoStep);
         };
         if link.is_refused() {
-            return Ok(Outcome::NoStep);
+            return Ok(ClusterOutcome::NoStep);
         }
         match server.watch_from(alloc, &view, link.stands(), 0) {
             Ok(watched) => {
                 if watched.stands != present {
-                    return Ok(Outcome::NoStep);
+                    return Ok(ClusterOutcome::NoStep);
                 }
                 link.write_bookmark(alloc, kind, present)?;
-                Ok(Outcome::Sent(kind, 1))
+                Ok(ClusterOutcome::Sent(kind, 1))
             }
             Err(Fault::NoMemory) => Err(AllocError),
             Err(fault) => {
                 link.write_refusal(alloc, &fault)?;
-                Ok(Outcome::Sent(kind, 1))
+                Ok(ClusterOutcome::Sent(kind, 1))
             }
         }
     }
 
     /// Delivers the next bytes, at most so many, where a link is open. The error is running out of memory, and changes nothing.
-    pub fn deliver(&mut self, alloc: Global, most: usize) -> Result<Outcome, AllocError>
+    pub fn deliver(&mut self, alloc: Global, most: usize) -> Result<ClusterOutcome, AllocError>
         ensures after { OnOk result (self.new ≡ (deliver_on self.old.reflector.kind self.old.link most self.old).follower) }
         ensures outcome { IfOk result (λ o. outcome_of o ≡ (deliver_on self.old.reflector.kind self.old.link most self.old).outcome) }
         ensures err { OnErr result (self.new ≡ self.old) }
     {
         let Some(link) = &mut self.link else {
-            return Ok(Outcome::NoStep);
+            return Ok(ClusterOutcome::NoStep);
         };
         let mut reflector = self.reflector.try_copy()?;
         let Ok(Fed { deltas, end }) = reflector.feed(alloc, link.next_bytes(most)) else {
@@ -264,11 +268,11 @@ impl Follower {
         if end.is_some() {
             self.link = None;
         }
-        Ok(Outcome::Fed(self.kind, self.reflector.revision(), end))
+        Ok(ClusterOutcome::Fed(self.kind, self.reflector.revision(), end))
     }
 
     /// Delivers all bytes that were written, where a link is open. The error is running out of memory, and changes nothing.
-    pub fn deliver_all(&mut self, alloc: Global) -> Result<Outcome, AllocError>
+    pub fn deliver_all(&mut self, alloc: Global) -> Result<ClusterOutcome, AllocError>
         ensures after { OnOk result (self.new ≡ (deliver_all_on self.old.reflector.kind self.old.link self.old).follower) }
         ensures outcome { IfOk result (λ o. outcome_of o ≡ (deliver_all_on self.old.reflector.kind self.old.link self.old).outcome) }
         ensures err { OnErr result (self.new ≡ self.old) }
@@ -287,7 +291,7 @@ impl Follower {
         alloc: Global,
         server: &Server,
         movement: Move,
-    ) -> Result<Outcome, AllocError>
+    ) -> Result<ClusterOutcome, AllocError>
         requires { AnswersLists self.old.reflector.kind server.now }
         ensures after { OnOk result (self.new
             ≡ (move_by self.old.reflector.kind (answers_by self.old.reflector.kind server.now) self.old (move_of movement)).follower) }
@@ -308,26 +312,26 @@ impl Follower {
     }
 
     /// Cuts the link, where one is open: what was not read is lost.
-    pub fn cut(&mut self) -> Outcome
+    pub fn cut(&mut self) -> ClusterOutcome
         ensures after { self.new ≡ (cut_on self.old.reflector.kind self.old.link self.old).follower }
         ensures outcome { outcome_of result ≡ (cut_on self.old.reflector.kind self.old.link self.old).outcome }
     {
         if self.link.is_none() {
-            return Outcome::NoStep;
+            return ClusterOutcome::NoStep;
         }
         self.link = None;
         self.reflector.on_cut();
-        Outcome::Cut(self.kind, self.reflector.revision())
+        ClusterOutcome::Cut(self.kind, self.reflector.revision())
     }
 
     /// Publishes what waits, once a list was taken in. The error is running out of memory, and changes nothing.
-    pub fn publish(&mut self, alloc: Global) -> Result<Outcome, AllocError>
+    pub fn publish(&mut self, alloc: Global) -> Result<ClusterOutcome, AllocError>
         ensures after { OnOk result (self.new ≡ (publish_by self.old.reflector.kind self.old).follower) }
         ensures outcome { IfOk result (λ o. outcome_of o ≡ (publish_by self.old.reflector.kind self.old).outcome) }
         ensures err { OnErr result (self.new ≡ self.old) }
     {
         if self.reflector.revision() == 0 {
-            return Ok(Outcome::NoStep);
+            return Ok(ClusterOutcome::NoStep);
         }
         let applied = apply_all(
             alloc,
@@ -341,7 +345,7 @@ impl Follower {
         self.pending.clear();
         self.has_listed = true;
         let count = self.published.len() as u64;
-        Ok(Outcome::Published(self.kind, self.published.revision(), count))
+        Ok(ClusterOutcome::Published(self.kind, self.published.revision(), count))
     }
 }
 

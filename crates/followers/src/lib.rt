@@ -10,4 +10,4 @@ pub mod outcomes;
 pub use followers::Follower;
 pub use links::Link;
 pub use notifications::Notification;
-pub use outcomes::Outcome;
+pub use outcomes::ClusterOutcome;

@@ -4,7 +4,7 @@ use meta::Kind;
 
 /// What is told of a step.
 #[derive(Drop)]
-pub enum Outcome {
+pub enum ClusterOutcome {
     /// The line that a request is answered, or nothing.
     Replied(Vec<u8>),
     /// The step was not open, and changed nothing.

@@ -1,5 +1,5 @@
 //! Runs over lines whose reader or writer fails in mid-stream, and when replies are flushed.
-ghost use Rattle.std.specs.Prelude.{◌==◌, [], ◌∷◌, ◌++◌, length, if◌then◌else◌};
+ghost use Rattle.std.specs.Prelude.{◌==◌, [], ◌∷◌, ◌++◌, length, None, if◌then◌else◌};
 
 use line_service::{LineService, RunFault, run};
 use std::alloc::{AllocError, Global};
@@ -18,6 +18,8 @@ impl LineService for Echo {
 
     ghost next = { λ s _. s };
 
+    ghost refusal = { λ _. None };
+
     fn serve(&mut self, alloc: Global, line: &[u8]) -> Result<Vec<u8>, AllocError> {
         let mut text = Vec::new(alloc);
         if self.is_poor {
@@ -28,6 +30,10 @@ impl LineService for Echo {
             text.push(b'\n')?;
         }
         Ok(text)
+    }
+
+    fn refused(&self, _line: &[u8]) -> Option<&'static [u8]> {
+        None
     }
 }
 

@@ -1,3 +1,4 @@
 pub mod Cutting
 pub mod Progress
 pub mod Splitting
+pub mod Alongside

@@ -3,8 +3,9 @@ ghost use Rattle.std.specs.Prelude.{◌≡◌, ◌≢◌, ◌≤◌, [], OnOk, O
 ghost use Rattle.std.specs.Io.KnownBytes.{Appends};
 ghost use Rattle.std.specs.Io.BufRead.{strip_last};
 ghost use Rattle.std.specs.IoError.{error_kind};
-ghost use Rattle.line_service.specs.Replies.{lines_of, replies, after, AppendsBeginning, EndsEarly};
+ghost use Rattle.line_service.specs.Replies.{AnswersAll, AnswersSome, AppendsBeginning};
 
+use crate::answer::take;
 use crate::fault::RunFault;
 use crate::service::LineService;
 use std::alloc::Global;
@@ -93,6 +94,9 @@ pub fn send<W: Write>(writer: &mut W, reply: &[u8]) -> Result<(), RunFault>
 /// Answers each line that is read, to the end, and writes the replies and nothing else. Each reply that is not empty is flushed
 /// before the next line is waited for. One line is in memory at a time, and its memory is used again for the next.
 ///
+/// A line for which there is no memory is answered by the text that the service has for it, and changes nothing; where it has none, the run
+/// ends there.
+///
 /// At an error a beginning of all the replies was written. The service has answered some of the lines, from the first
 /// on, and no others; their replies were written whole, unless it was the writer that failed: then those of all but the
 /// last were.
@@ -102,14 +106,10 @@ pub fn run<S: LineService, R: BufRead, W: Write>(
     reader: &mut R,
     writer: &mut W,
 ) -> Result<(), RunFault>
-    ensures ok { OnOk result (IfSome (R.remaining reader.old) (λ input.
-        Appends (W.contents writer.old) (W.contents writer.new) (replies S.reply S.next service.old (lines_of input)))) }
-    ensures state { OnOk result (IfSome (R.remaining reader.old) (λ input.
-        service.new ≡ after S.next service.old (lines_of input))) }
-    ensures err { OnErr result (IfSome (R.remaining reader.old) (λ input.
-        AppendsBeginning (W.contents writer.old) (W.contents writer.new) (replies S.reply S.next service.old (lines_of input)))) }
-    ensures ended { IfErr result (λ fault. IfSome (R.remaining reader.old) (λ input.
-        EndsEarly S.reply S.next fault service.old service.new (W.contents writer.old) (W.contents writer.new) (lines_of input))) }
+    ensures ok { OnOk result (IfSome (R.remaining reader.old)
+        (AnswersAll S.reply S.next S.refusal service.old service.new (W.contents writer.old) (W.contents writer.new))) }
+    ensures ended { IfErr result (λ fault. IfSome (R.remaining reader.old)
+        (AnswersSome S.reply S.next S.refusal fault service.old service.new (W.contents writer.old) (W.contents writer.new))) }
 {
     let mut line = Vec::new(alloc);
     for _ in 0..u64::MAX {
@@ -121,11 +121,8 @@ pub fn run<S: LineService, R: BufRead, W: Write>(
         if count == 0 {
             return Ok(());
         }
-        let reply = match service.serve(alloc, without_newline(line.as_slice())) {
-            Ok(reply) => reply,
-            Err(_) => return Err(RunFault::Want),
-        };
-        send(writer, reply.as_slice())?;
+        let answer = take(alloc, service, without_newline(line.as_slice()))?;
+        send(writer, answer.text())?;
     }
     Err(RunFault::Read)
 }

@@ -12,7 +12,7 @@ use Rattle.definitions.specs.Reached.{CanBeRead}
 use Rattle.reconciling.specs.Managers.{Client, Manager, Delivery, Acted, act, act_in, carry_out, closed, issue, issue_command, is_for}
 use Rattle.reconciling.specs.NextSteps as steps
 use Rattle.reconciling.specs.NextSteps.{NextStep, next}
-use Rattle.reconciling.specs.OutcomeTexts.{outcome_text}
+use Rattle.reconciling.specs.Outcomes.{Outcome}
 use Rattle.reconciling.specs.Turns.{Turn}
 use Rattle.session.specs.SessionStates.{SessionState, accepted}
 use Rattle.workers.specs.Seen.{command_issued}
@@ -81,10 +81,10 @@ module _ (v : ClusterState) (w : ℕ) (d : Delivery) (t : Turn) (m : Manager) (i
       ap (λ (i : Coming). record m { turns = slice_set m.turns w (Some i.turn); issued = m.issued ++ i.issued ∷ [] }) x.2
       ∙ ap (λ (a : Acted). a.manager) (sym (issue_open (client_of v) w d t x.0 m here x.1))
 
-  text_is : i.text ≡ outcome_text done.outcome
-  text_is =
+  outcome_is : i.outcome ≡ done.outcome
+  outcome_is =
       let x = given (coming v.session w t d) (command_issued (next t)) i is in
-      ap (λ (i : Coming). i.text) x.2 ∙ ap (λ (a : Acted). outcome_text a.outcome) (sym (issue_open (client_of v) w d t x.0 m here x.1))
+      ap (λ (i : Coming). i.outcome) x.2 ∙ ap (λ (a : Acted). a.outcome) (sym (issue_open (client_of v) w d t x.0 m here x.1))
 
   write_is : i.write ≡ write_reaching v.session done.request
   write_is =
@@ -100,10 +100,9 @@ module _ (v : ClusterState) (w : ℕ) (d : Delivery) (t : Turn) (m : Manager) (i
   manager_made (Ok x) n made = made ∙ manager_is
   manager_made (Err e) n made = tt
 
-  pub line_made : {E : Type 0} (r : Result (Vec ℕ Global) E) → IfOk r (λ (l : Vec ℕ Global). l.items ≡ i.text)
-      → IfOk r (λ (l : Vec ℕ Global). l.items ≡ outcome_text (act (client_of v) w (issue d) m).outcome)
-  line_made (Ok l) made = made ∙ text_is
-  line_made (Err e) made = tt
+  pub told_made : {X E : Type 0} (told : X → Outcome) (r : Result X E) → IfOk r (λ x. told x ≡ i.outcome) → IfOk r (λ x. told x ≡ (act (client_of v) w (issue d) m).outcome)
+  told_made told (Ok x) made = made ∙ outcome_is
+  told_made told (Err e) made = tt
 
   pub cluster_made : {X E : Type 0} (r : Result X E) (u : ClusterState) → OnOk r (u ≡ written i.write v) → OnOk r (u ≡ after_request (act (client_of v) w (issue d) m).request v)
   cluster_made (Ok x) u made = made ∙ ap (λ o. written o v) write_is

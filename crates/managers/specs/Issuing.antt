@@ -1,24 +1,24 @@
 -- What comes of the command that a turn issues next.
-use Rattle.std.specs.Prelude.{ℕ, List, Option, option_map, string_bytes}
+use Rattle.std.specs.Prelude.{ℕ, Option, option_map, string_bytes}
 use Rattle.std.specs.Arc.{arc_value}
 use Rattle.definitions.specs.History.{Write}
 use Rattle.controllers.specs.Commands.{Command}
 use Rattle.meta.specs.Writes.{write_of}
 use Rattle.reconciling.specs.Managers.{Delivery, Issued, learnt, reaching, requested}
-use Rattle.reconciling.specs.OutcomeTexts.{outcome_text}
 use Rattle.reconciling.specs.Outcomes as outcomes
 use Rattle.reconciling.specs.Turns.{Turn, with_issue}
 use Rattle.session.specs.SessionStates.{SessionState, accepted}
+use Rattle.managers.specs.Outcomes.{outcome_of}
 use Rattle.managers.specs.Reached.{write_reaching}
 use Rattle.worker_slots.specs.Seen.{issued_of}
 use Rattle.managers.specs.declared.issuing.Issuing.{Issuing}
 
--- the turn after it, what is recorded of it, what the server writes, if it writes anything, and the line that tells of it
+-- the turn after it, what is recorded of it, what the server writes, if it writes anything, and what is told of it
 pub record Coming : Type 0 where
   pub turn : Turn
   pub issued : Issued
   pub write : Option Write
-  pub text : List ℕ
+  pub outcome : outcomes.Outcome
 
 abbrev pub coming : SessionState → ℕ → Turn → Delivery → Command → Coming
 coming s w t d x =
@@ -28,9 +28,9 @@ coming s w t d x =
       turn = with_issue (record { command = x; answer = a }) t;
       issued = record { turn = t; command = x; answer = a };
       write = write_reaching s (reaching d q);
-      text = outcome_text (outcomes.issued w x a);
+      outcome = outcomes.issued w x a;
     }
 
 -- as code has it
 abbrev pub coming_of : Issuing → Coming
-coming_of i = record { turn = i.turn; issued = issued_of (arc_value i.issued); write = option_map write_of i.write; text = i.line.items }
+coming_of i = record { turn = i.turn; issued = issued_of (arc_value i.issued); write = option_map write_of i.write; outcome = outcome_of i.told.outcome }

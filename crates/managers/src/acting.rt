@@ -1,9 +1,10 @@
 //! What workers do on the board, and all that they do.
 use crate::manager::Manager;
+use crate::outcomes::WorkOutcome;
+use crate::told_outcomes::{ToldOutcome, key_copy};
 use cluster::Cluster;
 use std::alloc::{AllocError, Global};
 use steps::Action;
-use worker_lines::lines;
 use worker_slots::is_next;
 use workers::{Expected, Turn};
 
@@ -12,29 +13,30 @@ impl Manager {
     ghost use Rattle.reconciling.specs.Managers as managers;
     ghost use Rattle.reconciling.specs.Managers.{act};
     ghost use Rattle.steps.specs.Actions.{action_of};
-    ghost use Rattle.reconciling.specs.OutcomeTexts.{outcome_text};
+    ghost use Rattle.managers.specs.Outcomes.{outcome_of};
     ghost use Rattle.managers.specs.Reached.{client_of, after_request, CanBeAsked};
 
-    /// Has a worker that is in no turn take the key that waits longest, if one waits, once each kind has been published, and returns
-    /// the line that tells of it. The error is running out of memory, and then nothing has changed.
+    /// Has a worker that is in no turn take the key that waits longest, if one waits, once each kind has been published, and tells
+    /// of it. The error is running out of memory, and then nothing has changed.
     pub fn take(
         &mut self,
         alloc: Global,
         cluster: &Cluster,
         worker: u64,
-    ) -> Result<Vec<u8>, AllocError>
+    ) -> Result<ToldOutcome, AllocError>
         ensures ok { OnOk result (self.new ≡ (act (client_of cluster.now) worker managers.take self.old).manager) }
-        ensures told { IfOk result (λ l. l.items ≡ outcome_text (act (client_of cluster.now) worker managers.take self.old).outcome) }
+        ensures told { IfOk result (λ t. outcome_of t.outcome ≡ (act (client_of cluster.now) worker managers.take self.old).outcome) }
         ensures err { OnErr result (self.new ≡ self.old) }
     {
         if !self.turns.is_idle(worker) || !cluster.has_synced() {
-            return lines::no_step(alloc);
+            return ToldOutcome::of(alloc, WorkOutcome::NoStep);
         }
-        let line = lines::took(alloc, worker, self.board.first())?;
+        let key = key_copy(self.board.first())?;
+        let told = ToldOutcome::of(alloc, WorkOutcome::Took { worker, key })?;
         if let Some(key) = self.board.take_key()? {
             self.turns.set(worker, Some(Turn::begin(alloc, key)));
         }
-        Ok(line)
+        Ok(told)
     }
 
     /// Has a worker's ReplicaSet expect what its plan makes of pods, where that comes next in its turn. The error is running out of memory,
@@ -45,30 +47,37 @@ impl Manager {
         alloc: Global,
         cluster: &Cluster,
         worker: u64,
-    ) -> Result<Vec<u8>, AllocError>
+    ) -> Result<ToldOutcome, AllocError>
         ensures ok { OnOk result (self.new ≡ (act (client_of cluster.now) worker managers.expect self.old).manager) }
-        ensures told { IfOk result (λ l. l.items ≡ outcome_text (act (client_of cluster.now) worker managers.expect self.old).outcome) }
+        ensures told { IfOk result (λ t. outcome_of t.outcome ≡ (act (client_of cluster.now) worker managers.expect self.old).outcome) }
         ensures err { OnErr result (self.new ≡ self.old) }
     {
         let Some(turn) = self.turns.get(worker) else {
-            return lines::no_step(alloc);
+            return ToldOutcome::of(alloc, WorkOutcome::NoStep);
         };
         let Some(expected) = turn.expected(alloc)? else {
-            return lines::no_step(alloc);
+            return ToldOutcome::of(alloc, WorkOutcome::NoStep);
         };
         let Expected {
             owner,
             creations,
             deletions,
         } = expected;
-        let line = lines::expected(alloc, worker, creations as u64, deletions.len() as u64)?;
+        let told = ToldOutcome::of(
+            alloc,
+            WorkOutcome::Expected {
+                worker,
+                creations: creations as u64,
+                deletions: deletions.len() as u64,
+            },
+        )?;
         if creations == 0 {
             self.board.expect_deletions(&owner, deletions)?;
         } else {
             self.board.expect_creations(&owner, creations)?;
         }
         self.turns.expect(worker);
-        Ok(line)
+        Ok(told)
     }
 
     /// Ends a worker's turn, where that comes next in it: its key leaves its hands, and unless all was accepted, waits for its delay. The
@@ -78,19 +87,25 @@ impl Manager {
         alloc: Global,
         cluster: &Cluster,
         worker: u64,
-    ) -> Result<Vec<u8>, AllocError>
+    ) -> Result<ToldOutcome, AllocError>
         ensures ok { OnOk result (self.new ≡ (act (client_of cluster.now) worker managers.finish self.old).manager) }
-        ensures told { IfOk result (λ l. l.items ≡ outcome_text (act (client_of cluster.now) worker managers.finish self.old).outcome) }
+        ensures told { IfOk result (λ t. outcome_of t.outcome ≡ (act (client_of cluster.now) worker managers.finish self.old).outcome) }
         ensures err { OnErr result (self.new ≡ self.old) }
     {
         let Some(turn) = self.turns.get(worker) else {
-            return lines::no_step(alloc);
+            return ToldOutcome::of(alloc, WorkOutcome::NoStep);
         };
         if !is_next(turn, Action::Finish) {
-            return lines::no_step(alloc);
+            return ToldOutcome::of(alloc, WorkOutcome::NoStep);
         }
         let is_accepted = turn.is_accepted();
-        let line = lines::finished(alloc, worker, is_accepted)?;
+        let told = ToldOutcome::of(
+            alloc,
+            WorkOutcome::Finished {
+                worker,
+                is_accepted,
+            },
+        )?;
         if is_accepted {
             self.board.done(turn.key());
         } else {
@@ -98,10 +113,10 @@ impl Manager {
             self.board.requeue(turn.key(), undone.as_slice())?;
         }
         self.turns.set(worker, None);
-        Ok(line)
+        Ok(told)
     }
 
-    /// Has a worker act, if the action is open: exactly the definition's step. Returns the line that tells of it. The error is running out
+    /// Has a worker act, if the action is open: exactly the definition's step. Returns what is told of it. The error is running out
     /// of memory, and then nothing has changed.
     #[tactic(auto, using(crate::proofs::Asking::look_asks_nothing))]
     pub fn act(
@@ -110,10 +125,10 @@ impl Manager {
         cluster: &mut Cluster,
         worker: u64,
         action: Action,
-    ) -> Result<Vec<u8>, AllocError>
+    ) -> Result<ToldOutcome, AllocError>
         requires asked { CanBeAsked cluster.old worker (action_of action) self.old }
         ensures ok { OnOk result (self.new ≡ (act (client_of cluster.old) worker (action_of action) self.old).manager) }
-        ensures told { IfOk result (λ l. l.items ≡ outcome_text (act (client_of cluster.old) worker (action_of action) self.old).outcome) }
+        ensures told { IfOk result (λ t. outcome_of t.outcome ≡ (act (client_of cluster.old) worker (action_of action) self.old).outcome) }
         ensures cluster { OnOk result (cluster.new ≡ after_request (act (client_of cluster.old) worker (action_of action) self.old).request cluster.old) }
         ensures err { OnErr result (self.new ≡ self.old) }
         ensures untouched { OnErr result (cluster.new ≡ cluster.old) }

@@ -18,6 +18,8 @@ ghost use Rattle.steps.specs.Actions.{delivery_of};
 ghost use Rattle.workers.specs.Seen.{answer_of, command_issued};
 
 use crate::manager::Manager;
+use crate::outcomes::WorkOutcome;
+use crate::told_outcomes::ToldOutcome;
 use cluster::Cluster;
 use keys::Fault;
 use meta::Write;
@@ -25,7 +27,6 @@ use requests::Request;
 use std::alloc::{AllocError, Global};
 use std::sync::Arc;
 use steps::Delivery;
-use worker_lines::lines;
 use worker_slots::Issued;
 use worker_slots::answering::{acceptance, answered_turn};
 use worker_slots::issued::recorded;
@@ -101,11 +102,11 @@ fn write(cluster: &mut Cluster, write: Option<Write>) -> Result<(), AllocError>
     }
 }
 
-/// What comes of a command that is issued: the line that tells of it, the turn after it, what is recorded of it, and what the server is to
+/// What comes of a command that is issued: what is told of it, the turn after it, what is recorded of it, and what the server is to
 /// write.
 #[derive(Drop)]
 pub(crate) struct Issuing {
-    pub(crate) line: Vec<u8>,
+    pub(crate) told: ToldOutcome,
     pub(crate) turn: Turn,
     pub(crate) issued: Arc<Issued, Global>,
     pub(crate) write: Option<Write>,
@@ -129,10 +130,16 @@ fn next_issue(
         return Ok(None);
     };
     let answered = deliver(alloc, cluster, request, delivery)?;
-    let line = lines::issued(alloc, worker, command, &answered.answer)?;
     let issued = recorded(alloc, turn, command, &answered.answer)?;
+    let told = ToldOutcome::of(
+        alloc,
+        WorkOutcome::Issued {
+            worker,
+            issued: Arc::try_clone(&issued)?,
+        },
+    )?;
     Ok(Some(Issuing {
-        line,
+        told,
         turn: answered_turn(turn, answered.answer)?,
         issued,
         write: answered.write,
@@ -147,7 +154,7 @@ impl Manager {
     ghost use Rattle.worker_slots.specs.Seen.{issued_of};
     ghost use Rattle.reconciling.specs.Managers as managers;
     ghost use Rattle.reconciling.specs.Managers.{act};
-    ghost use Rattle.reconciling.specs.OutcomeTexts.{outcome_text};
+    ghost use Rattle.managers.specs.Outcomes.{outcome_of};
     ghost use Rattle.steps.specs.Actions.{delivery_of};
     ghost use Rattle.managers.specs.Reached.{client_of, after_request, CanBeAsked};
 
@@ -157,14 +164,14 @@ impl Manager {
         cluster: &mut Cluster,
         worker: u64,
         issuing: Issuing,
-    ) -> Result<Vec<u8>, AllocError>
+    ) -> Result<ToldOutcome, AllocError>
         requires write { IfSome (option_map write_of issuing.write) (λ v. IsWriteOf cluster.old.session (Some v)) }
         requires worker { worker < length self.old.turns }
         ensures ok { OnOk result (self.new ≡ record self.old {
           turns = slice_set self.old.turns worker (Some issuing.turn);
           issued = self.old.issued ++ issued_of (arc_value issuing.issued) ∷ [];
         }) }
-        ensures line { IfOk result (λ l. l.items ≡ issuing.line.items) }
+        ensures told { IfOk result (λ t. outcome_of t.outcome ≡ outcome_of issuing.told.outcome) }
         ensures cluster { OnOk result (cluster.new ≡ written (option_map write_of issuing.write) cluster.old) }
         ensures err { OnErr result (self.new ≡ self.old) }
         ensures untouched { OnErr result (cluster.new ≡ cluster.old) }
@@ -175,31 +182,31 @@ impl Manager {
             return Err(AllocError);
         }
         self.turns.set(worker, Some(issuing.turn));
-        Ok(issuing.line)
+        Ok(issuing.told)
     }
 
     /// Has a worker issue the next command of its plan, where that comes next in its turn; it is delivered, or its answer is lost, or it is
-    /// dropped. Returns the line that tells of it. The error is running out of memory, and then nothing has changed, at the server neither.
+    /// dropped. Returns what is told of it. The error is running out of memory, and then nothing has changed, at the server neither.
     pub fn issue(
         &mut self,
         alloc: Global,
         cluster: &mut Cluster,
         worker: u64,
         delivery: Delivery,
-    ) -> Result<Vec<u8>, AllocError>
+    ) -> Result<ToldOutcome, AllocError>
         requires asked { CanBeAsked cluster.old worker (managers.issue (delivery_of delivery)) self.old }
         ensures ok { OnOk result (self.new ≡ (act (client_of cluster.old) worker (managers.issue (delivery_of delivery)) self.old).manager) }
-        ensures told { IfOk result (λ l. l.items ≡ outcome_text (act (client_of cluster.old) worker (managers.issue (delivery_of delivery)) self.old).outcome) }
+        ensures told { IfOk result (λ t. outcome_of t.outcome ≡ (act (client_of cluster.old) worker (managers.issue (delivery_of delivery)) self.old).outcome) }
         ensures cluster { OnOk result (cluster.new
             ≡ after_request (act (client_of cluster.old) worker (managers.issue (delivery_of delivery)) self.old).request cluster.old) }
         ensures err { OnErr result (self.new ≡ self.old) }
         ensures untouched { OnErr result (cluster.new ≡ cluster.old) }
     {
         let Some(turn) = self.turns.get(worker) else {
-            return lines::no_step(alloc);
+            return ToldOutcome::of(alloc, WorkOutcome::NoStep);
         };
         let Some(issuing) = next_issue(alloc, cluster, worker, turn, delivery)? else {
-            return lines::no_step(alloc);
+            return ToldOutcome::of(alloc, WorkOutcome::NoStep);
         };
         self.make(cluster, worker, issuing)
     }

@@ -5,8 +5,11 @@
 mod acting;
 mod issuing;
 pub mod manager;
+pub mod outcomes;
 mod seeing;
+pub mod told_outcomes;
 
 pub use manager::Manager;
-pub use worker_lines::lines;
+pub use outcomes::WorkOutcome;
+pub use told_outcomes::ToldOutcome;
 pub use worker_slots::Issued;

@@ -1,10 +1,11 @@
 //! The controller manager.
+use crate::outcomes::WorkOutcome;
+use crate::told_outcomes::ToldOutcome;
 use control_desk::{Board, Observation};
 use std::alloc::{AllocError, Global};
 use std::marker::Model;
 use std::sync::Arc;
 use work_keys::WorkKey;
-use worker_lines::lines;
 use worker_slots::{Issued, Slots};
 
 /// The board, for each worker its turn or none, and all commands that were issued, in order.
@@ -36,8 +37,8 @@ impl Manager {
     ghost use Rattle.control_desk.specs.Seen.{observation_of};
     ghost use Rattle.reconciling.specs.Managers.{begun, restarted};
     ghost use Rattle.worker_slots.specs.Seen.{issued_of};
-    ghost use Rattle.managers.specs.Told.{told_of_tick};
-    ghost use Rattle.reconciling.specs.OutcomeTexts.{outcome_text};
+    ghost use Rattle.managers.specs.ToldOutcome.{told_of_tick};
+    ghost use Rattle.managers.specs.Outcomes.{outcome_of};
     ghost use Rattle.work_keys.specs.WorkKeys.{work_key_of};
 
     /// Returns a manager with so many workers, none of which is in a turn. The error is running out of memory.
@@ -89,14 +90,20 @@ impl Manager {
     }
 
     /// Lets so many milliseconds pass, and adds the keys whose moment has come; beyond the last moment, 2^53 - 1, nothing changes.
-    /// Returns the line that tells of it. The error is running out of memory, and then nothing has changed.
-    pub fn tick(&mut self, alloc: Global, milliseconds: u64) -> Result<Vec<u8>, AllocError>
+    /// Returns what is told of it. The error is running out of memory, and then nothing has changed.
+    pub fn tick(&mut self, alloc: Global, milliseconds: u64) -> Result<ToldOutcome, AllocError>
         ensures ok { OnOk result (self.new ≡ record self.old { board = ticked milliseconds self.old.board }) }
-        ensures told { IfOk result (λ l. l.items ≡ outcome_text (told_of_tick milliseconds self.old.board)) }
+        ensures told { IfOk result (λ t. outcome_of t.outcome ≡ told_of_tick milliseconds self.old.board) }
         ensures err { OnErr result (self.new ≡ self.old) }
     {
-        let passed = lines::time(alloc, self.board.time().saturating_add(milliseconds))?;
-        let closed = lines::no_step(alloc)?;
+        let milliseconds_then = self.board.time().saturating_add(milliseconds);
+        let passed = ToldOutcome::of(
+            alloc,
+            WorkOutcome::Time {
+                milliseconds: milliseconds_then,
+            },
+        )?;
+        let closed = ToldOutcome::of(alloc, WorkOutcome::NoStep)?;
         if self.board.tick(milliseconds)? {
             Ok(passed)
         } else {

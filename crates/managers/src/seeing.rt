@@ -5,13 +5,14 @@ ghost use Rattle.keys.specs.Keys.{key_of};
 ghost use Rattle.managers.specs.Reached.{client_of};
 
 use crate::manager::Manager;
+use crate::outcomes::WorkOutcome;
+use crate::told_outcomes::{ToldOutcome, text_copy};
 use cluster::Cluster;
 use definitions::kinds::Kind;
 use keys::Key;
 use meta::Object;
 use std::alloc::{AllocError, Global};
 use steps::Action;
-use worker_lines::lines;
 use worker_slots::is_next;
 use workers::{NextStep, Sight};
 
@@ -39,7 +40,7 @@ impl Manager {
     ghost use Rattle.std.specs.Prelude.{◌≡◌, IfOk, OnOk, OnErr};
     ghost use Rattle.reconciling.specs.Managers as managers;
     ghost use Rattle.reconciling.specs.Managers.{act};
-    ghost use Rattle.reconciling.specs.OutcomeTexts.{outcome_text};
+    ghost use Rattle.managers.specs.Outcomes.{outcome_of};
     ghost use Rattle.managers.specs.Reached.{client_of};
 
     /// Has a worker look at what is published of a kind, where that comes next in its turn. The error is running out of memory, and then
@@ -50,22 +51,29 @@ impl Manager {
         cluster: &Cluster,
         worker: u64,
         kind: Kind,
-    ) -> Result<Vec<u8>, AllocError>
+    ) -> Result<ToldOutcome, AllocError>
         ensures ok { OnOk result (self.new ≡ (act (client_of cluster.now) worker (managers.look kind) self.old).manager) }
-        ensures told { IfOk result (λ l. l.items ≡ outcome_text (act (client_of cluster.now) worker (managers.look kind) self.old).outcome) }
+        ensures told { IfOk result (λ t. outcome_of t.outcome ≡ (act (client_of cluster.now) worker (managers.look kind) self.old).outcome) }
         ensures err { OnErr result (self.new ≡ self.old) }
     {
         let Some(turn) = self.turns.get(worker) else {
-            return lines::no_step(alloc);
+            return ToldOutcome::of(alloc, WorkOutcome::NoStep);
         };
         if !is_next(turn, Action::Look(kind)) {
-            return lines::no_step(alloc);
+            return ToldOutcome::of(alloc, WorkOutcome::NoStep);
         }
         let published = cluster.published(kind);
-        let line = lines::looked(alloc, worker, kind, published.revision())?;
+        let told = ToldOutcome::of(
+            alloc,
+            WorkOutcome::Looked {
+                worker,
+                kind,
+                revision: published.revision(),
+            },
+        )?;
         let sight = Sight::Looked(kind, published.try_copy()?);
         self.turns.see(worker, sight)?;
-        Ok(line)
+        Ok(told)
     }
 
     /// Tells a worker whether all pods that its ReplicaSet expected have been seen, where it asks that next in its turn. The error is
@@ -75,16 +83,16 @@ impl Manager {
         alloc: Global,
         cluster: &Cluster,
         worker: u64,
-    ) -> Result<Vec<u8>, AllocError>
+    ) -> Result<ToldOutcome, AllocError>
         ensures ok { OnOk result (self.new ≡ (act (client_of cluster.now) worker managers.ask_satisfied self.old).manager) }
-        ensures told { IfOk result (λ l. l.items ≡ outcome_text (act (client_of cluster.now) worker managers.ask_satisfied self.old).outcome) }
+        ensures told { IfOk result (λ t. outcome_of t.outcome ≡ (act (client_of cluster.now) worker managers.ask_satisfied self.old).outcome) }
         ensures err { OnErr result (self.new ≡ self.old) }
     {
         let Some(turn) = self.turns.get(worker) else {
-            return lines::no_step(alloc);
+            return ToldOutcome::of(alloc, WorkOutcome::NoStep);
         };
         if !is_next(turn, Action::AskSatisfied) {
-            return lines::no_step(alloc);
+            return ToldOutcome::of(alloc, WorkOutcome::NoStep);
         }
         let key = turn.key().key.try_copy()?;
         let owner = turn.owner(alloc)?;
@@ -92,12 +100,18 @@ impl Manager {
             Some(owner) => self.board.satisfied(owner),
             None => true,
         };
-        let line = lines::satisfied(alloc, worker, is_satisfied)?;
+        let told = ToldOutcome::of(
+            alloc,
+            WorkOutcome::Satisfied {
+                worker,
+                is_satisfied,
+            },
+        )?;
         self.turns.see(worker, Sight::Satisfied(is_satisfied))?;
         if owner.is_none() {
             self.board.forget(&key);
         }
-        Ok(line)
+        Ok(told)
     }
 
     /// Has a worker read live what is there under a key, where that comes next in its turn. The error is running out of memory, and then
@@ -107,20 +121,27 @@ impl Manager {
         alloc: Global,
         cluster: &Cluster,
         worker: u64,
-    ) -> Result<Vec<u8>, AllocError>
+    ) -> Result<ToldOutcome, AllocError>
         ensures ok { OnOk result (self.new ≡ (act (client_of cluster.now) worker managers.read_live self.old).manager) }
-        ensures told { IfOk result (λ l. l.items ≡ outcome_text (act (client_of cluster.now) worker managers.read_live self.old).outcome) }
+        ensures told { IfOk result (λ t. outcome_of t.outcome ≡ (act (client_of cluster.now) worker managers.read_live self.old).outcome) }
         ensures err { OnErr result (self.new ≡ self.old) }
     {
         let Some(turn) = self.turns.get(worker) else {
-            return lines::no_step(alloc);
+            return ToldOutcome::of(alloc, WorkOutcome::NoStep);
         };
         let NextStep::Read(key) = turn.next() else {
-            return lines::no_step(alloc);
+            return ToldOutcome::of(alloc, WorkOutcome::NoStep);
         };
         let found = live_object(alloc, cluster, key)?;
-        let line = lines::read(alloc, worker, key, version_in(&found))?;
+        let told = ToldOutcome::of(
+            alloc,
+            WorkOutcome::Read {
+                worker,
+                key: key.try_copy()?,
+                version: text_copy(alloc, version_in(&found))?,
+            },
+        )?;
         self.turns.add_read(worker, found)?;
-        Ok(line)
+        Ok(told)
     }
 }

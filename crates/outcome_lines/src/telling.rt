@@ -8,7 +8,7 @@ ghost use Rattle.outcome_lines.specs.Ready.{IsReady};
 
 use controllers::reflectors::End;
 use definitions::kinds::Kind;
-use followers::Outcome;
+use followers::ClusterOutcome;
 use itoa::Buffer;
 use std::alloc::{AllocError, Global};
 
@@ -148,24 +148,24 @@ fn expired(line: Vec<u8>, kind: Kind) -> Vec<u8>
 }
 
 /// Returns the line by which an outcome is told, written into an empty line with room for it; a reply is a line already, or nothing.
-pub fn told(line: Vec<u8>, outcome: Outcome) -> Vec<u8>
+pub fn told(line: Vec<u8>, outcome: ClusterOutcome) -> Vec<u8>
     requires ready { IsReady line }
     ensures { result.items ≡ outcome_text (outcome_of outcome) }
 {
     match outcome {
-        Outcome::Replied(text) => text,
-        Outcome::NoStep => plain(line, "no step"),
-        Outcome::Listed(kind, revision, count) => with_numbers(
+        ClusterOutcome::Replied(text) => text,
+        ClusterOutcome::NoStep => plain(line, "no step"),
+        ClusterOutcome::Listed(kind, revision, count) => with_numbers(
             line, "listed", kind, revision, count,
         ),
-        Outcome::Opened(kind, revision) => with_number(line, "opened", kind, revision),
-        Outcome::Expired(kind) => expired(line, kind),
-        Outcome::Sent(kind, count) => with_number(line, "sent", kind, count),
-        Outcome::Fed(kind, revision, end) => fed(line, kind, revision, end),
-        Outcome::Cut(kind, revision) => with_number(line, "cut", kind, revision),
-        Outcome::Published(kind, revision, count) => {
+        ClusterOutcome::Opened(kind, revision) => with_number(line, "opened", kind, revision),
+        ClusterOutcome::Expired(kind) => expired(line, kind),
+        ClusterOutcome::Sent(kind, count) => with_number(line, "sent", kind, count),
+        ClusterOutcome::Fed(kind, revision, end) => fed(line, kind, revision, end),
+        ClusterOutcome::Cut(kind, revision) => with_number(line, "cut", kind, revision),
+        ClusterOutcome::Published(kind, revision, count) => {
             with_numbers(line, "published", kind, revision, count)
         }
-        Outcome::Restarted => plain(line, "restarted"),
+        ClusterOutcome::Restarted => plain(line, "restarted"),
     }
 }

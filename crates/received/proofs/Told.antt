@@ -12,6 +12,7 @@ use Rattle.definitions.specs.Targets.{Asked, asked}
 use Rattle.connections.specs.Heads.{head_of}
 use Rattle.connections.specs.Checks.{Opening, checked}
 use Rattle.connections.specs.Connections.{asked_with_body, asked_after, Asks}
+use Rattle.connections.proofs.Staying.{whole_stays}
 use Rattle.request_heads.proofs.Wholes.{found_asks}
 use Rattle.request_heads.specs.Reading.{IsFound, Reads}
 use Rattle.request_heads.specs.declared.fault.ReadFault.{ReadFault}
@@ -22,18 +23,6 @@ use Rattle.received.specs.declared.received.Received.TheVariants as received
 use Rattle.received.specs.Receiving.{AsksKnown, Tells, said}
 
 -- ---- what follows a whole request does not count
-
-body_stays : (o : Opening) (rest more : List ℕ) (a : Result Asked Refusal) (short : Bool) → nat_lt (length rest) o.body_length ≡ short
-    → cond short None (Some (asked o.method o.route o.query (take o.body_length rest))) ≡ Some a → asked_with_body o (rest ++ more) ≡ Some a
-body_stays o rest more a true is e = absurd (cc)
-body_stays o rest more a false is e =
-    let least : o.body_length ≤ length rest = ltb-false (length rest) o.body_length is in
-    let long : nat_lt (length (rest ++ more)) o.body_length ≡ false = le-ltb (length (rest ++ more)) o.body_length (omega (arith, least, length-append rest more)) in
-    rw (long, take-append-le o.body_length rest more least) e
-
-whole_stays : (c : Result Opening Refusal) (rest more : List ℕ) (a : Result Asked Refusal) → asked_after c rest ≡ Some a → asked_after c (rest ++ more) ≡ Some a
-whole_stays (Err f) rest more a e = e
-whole_stays (Ok o) rest more a e = body_stays o rest more a (nat_lt (length rest) o.body_length) refl e
 
 -- nor does anything follow where nothing is asked
 stays : (c : Result Opening Refusal) (rest more : List ℕ) (s : Option (Result Asked Refusal)) → asked_after c rest ≡ s → (s ≡ None → more ≡ []) → asked_after c (rest ++ more) ≡ s

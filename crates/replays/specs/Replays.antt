@@ -1,11 +1,27 @@
--- What a replay that ends early has done.
-use Rattle.std.specs.Prelude.{ℕ, List, Option}
-use Rattle.line_protocol.specs.Lines as lines
+-- What a replay writes for what it reads.
+use Rattle.std.specs.Prelude.{◌≡◌, ℕ, List, Option, Some}
 use Rattle.definitions.specs.Replies as answers
-use Rattle.line_service.specs.Replies.{lines_of, EndsEarly}
+use Rattle.line_protocol.specs.Lines as lines
+use Rattle.line_service.specs.Replies as service
+use Rattle.line_service.specs.Replies.{lines_of, replies, none_refused, reply_or_refusal, next_or_same}
 use Rattle.line_service.specs.declared.fault.RunFault.{RunFault}
+use Rattle.reply_lines.specs.Shown.{no_memory_line}
 
--- a session with windows of this size has answered some lines of the input, from the start and the first on, and no others; their replies
--- were appended: all of them, unless writing failed, and then all but the last one's and a beginning of that
+-- any line may be refused since there was no memory for it
+abbrev pub refusal : List ℕ → Option (List ℕ)
+refusal line = Some no_memory_line
+
+-- a session with windows of this size has answered all lines of the input, from the start on: what was appended is the reply to each, or for
+-- some of them that there was no memory, and these changed nothing
+abbrev pub AnswersAll : ℕ → Option (List ℕ) → Option (List ℕ) → List ℕ → Type 0
+AnswersAll window old new input = (last : answers.Session) × service.AnswersAll lines.reply lines.next refusal (answers.start window) last old new input
+
+-- it has answered so some of them, from the first on, and no others: all of that was appended, unless writing failed, and then all but the
+-- last one's and a beginning of that
 abbrev pub AnswersSome : ℕ → RunFault → Option (List ℕ) → Option (List ℕ) → List ℕ → Type 0
-AnswersSome window why old new input = (last : answers.Session) × EndsEarly lines.reply lines.next why (answers.start window) last old new (lines_of input)
+AnswersSome window why old new input = (last : answers.Session) × service.AnswersSome lines.reply lines.next refusal why (answers.start window) last old new input
+
+-- where no line is refused, the replies are what the definitions say of all that is read
+abbrev pub RepliesAreReplays : Type 0
+RepliesAreReplays =
+    (window : ℕ) (input : List ℕ) → replies (reply_or_refusal lines.reply refusal) (next_or_same lines.next) (answers.start window) (none_refused (lines_of input)) ≡ lines.replay_with window input

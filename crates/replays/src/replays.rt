@@ -1,10 +1,7 @@
 //! Replays.
-ghost use Rattle.std.specs.Prelude.{◌≡◌, OnOk, OnErr, IfErr, IfSome};
-ghost use Rattle.std.specs.Io.KnownBytes.{Appends};
+ghost use Rattle.std.specs.Prelude.{OnOk, IfErr, IfSome};
 ghost use Rattle.definitions.specs.Replies.{default_window};
-ghost use Rattle.line_protocol.specs.Lines as lines;
-ghost use Rattle.line_service.specs.Replies.{AppendsBeginning};
-ghost use Rattle.replays.specs.Replays.{AnswersSome};
+ghost use Rattle.replays.specs.Replays.{AnswersAll, AnswersSome};
 
 use line_service::RunFault;
 use session::Session;
@@ -18,18 +15,17 @@ const DEFAULT_WINDOW: usize = 1024;
 /// and nothing else. Each reply is flushed before the next line is waited for. The last `window` changes of each kind
 /// are recorded for watches and lists of earlier revisions.
 ///
-/// At an error a beginning of all the replies was written: no line after the one at which the error came is answered.
-/// The replies to those before it were written whole.
+/// A line for which there is no memory is answered 503, by a line that takes none, and changes nothing; sent again it may get its reply.
+///
+/// At an error no line after the one at which the error came is answered, and what those before it were answered was written whole.
+/// Running out of memory is an error only where a line could not be read, or before the first.
 pub fn replay_with<R: BufRead, W: Write>(
     alloc: Global,
     window: usize,
     reader: &mut R,
     writer: &mut W,
 ) -> Result<(), RunFault>
-    ensures ok { OnOk result (IfSome (R.remaining reader.old) (λ input.
-        Appends (W.contents writer.old) (W.contents writer.new) (lines.replay_with window input))) }
-    ensures err { OnErr result (IfSome (R.remaining reader.old) (λ input.
-        AppendsBeginning (W.contents writer.old) (W.contents writer.new) (lines.replay_with window input))) }
+    ensures ok { OnOk result (IfSome (R.remaining reader.old) (AnswersAll window (W.contents writer.old) (W.contents writer.new))) }
     ensures ended { IfErr result (λ fault. IfSome (R.remaining reader.old) (AnswersSome window fault (W.contents writer.old) (W.contents writer.new))) }
 {
     match Session::new(alloc, window) {
@@ -44,10 +40,7 @@ pub fn replay<R: BufRead, W: Write>(
     reader: &mut R,
     writer: &mut W,
 ) -> Result<(), RunFault>
-    ensures ok { OnOk result (IfSome (R.remaining reader.old) (λ input.
-        Appends (W.contents writer.old) (W.contents writer.new) (lines.replay input))) }
-    ensures err { OnErr result (IfSome (R.remaining reader.old) (λ input.
-        AppendsBeginning (W.contents writer.old) (W.contents writer.new) (lines.replay input))) }
+    ensures ok { OnOk result (IfSome (R.remaining reader.old) (AnswersAll default_window (W.contents writer.old) (W.contents writer.new))) }
     ensures ended { IfErr result (λ fault. IfSome (R.remaining reader.old) (AnswersSome default_window fault (W.contents writer.old) (W.contents writer.new))) }
 {
     replay_with(alloc, DEFAULT_WINDOW, reader, writer)

@@ -8,17 +8,10 @@ use Rattle.httparse.specs.Grammar.{RequestHead, ReadsRequest, NeverHasRequest, H
 use Rattle.httparse.specs.Spans.{IsRequestAt}
 use Rattle.httparse.proofs.GrammarLemmas.{request_unique, ReadsRequest-append}
 use Rattle.connections.specs.Connections.{longest_head, IsWithinLimits, IsHeadTooLarge, Asks}
+use Rattle.connections.proofs.Staying.{never_after, too_large_after}
 use Rattle.request_heads.specs.Laws.{FoundHeadsAsk}
 use Rattle.request_heads.specs.Reading.{Reads}
 use Rattle.request_heads.specs.declared.found.Found.TheVariants as found
-
-never_after : (bytes more : List ℕ) → NeverHasRequest bytes → NeverHasRequest (bytes ++ more)
-never_after bytes more never rest h left reads = never (more ++ rest) h left (subst (λ b. ReadsRequest b h left) (append_assoc bytes more rest) reads)
-
-too_large_after : (bytes more : List ℕ) → IsHeadTooLarge bytes → IsHeadTooLarge (bytes ++ more)
-too_large_after bytes more (inl (long, none)) =
-    inl (omega (arith, long, length-append bytes more), subst HasNoRequest (sym (take-append-le longest_head bytes more long)) none)
-too_large_after bytes more (inr (front, rest, e, h, reads, many)) = inr (front, rest ++ more, ap (λ b. b ++ more) e ∙ append_assoc front rest more, h, reads, many)
 
 -- two heads at the same place are one
 same_limits : (bytes : List ℕ) (fields : List HeaderSpan) (spans : RequestSpans) (h k : RequestHead) → IsRequestAt bytes fields spans h → IsRequestAt bytes fields spans k

@@ -85,6 +85,25 @@ fn look_at_end(bytes: &[u8]) -> Found
     }
 }
 
+/// Returns what bytes begin with that have come so far: a whole head, what is no head whatever follows, a head that is too large, or
+/// a part of a head, which more may follow. It takes no memory.
+pub fn find_head(bytes: &[u8], fields: &mut [HeaderSpan]) -> Found
+    requires room { length fields.old ≡ most_fields }
+    requires limit { length bytes.now ≤ longest_head }
+    ensures { IsFound bytes.now fields.new result }
+{
+    match look(bytes, fields) {
+        Some(found) => found,
+        None => {
+            if bytes.len() < LONGEST_HEAD {
+                look_at_end(bytes)
+            } else {
+                Found::TooLarge
+            }
+        }
+    }
+}
+
 /// Reads up to the end of a head, onto what has been read of it before, and returns what the bytes begin with. What is read
 /// beyond the head is what follows it. It is read in pieces, of up to 4,096 bytes, and nothing is read once it is clear what
 /// the bytes begin with: a line that can be part of no head is found at once.

@@ -8,6 +8,7 @@ use keys::Fault;
 use line_service::LineService;
 use meta::Write;
 use reply::Reply;
+use reply_lines::no_memory_line;
 use reply_lines::lines::{
     change_lines, fault_line, initial_lines, line, refusal_line, success_line,
 };
@@ -278,16 +279,24 @@ impl Session {
 }
 
 impl LineService for Session {
+    ghost use Rattle.std.specs.Prelude.{Some};
+    ghost use Rattle.reply_lines.specs.Shown.{no_memory_line};
     ghost use Rattle.session.specs.SessionStates.{reply_by_state, next_state};
 
     ghost reply = { reply_by_state };
 
     ghost next = { next_state };
 
+    ghost refusal = { λ line. Some no_memory_line };
+
     fn serve(&mut self, alloc: Global, line: &[u8]) -> Result<Vec<u8>, AllocError> {
         if line.is_empty() {
             return Ok(Vec::new(alloc));
         }
         self.serve_text(alloc, line)
+    }
+
+    fn refused(&self, _line: &[u8]) -> Option<&'static [u8]> {
+        Some(no_memory_line())
     }
 }

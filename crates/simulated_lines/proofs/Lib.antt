@@ -1,3 +1,2 @@
-pub mod Alongside
 pub mod Following
 pub mod Simulated

@@ -2,13 +2,14 @@
 use Rattle.std.proofs.Common.{◌≡◌, ℕ, List, Vec, Global, Result, Ok, Err, IfOk, OnOk, OnErr, false, true, ap, ◌∙◌}
 use Rattle.std.specs.Result.{IsErr}
 use Rattle.reconciling.specs.ControlPlanes.{Step}
+use Rattle.reconciling.specs.Outcomes.{Outcome}
 use Rattle.reconciling.specs.OutcomeTexts.{outcome_text}
 use Rattle.simulations.specs.SimulationStates.{told_by_stored, stored_after}
 use Rattle.world.specs.WorldStates.{WorldState, step}
 
-pub told_of_step : (w : WorldState) (text told : List ℕ) (s t : Step) → text ≡ told → told ≡ outcome_text (step w s).outcome → s ≡ t → text ≡ told_by_stored w t
+pub told_of_step : (w : WorldState) (text : List ℕ) (o : Outcome) (s t : Step) → text ≡ outcome_text o → o ≡ (step w s).outcome → s ≡ t → text ≡ told_by_stored w t
 unfolding told_by_stored
-told_of_step w text told s t written is same = written ∙ is ∙ ap (λ (r : Step). outcome_text (step w r).outcome) same
+told_of_step w text o s t written is same = written ∙ ap outcome_text is ∙ ap (λ (r : Step). outcome_text (step w r).outcome) same
 
 pub world_of_step : (w v : WorldState) (s t : Step) → v ≡ (step w s).world → s ≡ t → v ≡ stored_after w t
 unfolding stored_after

@@ -1,12 +1,14 @@
 -- What follows for simulations: one whose world stands for a control plane answers as that does, and what is written for all lines is
 -- what the definitions say.
 use Rattle.std.specs.Prelude.{◌≡◌, ℕ, List, Option, None}
-use Rattle.line_service.specs.Replies.{lines_of, replies, EndsEarly}
+use Rattle.line_service.specs.Replies as service
+use Rattle.line_service.specs.Replies.{lines_of, replies, none_refused, reply_or_refusal, next_or_same}
 use Rattle.line_service.specs.declared.fault.RunFault.{RunFault}
 use Rattle.reconciling.specs.ControlPlanes.{ControlPlane}
 use Rattle.reconciling.specs.StepLines.{simulate}
 use Rattle.simulated_lines.specs.Lines.{FollowsBy}
 use Rattle.simulated_lines.specs.Planes.{reply_by_plane, next_plane}
+use Rattle.simulations.specs.Refusals.{refusal}
 use Rattle.simulations.specs.SimulationStates.{reply_by_stored, next_stored}
 use Rattle.world.specs.Standing.{StandsFor}
 use Rattle.world.specs.WorldStates.{WorldState}
@@ -20,11 +22,16 @@ abbrev pub SimulationsFollow : Type 0
 SimulationsFollow =
     (s : Option WorldState) (p : Option ControlPlane) (line : List ℕ) → Follows s p → (reply_by_stored s line ≡ reply_by_plane p line) × Follows (next_stored s line) (next_plane p line)
 
--- the replies to all lines are what is written for all that is read
+-- where no line is refused, the replies are what the definitions say of all that is read
 abbrev pub RepliesAreSimulated : Type 0
-RepliesAreSimulated = (input : List ℕ) → replies reply_by_plane next_plane None (lines_of input) ≡ simulate input
+RepliesAreSimulated = (input : List ℕ) → replies (reply_or_refusal reply_by_plane refusal) (next_or_same next_plane) None (none_refused (lines_of input)) ≡ simulate input
 
--- a simulation has answered some lines of the input, from the first on, and no others; their replies were appended: all of them, unless
--- writing failed, and then all but the last one's and a beginning of that
+-- a simulation has answered all lines of the input: what was appended is the reply to each, or for some requests that there was no memory,
+-- and these changed nothing
+abbrev pub AnswersAll : Option (List ℕ) → Option (List ℕ) → List ℕ → Type 0
+AnswersAll old new input = (last : Option ControlPlane) × service.AnswersAll reply_by_plane next_plane refusal None last old new input
+
+-- it has answered so some of them, from the first on, and no others: all of that was appended, unless writing failed, and then all but the
+-- last one's and a beginning of that
 abbrev pub AnswersSome : RunFault → Option (List ℕ) → Option (List ℕ) → List ℕ → Type 0
-AnswersSome why old new input = (last : Option ControlPlane) × EndsEarly reply_by_plane next_plane why None last old new (lines_of input)
+AnswersSome why old new input = (last : Option ControlPlane) × service.AnswersSome reply_by_plane next_plane refusal why None last old new input

@@ -6,7 +6,7 @@ pub fn simulations_follow()
     ensures { SimulationsFollow }
 {}
 
-/// What is written for all lines is what the definitions say of all that is read.
+/// Where no line is refused for want of memory, what is written for all lines is what the definitions say of all that is read.
 pub fn replies_are_simulated()
     ensures { RepliesAreSimulated }
 {}

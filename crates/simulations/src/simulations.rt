@@ -1,26 +1,30 @@
 //! A simulated control plane that answers lines.
-ghost use Rattle.std.specs.Prelude.{◌≡◌, IfOk, OnOk, OnErr, None};
+ghost use Rattle.std.specs.Prelude.{◌≡◌, IfOk, OnOk, OnErr, None, option_map};
 ghost use Rattle.reconciling.specs.StepLines.{step_asked};
 ghost use Rattle.outcome_lines.specs.Ready.{IsReady};
+ghost use Rattle.simulations.specs.Refusals.{of_step};
+ghost use Rattle.steps.specs.PlaneSteps.{plane_step_of};
 ghost use Rattle.simulations.specs.SimulationStates.{told_by_stored, stored_after, first_text, first_stored};
-ghost use Rattle.world.specs.Told.{text_of};
+ghost use Rattle.reconciling.specs.OutcomeTexts.{outcome_text};
+ghost use Rattle.world.specs.Outcomes.{outcome_of};
 
 use line_service::LineService;
 use outcome_lines::{ready, told};
+use reply_lines::no_memory_line;
 use simulated_lines::step_asked;
 use std::alloc::{AllocError, Global};
 use std::marker::Model;
-use steps::Config;
-use world::{Told, World};
+use steps::{Config, PlaneStep, Step};
+use world::{Outcome, World};
 
-/// Returns the line by which a step is told. Where it does not come made, it is written into an empty line with room for it.
-fn line_of(line: Vec<u8>, step: Told) -> Vec<u8>
+/// Returns the line by which it is told what came of a step. Where it does not come made, it is written into an empty line with room for it.
+fn line_of(line: Vec<u8>, outcome: Outcome) -> Vec<u8>
     requires ready { IsReady line }
-    ensures { result.items ≡ text_of step }
+    ensures { result.items ≡ outcome_text (outcome_of outcome) }
 {
-    match step {
-        Told::InCluster(outcome) => told(line, outcome),
-        Told::Line(made) => made,
+    match outcome {
+        Outcome::InCluster(outcome) => told(line, outcome),
+        Outcome::Work(told) => told.line,
     }
 }
 
@@ -32,8 +36,8 @@ fn take(alloc: Global, world: &mut World, line: &[u8]) -> Result<Vec<u8>, AllocE
     ensures err { OnErr result (world.new ≡ world.old) }
 {
     let text = ready(alloc)?;
-    let told = world.step(alloc, step_asked(line))?;
-    Ok(line_of(text, told))
+    let outcome = world.step(alloc, step_asked(line))?;
+    Ok(line_of(text, outcome))
 }
 
 /// Takes the step that a line asks for in an opening world whose sizes nobody said, and returns that world and what is told. The error is
@@ -45,6 +49,16 @@ fn first_step(alloc: Global, line: &[u8]) -> Result<(World, Vec<u8>), AllocError
     let mut world = World::open(alloc, Config::default())?;
     let text = take(alloc, &mut world, line)?;
     Ok((world, text))
+}
+
+/// Returns what is told where there was no memory for a step, or none where no line is answered after it. It takes no memory.
+fn refusal_of(step: PlaneStep<'_>) -> Option<&'static [u8]>
+    ensures { option_map (λ text. text.now) result ≡ of_step (plane_step_of step.entry) }
+{
+    match step {
+        PlaneStep::InCluster(Step::Request(_)) => Some(no_memory_line()),
+        _ => None,
+    }
 }
 
 /// A simulated control plane, which begins with the first line that is not empty.
@@ -107,11 +121,14 @@ impl Simulation {
 }
 
 impl LineService for Simulation {
+    ghost use Rattle.simulations.specs.Refusals.{refusal};
     ghost use Rattle.simulations.specs.SimulationStates.{reply_by_stored, next_stored};
 
     ghost reply = { reply_by_stored };
 
     ghost next = { next_stored };
+
+    ghost refusal = { refusal };
 
     fn serve(&mut self, alloc: Global, line: &[u8]) -> Result<Vec<u8>, AllocError> {
         if line.is_empty() {
@@ -120,6 +137,13 @@ impl LineService for Simulation {
         match &mut self.world {
             Some(world) => take(alloc, world, line),
             None => self.begin(alloc, line),
+        }
+    }
+
+    fn refused(&self, line: &[u8]) -> Option<&'static [u8]> {
+        match Config::read(line) {
+            Some(_) => None,
+            None => refusal_of(step_asked(line)),
         }
     }
 }

@@ -2,7 +2,7 @@
 use Rattle.std.proofs.Common.{◌≡◌, refl, sym, ap, subst, ◌∙◌, ℕ, List, [], ◌∷◌, ◌++◌, Result, Ok, Err, IfOk, IfErr, OnOk, append-nil, append_assoc}
 use Rattle.reconciling.specs.ControlPlanes as planes
 use Rattle.reconciling.specs.ControlPlanes.{ControlPlane, Step}
-use Rattle.reconciling.specs.OutcomeTexts.{outcome_text}
+use Rattle.reconciling.specs.Outcomes.{Outcome}
 use Rattle.reconciling_laws.proofs.IssuedRuns.{run_one}
 use Rattle.traces.specs.Taken.{Taken, begun, opening, plane, followed, followed_by_all}
 use Rattle.world.proofs.StoredStood as stored
@@ -54,8 +54,8 @@ traced_after w v s (Err e) moved = tt
 
 -- ---- what is told
 
-pub told_of_plane : {X E : Type 0} (text : X → List ℕ) (w : WorldState) (s : Step) (r : Result X E) → Stands w → IfOk r (λ x. text x ≡ outcome_text (step w s).outcome)
-    → IfOk r (λ x. text x ≡ outcome_text (planes.step (plane w.trace) s).outcome)
+pub told_of_plane : {X E : Type 0} (came : X → Outcome) (w : WorldState) (s : Step) (r : Result X E) → Stands w → IfOk r (λ x. came x ≡ (step w s).outcome)
+    → IfOk r (λ x. came x ≡ (planes.step (plane w.trace) s).outcome)
 unfolding Stands
-told_of_plane text w s (Ok x) is told = told ∙ ap outcome_text (step_follows w (plane w.trace) s is).1
-told_of_plane text w s (Err e) is told = tt
+told_of_plane came w s (Ok x) is told = told ∙ (step_follows w (plane w.trace) s is).1
+told_of_plane came w s (Err e) is told = tt

@@ -13,7 +13,6 @@ use Rattle.reconciling.specs.Managers as managers
 use Rattle.reconciling.specs.Managers.{Manager, Action, Acted, act}
 use Rattle.reconciling.specs.Outcomes as outcomes
 use Rattle.reconciling.specs.Outcomes.{time}
-use Rattle.reconciling.specs.OutcomeTexts.{outcome_text}
 use Rattle.reconciling.specs.PodObservations.{observations}
 use Rattle.cluster.specs.Changes.{without_oldest}
 use Rattle.cluster.specs.ClusterStates as clusters
@@ -85,12 +84,11 @@ told_in : (w : StoredState) (k : Kind) (n : Notification) (ns : List Notificatio
 told_in w k n [] at = absurd (none_oldest n at)
 told_in w k n (x ∷ ns) at = ap (λ y. outcomes.handled k (length (owed w.cluster y))) (same_oldest n x ns at)
 
-pub handled_told : (w v : StoredState) (k : Kind) (n : Notification) (keys : List WorkKey) (text : List ℕ) (count : ℕ) → w ≡ v → Some n ≡ slice_get (follower k w.cluster).unhandled 0 → count ≡ length keys
-    → map work_key_of keys ≡ owed w.cluster n → text ≡ outcome_text (outcomes.handled k count) → text ≡ outcome_text (handle_in k (follower k v.cluster).unhandled v).outcome
-handled_told w v k n keys text count same at counts owes told =
+pub handled_told : (w v : StoredState) (k : Kind) (n : Notification) (keys : List WorkKey) (o : outcomes.Outcome) (count : ℕ) → w ≡ v → Some n ≡ slice_get (follower k w.cluster).unhandled 0 → count ≡ length keys
+    → map work_key_of keys ≡ owed w.cluster n → o ≡ outcomes.handled k count → o ≡ (handle_in k (follower k v.cluster).unhandled v).outcome
+handled_told w v k n keys o count same at counts owes told =
     let all : count ≡ length (owed w.cluster n) = counts ∙ sym (length-map keys work_key_of) ∙ ap length owes in
-    told ∙ ap (λ c. outcome_text (outcomes.handled k c)) all ∙ ap outcome_text (told_in w k n (follower k w.cluster).unhandled at)
-    ∙ ap (λ (u : StoredState). outcome_text (handle_in k (follower k u.cluster).unhandled u).outcome) same
+    told ∙ ap (outcomes.handled k) all ∙ told_in w k n (follower k w.cluster).unhandled at ∙ ap (λ (u : StoredState). (handle_in k (follower k u.cluster).unhandled u).outcome) same
 
 none_in : (w : StoredState) (k : Kind) (ns : List Notification) → None ≡ slice_get ns 0 → w ≡ (handle_in k ns w).world
 none_in w k [] at = refl

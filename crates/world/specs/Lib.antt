@@ -3,4 +3,4 @@ pub mod StoredStanding
 pub mod WorldStates
 pub mod Standing
 pub mod Headline
-pub mod Told
+pub mod Outcomes

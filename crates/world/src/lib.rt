@@ -6,9 +6,9 @@
 //! version replaced exactly that version.
 #![tactic(auto)]
 
+pub mod outcomes;
 mod stored_worlds;
-pub mod told;
 pub mod worlds;
 
-pub use told::Told;
+pub use outcomes::Outcome;
 pub use worlds::World;

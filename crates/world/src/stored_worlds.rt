@@ -6,13 +6,13 @@ ghost use Rattle.reconciling.specs.PodObservations.{observations};
 ghost use Rattle.work_keys.specs.WorkKeys.{work_key_of};
 ghost use Rattle.world.specs.StoredStates.{owed};
 
-use crate::told::Told;
+use crate::outcomes::Outcome;
 use cluster::Cluster;
 use control_desk::Observation;
 use definitions::kinds::Kind;
 use followers::Notification;
 use informer::keys_of;
-use managers::{Manager, lines};
+use managers::{Manager, ToldOutcome, WorkOutcome};
 use pod_observations::{object_in, observations};
 use revisions::Journal;
 use std::alloc::{AllocError, Global};
@@ -77,9 +77,8 @@ impl StoredWorld {
     ghost use Rattle.steps.specs.Actions.{action_of};
     ghost use Rattle.steps.specs.PlaneSteps.{plane_step_of};
     ghost use Rattle.steps.specs.Steps.{step_of};
-    ghost use Rattle.reconciling.specs.OutcomeTexts.{outcome_text};
     ghost use Rattle.worker_slots.specs.Seen.{issued_of};
-    ghost use Rattle.world.specs.Told.{text_of};
+    ghost use Rattle.world.specs.Outcomes.{outcome_of};
     ghost use Rattle.world.specs.StoredStates.{opened, step, step_cluster, handle_in, after_action, tick_in};
 
     /// Returns the opening world, in which nothing has happened yet. The error is running out of memory.
@@ -93,62 +92,70 @@ impl StoredWorld {
     }
 
     /// Takes a step of the cluster, of which a restart is one of the manager too. The error is running out of memory, and changes nothing.
-    fn step_cluster(&mut self, alloc: Global, wanted: Step<'_>) -> Result<Told, AllocError>
+    fn step_cluster(&mut self, alloc: Global, wanted: Step<'_>) -> Result<Outcome, AllocError>
         ensures after { OnOk result (self.new ≡ (step_cluster (step_of wanted.entry) self.old).world) }
-        ensures told { IfOk result (λ t. text_of t ≡ outcome_text (step_cluster (step_of wanted.entry) self.old).outcome) }
+        ensures told { IfOk result (λ o. outcome_of o ≡ (step_cluster (step_of wanted.entry) self.old).outcome) }
         ensures err { OnErr result (self.new ≡ self.old) }
     {
         let outcome = self.cluster.step(alloc, wanted)?;
         if let Step::Restart = wanted {
             self.manager.restart(alloc);
         }
-        Ok(Told::InCluster(outcome))
+        Ok(Outcome::InCluster(outcome))
     }
 
     /// Handles the oldest published change of a kind, if one waits: what it shows of expected pods is noted, and the keys that it owes are
     /// added. The error is running out of memory, and changes nothing.
-    fn handle(&mut self, alloc: Global, kind: Kind) -> Result<Told, AllocError>
+    fn handle(&mut self, alloc: Global, kind: Kind) -> Result<Outcome, AllocError>
         ensures after { OnOk result (self.new ≡ (handle_in kind (follower kind self.old.cluster).unhandled self.old).world) }
-        ensures told { IfOk result (λ t. text_of t ≡ outcome_text (handle_in kind (follower kind self.old.cluster).unhandled self.old).outcome) }
+        ensures told { IfOk result (λ o. outcome_of o ≡ (handle_in kind (follower kind self.old.cluster).unhandled self.old).outcome) }
         ensures err { OnErr result (self.new ≡ self.old) }
     {
         let Some(change) = self.cluster.oldest(kind) else {
-            return Ok(Told::Line(lines::no_step(alloc)?));
+            return Ok(Outcome::Work(ToldOutcome::of(alloc, WorkOutcome::NoStep)?));
         };
         let keys = owed(alloc, &self.cluster, change)?;
         let observations = shown(alloc, change)?;
-        let line = lines::handled(alloc, kind, keys.len() as u64)?;
+        let owing = WorkOutcome::Handled {
+            kind,
+            keys: keys.len() as u64,
+        };
+        let told = ToldOutcome::of(alloc, owing)?;
         self.manager
             .observe(observations.as_slice(), keys.as_slice())?;
         self.cluster.remove_oldest(kind);
-        Ok(Told::Line(line))
+        Ok(Outcome::Work(told))
     }
 
     /// Has a worker act, if the action is open. The error is running out of memory, and changes nothing.
-    fn work(&mut self, alloc: Global, worker: u64, action: Action) -> Result<Told, AllocError>
+    fn work(&mut self, alloc: Global, worker: u64, action: Action) -> Result<Outcome, AllocError>
         ensures after { OnOk result (self.new ≡ (after_action (act (client_of self.old.cluster) worker (action_of action) self.old.manager) self.old).world) }
-        ensures told { IfOk result (λ t. text_of t ≡ outcome_text (after_action (act (client_of self.old.cluster) worker (action_of action) self.old.manager) self.old).outcome) }
+        ensures told { IfOk result (λ o. outcome_of o ≡ (after_action (act (client_of self.old.cluster) worker (action_of action) self.old.manager) self.old).outcome) }
         ensures err { OnErr result (self.new ≡ self.old) }
     {
-        let line = self.manager.act(alloc, &mut self.cluster, worker, action)?;
-        Ok(Told::Line(line))
+        let told = self.manager.act(alloc, &mut self.cluster, worker, action)?;
+        Ok(Outcome::Work(told))
     }
 
     /// Lets so many milliseconds pass, where the last moment is not passed by it. The error is running out of memory, and changes nothing.
-    fn tick(&mut self, alloc: Global, milliseconds: u64) -> Result<Told, AllocError>
+    fn tick(&mut self, alloc: Global, milliseconds: u64) -> Result<Outcome, AllocError>
         ensures after { OnOk result (self.new ≡ (tick_in milliseconds self.old).world) }
-        ensures told { IfOk result (λ t. text_of t ≡ outcome_text (tick_in milliseconds self.old).outcome) }
+        ensures told { IfOk result (λ o. outcome_of o ≡ (tick_in milliseconds self.old).outcome) }
         ensures err { OnErr result (self.new ≡ self.old) }
     {
-        let line = self.manager.tick(alloc, milliseconds)?;
-        Ok(Told::Line(line))
+        let told = self.manager.tick(alloc, milliseconds)?;
+        Ok(Outcome::Work(told))
     }
 
     /// Takes a step, and returns what is told of it. The error is running out of memory, and changes nothing.
     #[tactic(auto, unfolding(crate::specs::StoredStates::step))]
-    pub(crate) fn take(&mut self, alloc: Global, wanted: PlaneStep<'_>) -> Result<Told, AllocError>
+    pub(crate) fn take(
+        &mut self,
+        alloc: Global,
+        wanted: PlaneStep<'_>,
+    ) -> Result<Outcome, AllocError>
         ensures after { OnOk result (self.new ≡ (step self.old (plane_step_of wanted.entry)).world) }
-        ensures told { IfOk result (λ t. text_of t ≡ outcome_text (step self.old (plane_step_of wanted.entry)).outcome) }
+        ensures told { IfOk result (λ o. outcome_of o ≡ (step self.old (plane_step_of wanted.entry)).outcome) }
         ensures err { OnErr result (self.new ≡ self.old) }
     {
         match wanted {

@@ -1,6 +1,6 @@
 //! Worlds.
+use crate::outcomes::Outcome;
 use crate::stored_worlds::StoredWorld;
-use crate::told::Told;
 use cluster::Stopped;
 use revisions::Journal;
 use std::alloc::{AllocError, Global};
@@ -34,17 +34,17 @@ impl World {
     ghost use Rattle.std.specs.Prelude.{◌≡◌, ◌<◌, IfOk, IfErr, OnOk, OnErr, length, map, take};
     ghost use Rattle.std.specs.Arc.{arc_value};
     ghost use Rattle.reconciling.specs.ControlPlanes as planes;
-    ghost use Rattle.reconciling.specs.OutcomeTexts.{outcome_text};
     ghost use Rattle.steps.specs.PlaneSteps.{plane_step_of};
     ghost use Rattle.traces.specs.Taken.{plane, followed, followed_by_all};
     ghost use Rattle.worker_slots.specs.Seen.{issued_of};
     ghost use Rattle.world.specs.Headline.{Headline};
-    ghost use Rattle.world.specs.Told.{text_of};
+    ghost use Rattle.world.specs.Outcomes.{outcome_of};
     ghost use Rattle.world.specs.WorldStates.{opened, step, run};
 
     /// Returns the opening world, in which nothing has happened yet, and which took no step. The error is running out of memory.
     pub fn open(alloc: Global, config: Config) -> Result<World, AllocError>
-        ensures { IfOk result (λ w. w ≡ opened config.window config.workers) }
+        ensures opened { IfOk result (λ w. w ≡ opened config.window config.workers) }
+        ensures headline { IfOk result Headline }
     {
         Ok(World {
             stored: StoredWorld::open(alloc, config)?,
@@ -53,20 +53,20 @@ impl World {
     }
 
     /// Takes a step of what is stored, and notes it. The error is running out of memory, and changes nothing.
-    fn take(&mut self, alloc: Global, wanted: PlaneStep<'_>) -> Result<Told, AllocError>
+    fn take(&mut self, alloc: Global, wanted: PlaneStep<'_>) -> Result<Outcome, AllocError>
         ensures after { OnOk result (self.new ≡ (step self.old (plane_step_of wanted.entry)).world) }
-        ensures told { IfOk result (λ t. text_of t ≡ outcome_text (step self.old (plane_step_of wanted.entry)).outcome) }
+        ensures told { IfOk result (λ o. outcome_of o ≡ (step self.old (plane_step_of wanted.entry)).outcome) }
         ensures err { OnErr result (self.new ≡ self.old) }
     {
-        let told = self.stored.take(alloc, wanted)?;
+        let outcome = self.stored.take(alloc, wanted)?;
         self.trace = self.trace.followed(&wanted);
-        Ok(told)
+        Ok(outcome)
     }
 
-    /// Takes a step, and returns what is told of it. The error is running out of memory, and changes nothing.
+    /// Takes a step, and returns what came of it. The error is running out of memory, and changes nothing.
     ///
-    /// What is told is what the control plane tells that was opened with these sizes, after all steps that were taken since, whichever
-    /// calls took them; and the world stands for what it is after this step too.
+    /// What comes of it is what comes of it in the control plane that was opened with these sizes, after all steps that were taken since,
+    /// whichever calls took them; and the world stands for what it is after this step too.
     ///
     /// Over all these steps: each published map is the server's list at the revision published with it, and that falls by a restart
     /// alone. No key is in two workers' hands, and a turn begins with the head of the queue. Each command that was issued is the next one
@@ -77,11 +77,11 @@ impl World {
     ///
     /// `after` and `traced` say what becomes of the world and of the steps taken, and `stands` in `headline` what they have to do with
     /// one another: the other clauses are about the control plane after these steps.
-    pub fn step(&mut self, alloc: Global, wanted: PlaneStep<'_>) -> Result<Told, AllocError>
+    pub fn step(&mut self, alloc: Global, wanted: PlaneStep<'_>) -> Result<Outcome, AllocError>
         ensures after { OnOk result (self.new ≡ (step self.old (plane_step_of wanted.entry)).world) }
         ensures traced { OnOk result (self.new.trace ≡ followed self.old.trace (plane_step_of wanted.entry)) }
-        ensures told { IfOk result (λ t. text_of t ≡ outcome_text (step self.old (plane_step_of wanted.entry)).outcome) }
-        ensures tells { IfOk result (λ t. text_of t ≡ outcome_text (planes.step (plane self.old.trace) (plane_step_of wanted.entry)).outcome) }
+        ensures told { IfOk result (λ o. outcome_of o ≡ (step self.old (plane_step_of wanted.entry)).outcome) }
+        ensures tells { IfOk result (λ o. outcome_of o ≡ (planes.step (plane self.old.trace) (plane_step_of wanted.entry)).outcome) }
         ensures headline { Headline self.new }
         ensures err { OnErr result (self.new ≡ self.old) }
     {
@@ -120,23 +120,29 @@ impl World {
 
     /// Returns for each worker the turn that it has in hand, or none. It takes no memory.
     pub fn hands(&self) -> &Slots
-        ensures { result.now ≡ self.now.stored.manager.turns }
+        ensures turns { result.now ≡ self.now.stored.manager.turns }
+        ensures headline { Headline self.now }
     {
+        let _stored = &self.stored;
         self.stored.hands()
     }
 
     /// Returns all commands that were issued since the world was opened, the oldest first, each beside the turn that its worker then had in
     /// hand, and the answer. It takes no memory.
     pub fn issued(&self) -> &[Arc<Issued, Global>]
-        ensures { map (λ i. issued_of (arc_value i)) result.now ≡ self.now.stored.manager.issued }
+        ensures issued { map (λ i. issued_of (arc_value i)) result.now ≡ self.now.stored.manager.issued }
+        ensures headline { Headline self.now }
     {
+        let _stored = &self.stored;
         self.stored.issued()
     }
 
     /// Returns the journal of all writes, the oldest first. It takes no memory.
     pub fn journal(&self) -> &Journal
-        ensures { result.now ≡ self.now.stored.cluster.journal }
+        ensures journal { result.now ≡ self.now.stored.cluster.journal }
+        ensures headline { Headline self.now }
     {
+        let _stored = &self.stored;
         self.stored.journal()
     }
 }

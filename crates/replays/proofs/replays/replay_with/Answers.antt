@@ -1,22 +1,14 @@
-use Rattle.std.specs.Io.KnownBytes.{Appends}
-use Rattle.line_service.specs.Replies.{AppendsBeginning}
-use Rattle.replays.proofs.Runs.{along-ok, along-err, along-ended, none-answered}
+use Rattle.replays.proofs.Runs.{all-replayed, some-replayed, none-answered}
 use Rattle.replays.proofs.replays.replay_with.Goals as goal
 
 pub returns-in-Ok-clause-ok : goal.returns-in-Ok-clause-ok
 returns-in-Ok-clause-ok g c =
-    along-ok c.run.result (Appends (g.W.Write.contents c.args.writer.now) (g.W.Write.contents c.run.new.writer)) c.args.window c.in-Ok.session c.in-Ok.ensures
-    (g.R.Read.remaining c.args.reader.now) c.run.ensures.ok
-
-pub returns-in-Ok-clause-err : goal.returns-in-Ok-clause-err
-returns-in-Ok-clause-err g c =
-    along-err c.run.result (AppendsBeginning (g.W.Write.contents c.args.writer.now) (g.W.Write.contents c.run.new.writer)) c.args.window c.in-Ok.session c.in-Ok.ensures
-    (g.R.Read.remaining c.args.reader.now) c.run.ensures.err
+    all-replayed c.run.result c.args.window c.in-Ok.session _ c.in-Ok.ensures (g.R.Read.remaining c.args.reader.now) (g.W.Write.contents c.args.writer.now) (g.W.Write.contents c.run.new.writer) c.run.ensures.ok
 
 pub returns-in-Ok-clause-ended : goal.returns-in-Ok-clause-ended
 returns-in-Ok-clause-ended g c =
-    along-ended c.run.result c.args.window c.in-Ok.session _ c.in-Ok.ensures (g.R.Read.remaining c.args.reader.now) (g.W.Write.contents c.args.writer.now)
-    (g.W.Write.contents c.run.new.writer) c.run.ensures.ended
+    some-replayed c.run.result c.args.window c.in-Ok.session _ c.in-Ok.ensures (g.R.Read.remaining c.args.reader.now) (g.W.Write.contents c.args.writer.now) (g.W.Write.contents c.run.new.writer)
+    c.run.ensures.ended
 
 pub returns-in-Err-clause-ended : goal.returns-in-Err-clause-ended
 returns-in-Err-clause-ended g c = none-answered c.args.window (g.R.Read.remaining c.args.reader.now) (g.W.Write.contents c.args.writer.now)

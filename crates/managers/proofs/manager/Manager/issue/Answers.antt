@@ -3,7 +3,9 @@ use Rattle.reconciling.specs.Managers.{Manager}
 use Rattle.steps.specs.Actions.{delivery_of}
 use Rattle.managers.specs.Issuing.{coming_of}
 use Rattle.worker_slots.specs.Slots.{turn_of}
-use Rattle.managers.proofs.Issues.{slot_within, writes_it, manager_made, line_made, cluster_made}
+use Rattle.managers.proofs.Issues.{slot_within, writes_it, manager_made, told_made, cluster_made}
+use Rattle.managers.specs.Outcomes.{outcome_of}
+use Rattle.managers.specs.declared.told_outcomes.ToldOutcome.{ToldOutcome}
 use Rattle.managers.proofs.manager.Manager.issue.Goals as goal
 
 pub make-requires-clause-write : goal.make-requires-clause-write
@@ -24,9 +26,9 @@ returns-clause-ok c =
 
 pub returns-clause-told : goal.returns-clause-told
 returns-clause-told c =
-    line_made c.args.cluster.now c.args.worker (delivery_of c.args.delivery) c.in-Some.turn.now c.args.self.now (coming_of c.in-Some-2.issuing)
+    told_made c.args.cluster.now c.args.worker (delivery_of c.args.delivery) c.in-Some.turn.now c.args.self.now (coming_of c.in-Some-2.issuing)
     (subst (λ (m : Manager). turn_of c.args.worker m.turns ≡ Some c.in-Some.turn.now) c.self.view_is (sym c.in-Some.ensures)) (sym (ap (option_map coming_of) c.in-Some-2.is) ∙ c.in_ok-issuing.ensures)
-    c.make.result c.make.ensures.line
+    (λ (t : ToldOutcome). outcome_of t.outcome) c.make.result c.make.ensures.told
 
 pub returns-clause-cluster : goal.returns-clause-cluster
 returns-clause-cluster c =

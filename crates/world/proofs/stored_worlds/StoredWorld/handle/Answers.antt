@@ -2,6 +2,7 @@ use Rattle.std.proofs.Common.{map, ap, ◌∙◌}
 use Rattle.control_desk.specs.Seen.{observation_of}
 use Rattle.followers.specs.Notified.{notification_of}
 use Rattle.work_keys.specs.WorkKeys.{work_key_of}
+use Rattle.managers.specs.Outcomes.{outcome_of}
 use Rattle.world.proofs.Taken.{world_of, noted_as, handled_world, stands_handled, handled_told, none_handled}
 use Rattle.world.proofs.stored_worlds.StoredWorld.handle.Goals as goal
 
@@ -25,5 +26,5 @@ returns-clause-after c =
 
 pub returns-clause-told : goal.returns-clause-told
 returns-clause-told c =
-    handled_told (world_of c.self.inside.cluster c.self.inside.manager) c.args.self.now c.args.kind (notification_of c.in-Some.change.now) c.in_ok-keys.keys.items c.in_ok-line.line.items c.len.result
-    c.self.view_is c.in-Some.ensures (c.len.ensures ∙ c.in_ok-keys.keys.ok.0) c.in_ok-keys.ensures c.in_ok-line.ensures
+    handled_told (world_of c.self.inside.cluster c.self.inside.manager) c.args.self.now c.args.kind (notification_of c.in-Some.change.now) c.in_ok-keys.keys.items (outcome_of c.in_ok-told.told.outcome) c.len.result
+    c.self.view_is c.in-Some.ensures (c.len.ensures ∙ c.in_ok-keys.keys.ok.0) c.in_ok-keys.ensures (ap outcome_of c.in_ok-told.ensures)

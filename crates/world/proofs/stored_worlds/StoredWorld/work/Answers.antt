@@ -8,4 +8,4 @@ act-requires c = record { asked = asked (world_of c.self.inside.cluster c.self.i
 
 pub invariant_of-self-2 : goal.invariant_of-self-2
 invariant_of-self-2 c =
-    stands_acted (world_of c.self.inside.cluster c.self.inside.manager) c.args.worker (action_of c.args.action) c.act.new.cluster c.act.new.self c.in_ok-line.ensures.cluster c.in_ok-line.ensures.ok c.self.invariant
+    stands_acted (world_of c.self.inside.cluster c.self.inside.manager) c.args.worker (action_of c.args.action) c.act.new.cluster c.act.new.self c.in_ok-told.ensures.cluster c.in_ok-told.ensures.ok c.self.invariant

@@ -1,7 +1,7 @@
 //! A random run of a simulated cluster.
 use cluster::Cluster;
 use definitions::kinds::Kind;
-use followers::Outcome;
+use followers::ClusterOutcome;
 use meta::Member;
 use selector::View;
 use std::alloc::{AllocError, Global};
@@ -67,7 +67,7 @@ fn take(
     alloc: Global,
     cluster: &mut Cluster,
     numbers: &mut Numbers,
-) -> Result<Outcome, AllocError> {
+) -> Result<ClusterOutcome, AllocError> {
     match numbers.below(200) {
         0 => cluster.step(alloc, Step::Restart),
         1 | 2 => {
@@ -114,7 +114,7 @@ fn each_published_map_is_the_list_at_its_revision(rt: HostRuntime) -> Result<(),
     let mut numbers = Numbers { state: 1 };
     let mut published = 0_u64;
     for _ in 0..STEPS {
-        if let Outcome::Published(kind, _, _) = take(alloc, &mut cluster, &mut numbers)? {
+        if let ClusterOutcome::Published(kind, _, _) = take(alloc, &mut cluster, &mut numbers)? {
             published = published.saturating_add(1);
             assert!(rt; shows_list(alloc, &cluster, kind)?);
         }

@@ -1,0 +1,51 @@
+//! What a line is answered.
+ghost use Rattle.std.specs.Prelude.{◌≡◌, IfOk, IfErr, OnErr};
+ghost use Rattle.line_service.specs.Answers.{text_of, is_refusal};
+ghost use Rattle.line_service.specs.Replies.{MayBe, reply_or_refusal, next_or_same};
+
+use crate::fault::RunFault;
+use crate::service::LineService;
+use std::alloc::Global;
+
+/// What a line is answered.
+#[derive(Drop)]
+pub enum Answer {
+    /// Its reply.
+    Reply(Vec<u8>),
+    /// That there was no memory for it.
+    Refusal(&'static [u8]),
+}
+
+impl Answer {
+    /// Returns the text. It takes no memory.
+    pub(crate) fn text(&self) -> &[u8]
+        ensures { result.now ≡ text_of self.now }
+    {
+        match self {
+            Answer::Reply(text) => text.as_slice(),
+            Answer::Refusal(text) => text,
+        }
+    }
+}
+
+/// Answers a line: by its reply, or where there is no memory for it, by what tells so, and then nothing has changed. The error is that there
+/// is no memory, and nothing that tells so.
+pub(crate) fn take<S: LineService>(
+    alloc: Global,
+    service: &mut S,
+    line: &[u8],
+) -> Result<Answer, RunFault>
+    ensures text { IfOk result (λ a. text_of a ≡ reply_or_refusal S.reply S.refusal service.old (line.now, is_refusal a)) }
+    ensures state { IfOk result (λ a. service.new ≡ next_or_same S.next service.old (line.now, is_refusal a)) }
+    ensures may { IfOk result (λ a. MayBe S.refusal (line.now, is_refusal a)) }
+    ensures err { OnErr result (service.new ≡ service.old) }
+    ensures fault { IfErr result (λ fault. fault ≡ RunFault.Want) }
+{
+    match service.serve(alloc, line) {
+        Ok(reply) => Ok(Answer::Reply(reply)),
+        Err(_) => match service.refused(line) {
+            Some(text) => Ok(Answer::Refusal(text)),
+            None => Err(RunFault::Want),
+        },
+    }
+}
