@@ -1,12 +1,10 @@
 -- Which writes claim pods for a set: none but those of the ReplicaSet controller, and these claim what stood there since it was looked at.
 use Rattle.std.proofs.Common.{◌≡◌, ◌≤◌, ◌⊎◌, inl, inr, ◌+◌, ◌-◌, ◌&&◌, ℕ, List, [], ◌∷◌, ◌++◌, length, take, drop, Bool, true, false, cond, not, IfSome, Option, Some, None, refl, sym, ap, ◌∙◌, subst, append-nil, append_assoc, arith}
 use Rattle.std.proofs.lemmas.List.{take-append-le, drop-append-le, take-append-drop, drop_all, length-append}
-use Rattle.std.specs.List.{AllByRecursion}
 use Rattle.serde_json.specs.Data.{Data}
-use Rattle.definitions.proofs.PutLaws.{found-after_all, found-viewed, IsAscending-after_all}
 use Rattle.definitions.proofs.Truths.{both_true}
 use Rattle.definitions.specs.declared.kinds.Kind.TheVariants.{Pod}
-use Rattle.definitions.specs.History.{History, Entries, Write, write, writes, present, up_to, last_of, state, after_all, entries_at, found, viewed, list, unfiltered, in_view, seen}
+use Rattle.definitions.specs.History.{History, Entries, Write, write, writes, present, last_of, state, after_all, found, viewed, list, unfiltered, seen}
 use Rattle.definitions.specs.Keys.{Key}
 use Rattle.definitions.specs.Metadata.{uid}
 use Rattle.definitions.specs.Reached.{IsReached}
@@ -14,7 +12,6 @@ use Rattle.definitions.specs.SelectorValues.{is_some_and}
 use Rattle.definitions.specs.Verbs.{accept, write_of}
 use Rattle.laws.proofs.Past.{writes-append}
 use Rattle.laws.proofs.Traced.{stand}
-use Rattle.control.specs.Boards.{Observation}
 use Rattle.controllers.specs.Commands.{Command, create, update, update_status, delete, request_of}
 use Rattle.controllers.specs.Expectations.{Owner}
 use Rattle.controllers.specs.OwnerReferences.{is_text}
@@ -26,10 +23,13 @@ use Rattle.overshoot_laws.specs.Reserves.{is_controlled, born_after, born}
 use Rattle.overshoot_laws.specs.ShowLaws.{IsClaimed}
 use Rattle.overshoot_laws.proofs.Asking.{just, one_write}
 use Rattle.overshoot_laws.proofs.Births.{le_or}
+use Rattle.overshoot_laws.proofs.Bounding.{lists_show}
 use Rattle.overshoot_laws.proofs.Finishing.{now_is}
 use Rattle.overshoot_laws.proofs.KeptPods.{same_uid, in_pods}
 use Rattle.overshoot_laws.proofs.KeptReferences.{references_kept}
-use Rattle.overshoot_laws.proofs.TurnWrites.{Edits, edits_replace}
+use Rattle.overshoot_laws.proofs.LookedPods.{IsStanding}
+use Rattle.overshoot_laws.proofs.PodWrites.{Edits}
+use Rattle.overshoot_laws.proofs.TurnWrites.{edits_replace}
 
 -- ---- what is claimed
 
@@ -49,12 +49,9 @@ module _ (o : Owner) where
   abbrev pub ClaimsIn : List Write → ℕ → Type 0
   ClaimsIn ws at = (r : ℕ) → at ≤ r → r ≤ length ws + 1 → Claims (pods_after (take (r - 1) ws)) (take (r - 1) ws) (drop (r - 1) ws)
 
-  abbrev At : Entries → List Write → List Write → Type 0
-  At old before ws = Claims old before ws
-
   -- after the last of them there is none
   pub none_since : (ws : List Write) (at : ℕ) → length ws + 1 ≤ at → ClaimsIn ws at
-  none_since ws at far r low high = subst (At (pods_after (take (r - 1) ws)) (take (r - 1) ws)) (sym (drop_all (r - 1) ws (less (length ws) at r far low))) tt
+  none_since ws at far r low high = subst (λ z. Claims (pods_after (take (r - 1) ws)) (take (r - 1) ws) z) (sym (drop_all (r - 1) ws (less (length ws) at r far low))) tt
     where
       less : (n a r : ℕ) → n + 1 ≤ a → a ≤ r → n ≤ r - 1
       less n a r e f = omega arith
@@ -87,20 +84,21 @@ module _ (o : Owner) where
           let lasts : drop (r - 1) (ws ++ w ∷ []) ≡ drop (r - 1) ws ++ w ∷ [] = drop-append-le (r - 1) ws (w ∷ []) (within (length ws) r le) in
           let more : Claims (pods_after (take (r - 1) ws)) (take (r - 1) ws) (drop (r - 1) ws ++ w ∷ []) =
           claims_last (pods_after (take (r - 1) ws)) (take (r - 1) ws) (drop (r - 1) ws) w (is r low le) (subst (λ z. Claim (found w.key (pods_after (take (r - 1) ws))) (last_of None w.key z) w) (sym (take-append-drop (r - 1) ws)) (last r low le)) in
-          subst (λ z. Claims (pods_after z) z (drop (r - 1) (ws ++ w ∷ []))) (sym firsts) (subst (At (pods_after (take (r - 1) ws)) (take (r - 1) ws)) (sym lasts) more)
+          subst (λ z. Claims (pods_after z) z (drop (r - 1) (ws ++ w ∷ []))) (sym firsts) (subst (λ z. Claims (pods_after (take (r - 1) ws)) (take (r - 1) ws) z) (sym lasts) more)
       by (inr far) =
-          subst (At (pods_after (take (r - 1) (ws ++ w ∷ []))) (take (r - 1) (ws ++ w ∷ [])))
+          subst (λ z. Claims (pods_after (take (r - 1) (ws ++ w ∷ []))) (take (r - 1) (ws ++ w ∷ [])) z)
           (sym (drop_all (r - 1) (ws ++ w ∷ []) (subst (λ n. n ≤ r - 1) (sym (length-append ws (w ∷ []))) (beyond (length ws) r far)))) tt
 
   -- ---- who had the reference keeps it
 
-  stood : (listed : Option Data) (old d : Data) → have_one_uid d old ≡ true → is_controlled o old ≡ true
-      → (is_same_pod d listed ≡ true) ⊎ ((is_controlled o d ≡ false) ⊎ ((e : Data) × (Some old ≡ Some e) × (is_controlled o e ≡ true) × (is_same_pod e listed ≡ false)))
+  abbrev Was : Option Data → Data → Data → Type 0
+  Was listed old d = (is_same_pod d listed ≡ true) ⊎ ((is_controlled o d ≡ false) ⊎ ((e : Data) × (Some old ≡ Some e) × (is_controlled o e ≡ true) × (is_same_pod e listed ≡ false)))
+
+  stood : (listed : Option Data) (old d : Data) → have_one_uid d old ≡ true → is_controlled o old ≡ true → Was listed old d
   stood None old d same ctl = inr (inr (old, refl, ctl, refl))
   stood (Some x) old d same ctl = by (have_one_uid old x) refl
     where
-      by : (b : Bool) → have_one_uid old x ≡ b
-          → (have_one_uid d x ≡ true) ⊎ ((is_controlled o d ≡ false) ⊎ ((e : Data) × (Some old ≡ Some e) × (is_controlled o e ≡ true) × (have_one_uid e x ≡ false)))
+      by : (b : Bool) → have_one_uid old x ≡ b → Was (Some x) old d
       by true is = inl (ap (is_some_and (λ t. is_text t (uid x))) (same_uid (uid d) (uid old) same) ∙ is)
       by false is = inr (inr (old, refl, ctl, is))
 
@@ -108,8 +106,7 @@ module _ (o : Owner) where
   by_same listed None d is same = cc
   by_same listed (Some old) d is same = by (is_controlled o old) refl
     where
-      by : (b : Bool) → is_controlled o old ≡ b
-          → (is_same_pod d listed ≡ true) ⊎ ((is_controlled o d ≡ false) ⊎ ((e : Data) × (Some old ≡ Some e) × (is_controlled o e ≡ true) × (is_same_pod e listed ≡ false)))
+      by : (b : Bool) → is_controlled o old ≡ b → Was listed old d
       by true ctl = stood listed old d same ctl
       by false free = inr (inl (is ∙ free))
 
@@ -125,8 +122,7 @@ module _ (o : Owner) where
       free true false false x p q r = refl
       free false b c x p q r = cc
 
-      by : (b : Bool) → is_controlled o old ≡ b
-          → (is_same_pod d listed ≡ true) ⊎ ((is_controlled o d ≡ false) ⊎ ((x : Data) × (Some old ≡ Some x) × (is_controlled o x ≡ true) × (is_same_pod x listed ≡ false)))
+      by : (b : Bool) → is_controlled o old ≡ b → Was listed old d
       by true ctl = stood listed old d same ctl
       by false unclaimed = inr (inl (free (have_one_uid d old) (is_controlled o old) (is_controlled o d) (is_controlled o d && have_same_labels old d) same unclaimed e))
 
@@ -168,17 +164,13 @@ module _ (o : Owner) where
 -- ---- what a list shows
 
 pub listed_is : (h : History) (r : ℕ) (k : Key) → k.kind ≡ Pod → found k (list h (unfiltered Pod None) r) ≡ state h r k
-listed_is h r k pod = found-viewed (unfiltered Pod None) k (entries_at h r) (IsAscending-after_all [] (up_to r h) tt) ∙ ap (seen (unfiltered Pod None) k) (found-after_all k [] (up_to r h) tt) ∙ shown (state h r k)
+listed_is h r k pod = lists_show h (unfiltered Pod None) r k ∙ shown (state h r k)
   where
     shown : (x : Option Data) → seen (unfiltered Pod None) k x ≡ x
     shown None = refl
     shown (Some d) = ap (λ b. cond b (Some d) None) (in_pods k d ∙ ap is_pod pod)
 
 -- ---- a command of the ReplicaSet controller
-
--- a pod that stood at a revision that is published
-abbrev pub IsStanding : History → ℕ → Key × Data → Type 0
-IsStanding h at e = (e.0.kind ≡ Pod) × (q : ℕ) × (q ≤ at) × (state h q e.0 ≡ Some e.1)
 
 module _ (o : Owner) (h : History) (moment : List ℕ) (at : ℕ) (reached : IsReached h) where
   abbrev pub IsClaim : Write → Type 0

@@ -1,66 +1,43 @@
 -- What is stored names one controller at most, and what is no update or patch leaves the references of what it replaces.
-use Rattle.std.proofs.Common.{◌≡◌, ◌≤◌, ◌+◌, ℕ, suc, List, [], ◌∷◌, map, filter, ◌||◌, ◌&&◌, Bool, true, false, cond, codes, bytes_eq, IfSome, Option, Some, None, nat_le, refl, sym, ap, ◌∙◌, subst, arith}
+use Rattle.std.proofs.Common.{◌≡◌, ◌≤◌, ◌+◌, ℕ, suc, List, [], ◌∷◌, map, filter, ◌||◌, ◌&&◌, Bool, true, false, cond, codes, Option, Some, None, nat_le, refl, sym, ap, ◌∙◌, subst, arith}
 use Rattle.std.proofs.lemmas.Bool.{leb-true}
 use Rattle.std.specs.List.{filter_map, cons_option, list_any}
 use Rattle.std.specs.Option.{option_and_then, unwrap_or}
-use Rattle.serde_json.specs.Data.{Data, Items, no_items, put, string, array}
+use Rattle.serde_json.specs.Data.{Data, no_items}
 use Rattle.serde_json.specs.Find.{get_member, as_array, as_str}
-use Rattle.serde_json.proofs.Views.{get_member-put_other}
 use Rattle.definitions.proofs.FirstStatus.{metadata_of-first}
-use Rattle.definitions.proofs.JsonMembers.{apart, metadata_of-with}
 use Rattle.definitions.proofs.Truths.{right_true}
-use Rattle.definitions.specs.declared.kinds.Kind.{Kind}
 use Rattle.definitions.specs.declared.kinds.Kind.TheVariants.{ReplicaSet}
 use Rattle.definitions.specs.Checks as checks
 use Rattle.definitions.specs.Checks.{finalizers, generate_name, is_owner, are_owners_valid, update_fault, adds_no_finalizer, is_selector_kept}
-use Rattle.definitions.specs.Deletion.{left_by, being_deleted, with_deletion}
-use Rattle.definitions.specs.GeneratedNames.{name_from}
-use Rattle.definitions.specs.History.{History, Write, write, writes, present, found, entries_at, state}
+use Rattle.definitions.specs.Deletion.{left_by, being_deleted}
+use Rattle.definitions.specs.History.{History, writes, present, found, entries_at, state}
 use Rattle.definitions.specs.Keys.{Key}
-use Rattle.definitions.specs.Kinds.{has_generation}
 use Rattle.definitions.specs.Metadata as metadata
 use Rattle.definitions.specs.Metadata.{owners, owners_in, metadata_of, name, namespace, at_revision, is_being_deleted}
 use Rattle.definitions.specs.NewObjects.{created, with_first_status}
 use Rattle.definitions.specs.ObjectRequests.{Request, get_object, list_objects, create_object, update_object, update_status, patch_object, delete_object}
 use Rattle.definitions.specs.Reached.{IsReached}
 use Rattle.definitions.specs.Reading.{reading}
-use Rattle.definitions.specs.Replacements.{in_place, updated, with_status_in, with_next_generation}
-use Rattle.definitions.specs.Verbs.{Outcome, accept, shown, object_in, new_name, is_free, write_of}
+use Rattle.definitions.specs.Replacements.{in_place, updated, with_status_in}
+use Rattle.definitions.specs.Verbs.{Outcome, accept, shown, object_in, new_name, write_of}
 use Rattle.controllers.specs.OwnerReferences.{controls_as, refers_to, namespace_of}
 use Rattle.laws.specs.HistoryLaws.{OfStored}
 use Rattle.laws.specs.LifecycleLaws.{OfReplaced}
-use Rattle.laws.proofs.Cases.{of_create, of_delete, of_patch, of_status, of_update}
-use Rattle.laws.proofs.CheckLaws.{all_met, stored_pass}
+use Rattle.laws.proofs.Cases.{of_accept, of_create, of_delete, of_status}
+use Rattle.laws.proofs.CheckLaws.{all_met}
 use Rattle.laws.proofs.Compacted.{same_writes}
 use Rattle.laws.proofs.EachWrite.{AllPut, put_write, there_put}
 use Rattle.laws.proofs.Guards.{there as if_there}
 use Rattle.laws.proofs.Reaching.{by_reached}
-use Rattle.laws.proofs.Removals.{member-at_revision, member-with_next_generation, member-updated, member-restated, at_held}
+use Rattle.laws.proofs.Removals.{member-updated, member-restated, at_held}
 use Rattle.laws.proofs.VerbLaws.{found-state, none_from, of_none}
 use Rattle.control.specs.Boards.{creation_observed}
 use Rattle.controllers.specs.Expectations.{Owner}
 use Rattle.reconciling.specs.PodObservations.{set_named, sets_of, creation}
-use Rattle.overshoot_laws.specs.Reserves.{is_set, is_controlled, shown_by, shown as shows}
+use Rattle.overshoot_laws.specs.Reserves.{is_set, is_controlled, shown as shows}
 use Rattle.overshoot_laws.specs.ClaimLaws.{StoredHaveOneController}
-
--- ---- what a delete leaves
-
-module _ (q : List ℕ) (version : bytes_eq q (codes "resourceVersion") ≡ false) (finals : bytes_eq q (codes "finalizers") ≡ false) (deletion : bytes_eq q (codes "deletionTimestamp") ≡ false) (generation : bytes_eq q (codes "generation") ≡ false) where
-  deletion_keeps : (b : Bool) (k : Kind) (moment : List ℕ) (existing : Data)
-      → get_member q (cond b (metadata_of existing) (put (codes "deletionTimestamp") (string moment) (with_next_generation (has_generation k) existing (metadata_of existing)))) ≡ metadata.metadata q existing
-  deletion_keeps true k moment existing = refl
-  deletion_keeps false k moment existing =
-      get_member-put_other q (codes "deletionTimestamp") (string moment) (with_next_generation (has_generation k) existing (metadata_of existing)) (apart q (codes "deletionTimestamp") deletion)
-      ∙ member-with_next_generation q (has_generation k) existing (metadata_of existing) generation
-
-  marked_keeps : (k : Kind) (r : ℕ) (moment : List ℕ) (left : Items) (existing : Data)
-      → metadata.metadata q (at_revision r (metadata_of (being_deleted k moment left existing)) (being_deleted k moment left existing)) ≡ metadata.metadata q existing
-  marked_keeps k r moment left existing =
-      let d = being_deleted k moment left existing in
-      let meta = put (codes "finalizers") (array left) (with_deletion k moment existing) in
-      member-at_revision q r (metadata_of d) d version ∙ ap (get_member q) (metadata_of-with meta existing)
-      ∙ get_member-put_other q (codes "finalizers") (array left) (with_deletion k moment existing) (apart q (codes "finalizers") finals)
-      ∙ deletion_keeps (is_being_deleted existing) k moment existing
+use Rattle.overshoot_laws.proofs.StoredParts.{member-created, member-marked}
 
 abbrev refs : List ℕ
 refs = codes "ownerReferences"
@@ -82,56 +59,33 @@ same_single d was is h = subst (λ os. checks.controllers os ≤ 1) (ap owners_f
 valid_single : (n : ℕ) (d : Data) → are_owners_valid n d ≡ true → IsSingle d
 valid_single n d h = leb-true (checks.controllers (owners d)) 1 (right_true _ (nat_le (checks.controllers (owners d)) 1) h)
 
-update_single : (k : Key) (r : ℕ) (existing o : Data) → update_fault k.kind k.name r existing (in_place k.kind existing o) ≡ None → IsSingle (updated k.kind (r + 1) existing (in_place k.kind existing o))
-update_single k r existing o valid =
-    let d = in_place k.kind existing o in
-    let met = all_met (checks.checks k.kind k.name r (adds_no_finalizer existing d) (is_selector_kept existing d) d) valid in
-    same_single (updated k.kind (r + 1) existing d) d (member-updated refs k.kind (r + 1) existing d refl refl) (valid_single r d met.1.1.1.1.0)
-
-name_is : (f : List ℕ → Bool) (x given : Option (List ℕ)) (r : ℕ) → IfSome x (λ n. n ≡ name_from f x given r)
-name_is f None given r = tt
-name_is f (Some n) given r = refl
-
 abbrev AreSingle : History → Type 0
 AreSingle h = AllPut (λ k d. IsSingle d) (writes h)
 
-module _ (h : History) (moment : List ℕ) (all : AreSingle h) where
-  abbrev P : Outcome → Type 0
-  P o = OfStored o (λ k d. IsSingle d)
-
-  was_single : (k : Key) (existing : Data) → found k (entries_at h (present h)) ≡ Some existing → IsSingle existing
-  was_single k existing at = there_put (λ k d. IsSingle d) h (present h) k existing all (sym (found-state h k) ∙ at)
-
-  single_by : (q : Request) → P (accept q h moment)
-  single_by (get_object k) = if_there P (λ f. tt) k shown (found k (entries_at h (present h))) (λ d is. tt)
-  single_by (list_objects v) = tt
-  single_by (create_object kind ns d) =
-      let ms = entries_at h (present h) in
-      let r = present h in
-      of_create P (λ f. tt) kind ns (object_in kind d) ms r moment
-      (λ o read valid fits free room.
-      let k = new_name kind ns o ms r in
-      let made = created kind (r + 1) ns k.name moment o in
-      let passed = stored_pass kind k.name r r (r + 1) ns moment o (omega arith) (name_is (is_free kind ns ms) (name o) (generate_name o) (r + 1)) valid in
-      let first = with_first_status kind made in
-      same_single made first (ap (get_member refs) (sym (metadata_of-first kind made)))
-      (valid_single r first (all_met (checks.checks kind k.name r true true first) passed).1.1.1.1.0))
-  single_by (update_object k d) =
-      of_update P (λ f. tt) (λ d. tt) k (object_in k.kind d) (entries_at h (present h)) (present h) (λ o existing read at equal valid fits low. update_single k (present h) existing o valid) (λ o existing read at equal free low. tt)
-  single_by (update_status k d) =
-      of_status P (λ f. tt) (λ d. tt) k (reading k.kind d) (entries_at h (present h)) (present h)
-      (λ o existing read at equal fits low.
-      let made = with_status_in k.kind existing o in
-      same_single (at_revision (present h + 1) (metadata_of made) made) existing (member-restated refs k.kind (present h + 1) existing o refl) (was_single k existing at))
-  single_by (patch_object k d) =
-      of_patch P (λ f. tt) (λ d. tt) k d (entries_at h (present h)) (present h) (λ o existing read at equal valid fits low. update_single k (present h) existing o valid) (λ o existing read at equal free low. tt)
-  single_by (delete_object k o) =
-      of_delete P (λ f. tt) (λ code body. tt) k o (entries_at h (present h)) (present h) moment
-      (λ existing at same_uid equal low.
-      let d = being_deleted k.kind moment (left_by o.policy (finalizers existing)) existing in
-      same_single (at_revision (present h + 1) (metadata_of d) d) existing (marked_keeps refs refl refl refl refl k.kind (present h + 1) moment (left_by o.policy (finalizers existing)) existing)
-      (was_single k existing at))
-      (λ existing at same_uid equal none low. tt)
+single_by : (h : History) (moment : List ℕ) → AreSingle h → (q : Request) → OfStored (accept q h moment) (λ k d. IsSingle d)
+single_by h moment all q =
+    let r = present h in
+    let was : (k : Key) (existing : Data) → found k (entries_at h r) ≡ Some existing → IsSingle existing =
+    λ k existing at. there_put (λ k d. IsSingle d) h r k existing all (sym (found-state h k) ∙ at) in
+    of_accept (λ u. OfStored u (λ k d. IsSingle d)) (λ f. tt) (λ code body. tt) q h moment
+    (λ kind ns d o read valid fits free room.
+    let k = new_name kind ns o (entries_at h r) r in
+    let first = with_first_status kind o in
+    same_single (created kind (r + 1) ns k.name moment o) first
+    (member-created refs kind (r + 1) ns k.name moment o refl refl refl refl refl refl refl ∙ sym (ap (get_member refs) (metadata_of-first kind o)))
+    (valid_single r first (all_met (checks.checks kind k.name r true true first) valid).1.1.1.1.0))
+    (λ k o existing at valid fits low.
+    let d = in_place k.kind existing o in
+    same_single (updated k.kind (r + 1) existing d) d (member-updated refs k.kind (r + 1) existing d refl refl)
+    (valid_single r d (all_met (checks.checks k.kind k.name r (adds_no_finalizer existing d) (is_selector_kept existing d) d) valid).1.1.1.1.0))
+    (λ k o existing at free low. tt)
+    (λ k o existing at fits low.
+    let d = with_status_in k.kind existing o in same_single (at_revision (r + 1) (metadata_of d) d) existing (member-restated refs k.kind (r + 1) existing o refl) (was k existing at))
+    (λ k o existing at low.
+    let left = left_by o.policy (finalizers existing) in
+    let d = being_deleted k.kind moment left existing in
+    same_single (at_revision (r + 1) (metadata_of d) d) existing (member-marked refs k.kind (r + 1) moment left existing refl refl refl refl) (was k existing at))
+    (λ k o existing at none low. tt)
 
 pub all_single : (h : History) → IsReached h → AllPut (λ k d. checks.controllers (owners d) ≤ 1) (writes h)
 all_single h reached =
@@ -207,7 +161,7 @@ module _ (o : Owner) where
   abbrev controlled_by : Option Data → Option Data → Bool
   controlled_by ns rs = list_any (is_set o) (filter_map (set_named (unwrap_or (option_and_then as_str ns) [])) (filter (controls_as ReplicaSet) (owners_from rs)))
 
-  same_controlled : (d was : Data) → metadata.metadata place d ≡ metadata.metadata place was → metadata.metadata refs d ≡ metadata.metadata refs was → is_controlled o d ≡ is_controlled o was
+  pub same_controlled : (d was : Data) → metadata.metadata place d ≡ metadata.metadata place was → metadata.metadata refs d ≡ metadata.metadata refs was → is_controlled o d ≡ is_controlled o was
   same_controlled d was a b = ap (λ x. controlled_by x (metadata.metadata refs d)) a ∙ ap (controlled_by (metadata.metadata place was)) b
 
   module _ (h : History) (moment : List ℕ) where
@@ -238,5 +192,5 @@ module _ (o : Owner) where
         let d = being_deleted k.kind moment left existing in
         let new = at_revision (present h + 1) (metadata_of d) d in
         at_held h k existing (λ was. is_controlled o new ≡ is_controlled o was) at
-        (same_controlled new existing (marked_keeps place refl refl refl refl k.kind (present h + 1) moment left existing) (marked_keeps refs refl refl refl refl k.kind (present h + 1) moment left existing)))
+        (same_controlled new existing (member-marked place k.kind (present h + 1) moment left existing refl refl refl refl) (member-marked refs k.kind (present h + 1) moment left existing refl refl refl refl)))
         (λ existing at same_uid equal none low. tt)

@@ -58,8 +58,15 @@ mod SameTexts
 mod OneSelector
 mod TidyMembers
 mod PodLabels
-mod EditedVersions
 mod PodWrites
+mod PodsStay
+mod LooksOfTurns
+mod MadeByTurns
+mod MadePods
 mod KeptReferences
 mod TurnWrites
 mod Claimed
+mod LookedPods
+mod ClaimedSteps
+mod ClaimedMoves
+mod Fairness

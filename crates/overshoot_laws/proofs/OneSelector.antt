@@ -40,7 +40,7 @@ module _ (R : Key → Option Data → Option Data → Type 0) where
       by true is = inr (subst (λ j. R j (last_of None j before) w.put) (sym (same_name k w.key is)) r)
       by false is = inl refl
 
-  along_at : (before ws : List Write) → Along R before ws → (i : ℕ) (k : Key) → suc i ≤ length ws → Next k (last_of None k (before ++ take i ws)) (last_of None k (before ++ take (suc i) ws))
+  pub along_at : (before ws : List Write) → Along R before ws → (i : ℕ) (k : Key) → suc i ≤ length ws → Next k (last_of None k (before ++ take i ws)) (last_of None k (before ++ take (suc i) ws))
   along_at before [] a i k le = absurd (omega (arith, le))
   along_at before (w ∷ ws) a zero k le = subst (λ b. Next k (last_of None k b) (last_of None k (before ++ w ∷ []))) (sym (append-nil before)) (along_here before w k a.0)
   along_at before (w ∷ ws) a (suc i) k le =

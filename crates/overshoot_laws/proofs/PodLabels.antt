@@ -1,5 +1,5 @@
 -- What is stored of the pod that is made of a set's template has the template's labels, so it matches the set.
-use Rattle.std.proofs.Common.{◌≡◌, ℕ, List, ◌++◌, true, false, true≢false, codes, bytes_eq, is_some, Option, Some, None, Ok, refl, sym, ap, ◌∙◌}
+use Rattle.std.proofs.Common.{◌≡◌, ℕ, List, ◌++◌, true, false, true≢false, codes, is_some, Option, Some, None, Ok, refl, sym, ap, ◌∙◌}
 use Rattle.serde_json.specs.Data.{Data, string, array, item, no_items, Members, no_members, put}
 use Rattle.serde_json.specs.Find.{get, get_member}
 use Rattle.serde_json.proofs.Views.{get_member-put, get_member-put_other}
@@ -12,7 +12,7 @@ use Rattle.definitions.specs.Keys.{Key}
 use Rattle.definitions.specs.Metadata.{labels_of, metadata, metadata_of}
 use Rattle.definitions.specs.NewObjects as new_objects
 use Rattle.definitions.specs.Reading.{is_absent, reading, tidied, tidied_members}
-use Rattle.definitions.specs.Replacements.{as_stored, keeping}
+use Rattle.definitions.specs.Replacements.{as_stored}
 use Rattle.definitions.specs.Schemas.{property_at}
 use Rattle.definitions.specs.Selectors.{Requirement, meets_all}
 use Rattle.definitions.specs.SelectorValues.{is_some_and}
@@ -20,8 +20,7 @@ use Rattle.definitions.specs.Values.{inner_of, without}
 use Rattle.laws.proofs.NeatMembers.{Neat-get, opens}
 use Rattle.laws.proofs.ReadAgain.{filled_members}
 use Rattle.plans.specs.MetadataEdits.{controller_reference}
-use Rattle.plans.specs.NewPods as new_pods
-use Rattle.plans.specs.NewPods.{new_pod, template, copied}
+use Rattle.plans.specs.NewPods.{new_pod, template}
 use Rattle.plans.specs.Pods.{matches}
 use Rattle.overshoot_laws.specs.SetLaws.{NewPodsMatchTheirSet}
 use Rattle.overshoot_laws.proofs.StoredParts.{member-created}

@@ -1,17 +1,13 @@
 -- What the commands of a ReplicaSet's turn write in the place of pods.
-use Rattle.std.proofs.Common.{◌≡◌, ◌+◌, ◌⊎◌, inl, inr, ◌&&◌, not, ℕ, zero, suc, List, [], ◌∷◌, ◌++◌, length, map, flat_map, filter, replicate, drop, Bool, true, false, cond, codes, bytes_eq, IfSome, Option, Some, None, option_and_then, Result, Ok, Err, decimal, refl, sym, ap, ◌∙◌, subst}
+use Rattle.std.proofs.Common.{◌≡◌, ◌+◌, ◌⊎◌, inl, inr, ◌&&◌, not, ℕ, zero, suc, List, [], ◌∷◌, ◌++◌, length, map, flat_map, filter, replicate, drop, Bool, true, false, cond, codes, bytes_eq, IfSome, Option, Some, None, refl, sym, ap, ◌∙◌, subst}
 use Rattle.std.specs.List.{AllByRecursion}
 use Rattle.serde_json.specs.Data.{Data, Items, object}
-use Rattle.serde_json.specs.Find.{as_str}
-use Rattle.definitions.proofs.Truths.{both_true}
-use Rattle.definitions.proofs.VerbSteps.{update_read, with_defaults}
 use Rattle.definitions.specs.declared.kinds.Kind.TheVariants.{Pod}
-use Rattle.definitions.specs.declared.refusals.Part.{Part}
 use Rattle.definitions.specs.Checks.{finalizers}
 use Rattle.definitions.specs.Deletion.{being_deleted, left_by}
 use Rattle.definitions.specs.History.{History, Entries, Write, found, entries_at, present, state}
 use Rattle.definitions.specs.Keys.{Key}
-use Rattle.definitions.specs.Metadata.{metadata, metadata_of, at_revision, is_being_deleted, version}
+use Rattle.definitions.specs.Metadata.{metadata, metadata_of, at_revision, is_being_deleted}
 use Rattle.definitions.specs.NewObjects as new_objects
 use Rattle.definitions.specs.ObjectRequests.{update_object}
 use Rattle.definitions.specs.Reached.{IsReached}
@@ -25,8 +21,7 @@ use Rattle.controllers.specs.Hands.{Hand, live}
 use Rattle.laws.specs.LifecycleLaws.{OfReplaced}
 use Rattle.laws.proofs.Cases.{of_create, of_status, of_delete}
 use Rattle.laws.proofs.Removals.{member-restated}
-use Rattle.laws.proofs.VerbLaws.{found-state, none_from, of_held, of_none, replaced}
-use Rattle.laws.proofs.Versions.{names_one, tells}
+use Rattle.laws.proofs.VerbLaws.{found-state, none_from, of_held, of_none}
 use Rattle.plans.specs.NewPods.{new_pod}
 use Rattle.plans.specs.MetadataEdits.{with_list}
 use Rattle.plans.specs.PodClaims.{claim, claims, is_released, released, is_adoptable, adopted, may_adopt, own_pods}
@@ -34,9 +29,9 @@ use Rattle.plans.specs.PodRanks.{missing, victims}
 use Rattle.plans.specs.ReplicaSets.{set_looked_at, pods_looked_at, replicas, status, with_status, delete_pod, scale, scale_if, report, new_status, plan_with, plan_of}
 use Rattle.reconciling.specs.Turns.{Turn, begun, hand, plan_by, left as still_left}
 use Rattle.overshoot_laws.specs.Overshoot.{is_replica_sets}
-use Rattle.overshoot_laws.proofs.EditedVersions.{version_read}
-use Rattle.overshoot_laws.proofs.SameTexts.{stored_reads}
+use Rattle.overshoot_laws.proofs.LookedPods.{IsStanding}
 use Rattle.overshoot_laws.proofs.StoredParts.{member-marked}
+use Rattle.overshoot_laws.proofs.TurnWrites.{edits_replace}
 
 -- ---- what a plan commands, of pods that are so
 
@@ -130,13 +125,29 @@ by_controller P controller.ReplicaSet h n x rest is next looks = by (found h.key
       set,
       f,
       of_all P h.key set n (plan_of h (Some set)) x rest
-      (all_planned P h.key set h.is_satisfied (may_adopt set (live h.reads h.key)) (pods_looked_at h) (passing P h.key set (λ m. bytes_eq m.0.namespace h.key.namespace) h.looks.pods looks))
-      (ap (drop n) (sym (ap (plan_of h) f)) ∙ next),
+          (all_planned P h.key set h.is_satisfied (may_adopt set (live h.reads h.key)) (pods_looked_at h) (passing P h.key set (λ m. bytes_eq m.0.namespace h.key.namespace) h.looks.pods looks))
+          (ap (drop n) (sym (ap (plan_of h) f)) ∙ next),
     )
 
 pub planned_next : (P : Key → Data → Type 0) (t : Turn) (x : Command) (rest : List Command) → is_replica_sets (Some t) ≡ true → still_left t ≡ x ∷ rest → AllByRecursion (λ (e : Key × Data). P e.0 e.1) (hand t).looks.pods
     → (set : Data) × (set_looked_at (hand t) ≡ Some set) × Planned P t.work_key.key set x
 planned_next P t x rest is next looks = by_controller P t.work_key.controller (hand t) (length t.issues) x rest is next looks
+
+-- an update is of one of these, with other references
+abbrev pub Edits : (Key × Data → Type 0) → Command → Type 0
+Edits P (update k d) = (e : Data) × P (k, e) × (items : Items) × (d ≡ with_list (codes "ownerReferences") items e)
+Edits P x = Unit {0}
+
+pub next_edits : (P : Key × Data → Type 0) (t : Turn) (x : Command) (rest : List Command) → t.work_key.controller ≡ controller.ReplicaSet → still_left t ≡ x ∷ rest → AllByRecursion P (hand t).looks.pods → Edits P x
+next_edits P t x rest is next looks =
+    let n = planned_next (λ k d. P (k, d)) t x rest (ap (λ j. is_replica_sets (Some (begun (record { controller = j; key = t.work_key.key })))) is) next looks in by n.0 x n.2
+  where
+    by : (set : Data) (x : Command) → Planned (λ k d. P (k, d)) t.work_key.key set x → Edits P x
+    by set _ (releases j d p is) = (d, p, _, refl)
+    by set _ (adopts j d p is) = (d, p, _, refl)
+    by set _ creates = tt
+    by set _ (deletes j u) = tt
+    by set _ (reports d) = tt
 
 -- ---- what is written in the place of an object
 
@@ -152,50 +163,22 @@ Replaces set was new = SameParts was new ⊎ ((is_released set was ≡ true) ⊎
 
 -- a pod that was there at some revision
 abbrev pub WasPod : History → Key → Data → Type 0
-WasPod h k d = (k.kind ≡ Pod) × ((r : ℕ) × (state h r k ≡ Some d))
+WasPod h k d = IsStanding h (present h) (k, d)
 
 module _ (h : History) (reached : IsReached h) where
-  module _ (R : Data → Data → Type 0) (j : Key) (d : Data) (looked : WasPod h j d) (so : (new : Data) → R d new) where
-    abbrev Stood : List ℕ → Option Write → Type 0
-    Stood named x = IfSome x (λ w. IfSome w.put (λ new. (existing : Data) × (w.key ≡ j) × (state h (present h) j ≡ Some existing) × (version existing ≡ Some named)))
-
-    abbrev InPlace : Option Write → Type 0
-    InPlace x = IfSome x (λ w. IfSome w.put (λ new. IfSome (state h (present h) w.key) (λ was. R was new)))
-
-    -- what stood there at the version that was looked at is what was looked at
-    stood : (named : List ℕ) → version d ≡ Some named → (x : Option Write) → Stood named x → InPlace x
-    stood named is None s = tt
-    stood named is (Some w) s = by w.put s
-      where
-        by : (y : Option Data) → IfSome y (λ new. (existing : Data) × (w.key ≡ j) × (state h (present h) j ≡ Some existing) × (version existing ≡ Some named)) → IfSome y (λ new. IfSome (state h (present h) w.key) (λ was. R was new))
-        by None s = tt
-        by (Some new) s =
-            let one = names_one h looked.1.0 (present h) j j d s.0 reached looked.1.1 s.2 (is ∙ sym s.3) in
-            subst (λ k. IfSome (state h (present h) k) (λ was. R was new)) (sym s.1) (of_held (λ was. R was new) (state h (present h) j) s.0 s.2 (subst (λ x. R x new) one.1 (so new)))
-
-    has_version : (v : Option Data) → metadata (codes "resourceVersion") d ≡ v → (named : List ℕ) → version d ≡ Some named → (x : Data) × (metadata (codes "resourceVersion") d ≡ Some x)
-    has_version None at named is = let no = sym (ap (option_and_then as_str) at) ∙ is in cc
-    has_version (Some x) at named is = (x, at)
-
-    -- an update of a pod with other references writes in the place of the pod that was looked at
-    module _ (items : Items) (moment : List ℕ) where
-      abbrev e : Data
-      e = with_list (codes "ownerReferences") items d
-
-      abbrev made : Outcome
-      made = accept (update_object j e) h moment
-
-      by_reading : (x : Result Data Part) → reading j.kind e ≡ x → InPlace (write_of made)
-      by_reading (Err p) is = subst (λ (y : Result Data Part). InPlace (write_of (update_read j (with_defaults j.kind y) (entries_at h (present h)) (present h)))) (sym is) tt
-      by_reading (Ok o) is =
-          let v = tells h looked.1.0 j d reached looked.1.1 in
-          let x = has_version (metadata (codes "resourceVersion") d) refl (decimal v.0) v.1 in
-          let reads = ap (λ kind. reading kind d) (sym looked.0) ∙ stored_reads h looked.1.0 j d reached looked.1.1 in
-          let same : version o ≡ version d = version_read d items o reads (ap (λ kind. reading kind e) (sym looked.0) ∙ is) x.0 x.1 in
-          stood (decimal v.0) v.1 (write_of made) (replaced j e o (decimal v.0) h moment is (same ∙ v.1))
-
-      edits : OfReplaced h made (λ k was new. R was new)
-      edits = by_reading (reading j.kind e) refl
+  -- an update of a pod with other references writes in the place of the pod that was looked at
+  edits : (R : Data → Data → Type 0) (j : Key) (d : Data) (items : Items) (moment : List ℕ) → WasPod h j d → ((new : Data) → R d new)
+      → OfReplaced h (accept (update_object j (with_list (codes "ownerReferences") items d)) h moment) (λ k was new. R was new)
+  edits R j d items moment looked so =
+      by (write_of (accept (update_object j (with_list (codes "ownerReferences") items d)) h moment)) (edits_replace h moment looked.1 j d items reached looked.0 looked.3)
+    where
+      by : (x : Option Write) → IfSome x (λ w. (w.key ≡ j) × (state h (present h) w.key ≡ Some d)) → IfSome x (λ w. IfSome w.put (λ new. IfSome (state h (present h) w.key) (λ was. R was new)))
+      by None s = tt
+      by (Some w) s = put w.put
+        where
+          put : (y : Option Data) → IfSome y (λ new. IfSome (state h (present h) w.key) (λ was. R was new))
+          put None = tt
+          put (Some new) = of_held (λ was. R was new) (state h (present h) w.key) d s.1 (so new)
 
   module _ (k : Key) (set : Data) (before : Option (List ℕ)) (moment : List ℕ) where
     abbrev Left : Outcome → Type 0
@@ -206,8 +189,8 @@ module _ (h : History) (reached : IsReached h) where
 
     -- so each command that is planned writes
     pub planned_writes : (x : Command) → Planned (WasPod h) k set x → Left (accept (request_of before x) h moment)
-    planned_writes _ (releases j d looked is) = edits (Replaces set) j d looked (λ new. inr (inl is)) _ moment
-    planned_writes _ (adopts j d looked is) = edits (Replaces set) j d looked (λ new. inr (inr is)) _ moment
+    planned_writes _ (releases j d looked is) = edits (Replaces set) j d _ moment looked (λ new. inr (inl is))
+    planned_writes _ (adopts j d looked is) = edits (Replaces set) j d _ moment looked (λ new. inr (inr is))
     planned_writes _ creates =
         of_create Left (λ f. tt) Pod k.namespace (object_in Pod (new_pod k set)) (entries_at h (present h)) (present h) moment
         (λ o read valid fits free room.

@@ -1,5 +1,5 @@
 -- Which parts of an object stay, whatever is written in its place.
-use Rattle.std.proofs.Common.{◌≡◌, ◌+◌, ℕ, List, [], ◌∷◌, Bool, true, false, cond, codes, bytes_eq, Option, Some, None, refl, sym, ap, ◌∙◌}
+use Rattle.std.proofs.Common.{◌≡◌, ℕ, List, [], ◌∷◌, Bool, true, false, cond, codes, bytes_eq, Option, refl, sym, ap, ◌∙◌}
 use Rattle.serde_json.specs.Data.{Data, Items, Members, object, string, array, put}
 use Rattle.serde_json.specs.Find.{get, get_member}
 use Rattle.serde_json.proofs.Views.{get_member-put_other}
@@ -12,7 +12,7 @@ use Rattle.definitions.specs.NewObjects as new_objects
 use Rattle.definitions.specs.NewObjects.{with_first_status, with_generation}
 use Rattle.definitions.specs.Replacements.{keeping, unchanged_metadata, unchanged_members, in_place, is_new_generation, updated, status_in, with_status_in, with_next_generation}
 use Rattle.definitions.specs.Values.{members_of, without}
-use Rattle.definitions.proofs.FirstStatus.{get-members_of, get-status, get-first}
+use Rattle.definitions.proofs.FirstStatus.{get-members_of, get-status}
 use Rattle.definitions.proofs.JsonMembers.{apart, get_member-without_other, metadata_of-with}
 use Rattle.laws.proofs.Removals.{member-at_revision, member-with_next_generation}
 use Rattle.laws.proofs.SetMetadata.{member-as_held_other}

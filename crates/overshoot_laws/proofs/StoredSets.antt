@@ -1,20 +1,17 @@
--- Each ReplicaSet that is stored matches its template and keeps its selector, and each object has one controller at most.
-use Rattle.std.proofs.Common.{◌≡◌, ◌≤◌, ◌+◌, ◌&&◌, ℕ, List, [], ◌∷◌, Bool, true, codes, nat_le, IfSome, Option, Some, None, option_and_then, unwrap_or, refl, sym, ap, ◌∙◌, subst}
-use Rattle.std.proofs.lemmas.Bool.{leb-true}
+-- Each ReplicaSet that is stored matches its template, and keeps its selector.
+use Rattle.std.proofs.Common.{◌≡◌, ◌+◌, ℕ, List, [], ◌∷◌, Bool, true, codes, IfSome, Option, Some, None, option_and_then, sym, ap, ◌∙◌, subst}
 use Rattle.std.proofs.lemmas.Slice.Eq.{bytes_eq-Decides}
-use Rattle.std.specs.List.{list_all}
 use Rattle.std.specs.Result.{result_ok}
-use Rattle.serde_json.specs.Data.{Data, no_items}
-use Rattle.serde_json.specs.Find.{get, get_member, as_array}
-use Rattle.definitions.proofs.FirstStatus.{metadata_of-first}
-use Rattle.definitions.proofs.Truths.{both_true, right_true}
+use Rattle.serde_json.specs.Data.{Data}
+use Rattle.serde_json.specs.Find.{get}
+use Rattle.definitions.proofs.Truths.{both_true}
 use Rattle.definitions.specs.declared.kinds.Kind.{Kind}
 use Rattle.definitions.specs.declared.kinds.Kind.TheVariants.{ConfigMap, Pod, ReplicaSet, Deployment}
-use Rattle.definitions.specs.Checks.{finalizers, is_owner, are_owners_valid, controllers, checks, checks_of, update_fault, adds_no_finalizer, is_selector_kept, is_selected, is_template_valid, in_spec, text_or_empty}
+use Rattle.definitions.specs.Checks.{finalizers, checks, checks_of, adds_no_finalizer, is_selector_kept, is_selected, is_template_valid, in_spec, text_or_empty}
 use Rattle.definitions.specs.Deletion.{left_by, being_deleted}
 use Rattle.definitions.specs.History.{History, Write, write, writes, present, state, last_of, found, entries_at}
 use Rattle.definitions.specs.Keys.{Key}
-use Rattle.definitions.specs.Metadata.{owners, owners_in, metadata, metadata_of, at_revision}
+use Rattle.definitions.specs.Metadata.{metadata_of, at_revision}
 use Rattle.definitions.specs.NewObjects.{created, with_first_status}
 use Rattle.definitions.specs.ObjectRequests.{Request}
 use Rattle.definitions.specs.Reached.{IsReached}
@@ -29,27 +26,12 @@ use Rattle.laws.proofs.CheckLaws.{AllMet, all_met}
 use Rattle.laws.proofs.Compacted.{same_writes}
 use Rattle.laws.proofs.EachWrite.{AllPut, put_write, there_put}
 use Rattle.laws.proofs.Reaching.{by_reached}
-use Rattle.laws.proofs.Removals.{member-updated, member-restated}
 use Rattle.laws.proofs.VerbLaws.{found-state, none_from, of_held, of_none}
 use Rattle.overshoot_laws.specs.KeptPods.{Along}
-use Rattle.overshoot_laws.specs.SetLaws.{ControllersAreOne, SetsMatchTheirTemplates}
+use Rattle.overshoot_laws.specs.SetLaws.{SetsMatchTheirTemplates}
 use Rattle.overshoot_laws.proofs.Births.{writes-append}
 use Rattle.overshoot_laws.proofs.Finishing.{along_last, now_is}
-use Rattle.overshoot_laws.proofs.StoredParts.{member-created, member-marked, spec, spec-created, spec-in_place, spec-updated, spec-restated, spec-marked}
-
--- ---- one controller at most
-
-abbrev refs : List ℕ
-refs = codes "ownerReferences"
-
-abbrev One : Key → Data → Type 0
-One k d = nat_le (controllers (owners d)) 1 ≡ true
-
-same_one : (d was : Data) → metadata refs d ≡ metadata refs was → nat_le (controllers (owners was)) 1 ≡ true → nat_le (controllers (owners d)) 1 ≡ true
-same_one d was is one = ap (λ o. nat_le (controllers (owners_in (unwrap_or (option_and_then as_array o) no_items))) 1) is ∙ one
-
-valid_one : (n : ℕ) (d : Data) → are_owners_valid n d ≡ true → nat_le (controllers (owners d)) 1 ≡ true
-valid_one n d valid = right_true (list_all (is_owner n) (owners d)) (nat_le (controllers (owners d)) 1) valid
+use Rattle.overshoot_laws.proofs.StoredParts.{spec, spec-created, spec-updated, spec-restated, spec-marked}
 
 -- ---- a template that the selector matches
 
@@ -75,30 +57,6 @@ module _ (h : History) (moment : List ℕ) where
   there : (k : Key) (d : Data) → found k (entries_at h (present h)) ≡ Some d → state h (present h) k ≡ Some d
   there k d at = sym (found-state h k) ∙ at
 
-  one_by : AllPut One (writes h) → (q : Request) → OfStored (accept q h moment) One
-  one_by ones q =
-      let r = present h in
-      of_accept (λ u. OfStored u One) (λ f. tt) (λ code body. tt) q h moment
-      (λ kind ns d o read valid fits free room.
-      let k = new_name kind ns o (entries_at h r) r in
-      let first = with_first_status kind o in
-      same_one (created kind (r + 1) ns k.name moment o) first
-      (member-created refs kind (r + 1) ns k.name moment o refl refl refl refl refl refl refl ∙ sym (ap (get_member refs) (metadata_of-first kind o)))
-      (valid_one r first (all_met (checks kind k.name r true true first) valid).1.1.1.1.0))
-      (λ k o existing at valid fits low.
-      let d = in_place k.kind existing o in
-      same_one (updated k.kind (r + 1) existing d) d (member-updated refs k.kind (r + 1) existing d refl refl)
-      (valid_one r d (all_met (checks k.kind k.name r (adds_no_finalizer existing d) (is_selector_kept existing d) d) valid).1.1.1.1.0))
-      (λ k o existing at free low. tt)
-      (λ k o existing at fits low.
-      let d = with_status_in k.kind existing o in
-      same_one (at_revision (r + 1) (metadata_of d) d) existing (member-restated refs k.kind (r + 1) existing o refl) (there_put One h r k existing ones (there k existing at)))
-      (λ k o existing at low.
-      let left = left_by o.policy (finalizers existing) in
-      let d = being_deleted k.kind moment left existing in
-      same_one (at_revision (r + 1) (metadata_of d) d) existing (member-marked refs k.kind (r + 1) moment left existing refl refl refl refl) (there_put One h r k existing ones (there k existing at)))
-      (λ k o existing at none low. tt)
-
   valid_by : AllPut Valid (writes h) → (q : Request) → OfStored (accept q h moment) Valid
   valid_by valids q =
       let r = present h in
@@ -121,11 +79,6 @@ module _ (h : History) (moment : List ℕ) where
       let d = being_deleted k.kind moment left existing in
       same_valid (at_revision (r + 1) (metadata_of d) d) existing (spec-marked k.kind (r + 1) moment left existing) (there_put Valid h r k existing valids (there k existing at) is))
       (λ k o existing at none low. tt)
-
-pub controllers_are_one : ControllersAreOne
-controllers_are_one h r k d reached at =
-    leb-true (controllers (owners d)) 1
-    (there_put One h r k d (by_reached (λ h. AllPut One (writes h)) (λ q h moment a t all. put_write One h (write_of (accept q h moment)) (one_by h moment all q) all) (same_writes (AllPut One)) h reached tt) at)
 
 pub sets_match_their_templates : SetsMatchTheirTemplates
 sets_match_their_templates h r k d reached is at =

@@ -1,4 +1,4 @@
--- Who is given the reference to a set was there when the set was told of it, so a run that lets the set alone is fair to it.
+-- A pod that is given the reference to a set was there at the revision that is published, so a run that lets the set alone is fair to it.
 use Rattle.std.specs.Prelude.{◌≡◌, ◌≤◌, ℕ, List, true, Some}
 use Rattle.serde_json.specs.Data.{Data}
 use Rattle.definitions.specs.Checks.{controllers}

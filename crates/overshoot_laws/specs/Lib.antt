@@ -14,4 +14,5 @@ pub mod NewPodLaws
 pub mod OvershootExamples
 pub mod ShowLaws
 pub mod SetLaws
+pub mod MadePods
 pub mod ClaimLaws

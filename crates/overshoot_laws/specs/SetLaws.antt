@@ -1,20 +1,16 @@
--- What is so of every object that is ever there, whoever asked: it has one controller at most; and a ReplicaSet keeps its selector, which matches the pods that are made of its template.
+-- What is so of every ReplicaSet, whenever it is there and whoever asked: it keeps its selector, which matches the pods that are made of its template.
 use Rattle.std.specs.Prelude.{◌≡◌, ◌≤◌, ℕ, List, true, Some, Ok, codes}
 use Rattle.serde_json.specs.Data.{Data}
 use Rattle.definitions.specs.declared.kinds.Kind.TheVariants.{Pod, ReplicaSet}
-use Rattle.definitions.specs.Checks.{controllers, in_spec, is_template_valid}
+use Rattle.definitions.specs.Checks.{in_spec, is_template_valid}
 use Rattle.definitions.specs.History.{History, present, state}
 use Rattle.definitions.specs.Keys.{Key}
-use Rattle.definitions.specs.Metadata.{owners, uid}
+use Rattle.definitions.specs.Metadata.{uid}
 use Rattle.definitions.specs.NewObjects.{created}
 use Rattle.definitions.specs.Reached.{IsReached}
 use Rattle.definitions.specs.Reading.{reading}
 use Rattle.plans.specs.NewPods.{new_pod}
 use Rattle.plans.specs.Pods.{matches}
-
--- of its owner references one at most is a controller's
-abbrev pub ControllersAreOne : Type 0
-ControllersAreOne = (h : History) (r : ℕ) (k : Key) (d : Data) → IsReached h → state h r k ≡ Some d → controllers (owners d) ≤ 1
 
 -- the selector of a set matches its template
 abbrev pub SetsMatchTheirTemplates : Type 0

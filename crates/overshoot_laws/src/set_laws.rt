@@ -1,10 +1,5 @@
-//! Laws of what stays of objects, whoever asks.
-ghost use Rattle.overshoot_laws.specs.SetLaws.{ControllersAreOne, SetsMatchTheirTemplates, SelectorsStay, NewPodsMatchTheirSet};
-
-/// An object has one controller at most, whenever it is there.
-pub fn controllers_are_one()
-    ensures { ControllersAreOne }
-{}
+//! Laws of ReplicaSets and their selectors, whoever asks.
+ghost use Rattle.overshoot_laws.specs.SetLaws.{SetsMatchTheirTemplates, SelectorsStay, NewPodsMatchTheirSet};
 
 /// The selector of a ReplicaSet matches its template, whenever it is there.
 pub fn sets_match_their_templates()
@@ -15,7 +10,6 @@ pub fn sets_match_their_templates()
 pub fn selectors_stay()
     ensures { SelectorsStay }
 {}
-
 
 /// What is stored of the pod that is made of a set's template matches the set.
 pub fn new_pods_match_their_set()

@@ -1,0 +1,5 @@
+use Rattle.overshoot_laws.proofs.MadePods.{made_pods_are_kept}
+use Rattle.overshoot_laws.proofs.made_pods.made_pods_are_kept.Goals as goal
+
+pub returns : goal.returns
+returns c = made_pods_are_kept
