@@ -62,7 +62,7 @@ mod PodWrites
 mod PodsStay
 mod LooksOfTurns
 mod MadeByTurns
-mod MadePods
+pub mod MadePods
 mod KeptReferences
 mod TurnWrites
 mod Claimed

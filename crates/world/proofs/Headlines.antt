@@ -27,7 +27,7 @@ use Rattle.traces.specs.Taken.{Taken, opening, plane, followed_by_all}
 use Rattle.cluster.specs.Standing as stored
 use Rattle.cluster.specs.declared.stopped.Stopped.{Stopped}
 use Rattle.cluster.proofs.Headlines.{shown}
-use Rattle.world.proofs.PlaneHeadlines.{replaces, forgets, rises, takes, spares}
+use Rattle.world.proofs.PlaneHeadlines.{replaces, forgets, rises, takes, spares, overshoots}
 use Rattle.world.proofs.Stood.{stood, run_stood, run_traced}
 use Rattle.world.specs.Headline.{Headline, TurnsAreUnderWay}
 use Rattle.world.specs.Standing.{StandsFor, Stands}
@@ -118,6 +118,7 @@ headline w is =
       rise = rises w.trace;
       takes = takes w.trace;
       spares = spares w.trace;
+      few = overshoots w.trace;
     }
 
 -- ---- after a step that was taken, or changed nothing

@@ -24,8 +24,9 @@ use Rattle.control_plane_laws.proofs.Replacing.{replaced, named_replaced}
 use Rattle.control_plane_laws.proofs.Rising.{revisions_rise}
 use Rattle.collector_laws.proofs.Asked.{written_is}
 use Rattle.collector_laws.proofs.Spared.{spared}
+use Rattle.overshoot_laws.proofs.MadePods.{no_overshoot}
 use Rattle.traces.specs.Taken.{Taken, opening}
-use Rattle.world.specs.Headline.{plane_after, IsAskedBy, ReplacesNamedVersions, ForgetsNothing, RevisionsRise, TakesTheHeads, SparesLiveOwners}
+use Rattle.world.specs.Headline.{plane_after, IsAskedBy, ReplacesNamedVersions, ForgetsNothing, RevisionsRise, TakesTheHeads, SparesLiveOwners, NeverOvershoots}
 
 -- ---- conditional writes
 
@@ -96,3 +97,6 @@ module _ (t : Taken) where
       record {
         spares = λ before after n a x w at of adds. spared t.window t.workers before n a x w of (sym (one_history before (works n a)) ∙ adds);
       }
+
+  pub overshoots : NeverOvershoots t
+  overshoots = record { few = λ o before after at alone. no_overshoot t.window t.workers before o alone }

@@ -10,6 +10,7 @@ use Rattle.definitions.specs.Keys.{Key}
 use Rattle.definitions.specs.Metadata.{version}
 use Rattle.definitions.specs.ObjectRequests.{Request}
 use Rattle.controllers.specs.Commands.{Command}
+use Rattle.controllers.specs.Expectations.{Owner}
 use Rattle.controllers.specs.WorkQueues.{WorkKey}
 use Rattle.simulation.specs.Clusters as clusters
 use Rattle.simulation.specs.Clusters.{follower, request, moves}
@@ -28,6 +29,7 @@ use Rattle.reconciling_laws.specs.TurnLaws.{AreApart}
 use Rattle.control_plane_laws.specs.PlaneLaws.{IsServerList}
 use Rattle.collector_laws.specs.SparingLaws as collector
 use Rattle.collector_laws.specs.SparingLaws.{IsOfTheCollector}
+use Rattle.overshoot_laws.specs.Overshoot.{LetAlone, NeverMoreThanDeclared}
 use Rattle.traces.specs.Taken.{Taken, opening, plane}
 use Rattle.cluster.specs.Headline.{ShowsLists}
 use Rattle.world.specs.Standing.{StandsFor}
@@ -113,6 +115,15 @@ pub record SparesLiveOwners (t : Taken) : Type 0 where
       → (let h = history_after t before in
       IsOfTheCollector n x (plane_after t before).manager → history_after t (before ++ works n a ∷ []) ≡ h ++ write w ∷ [] → collector.SparesLiveOwners h x w)
 
+-- ---- no more pods than were declared
+
+-- a set of this key and uid was let alone in the first of these steps: at no yes to its question whether all expected pods have been seen were
+-- creations left to be seen, so that it was not by age alone; none but the ReplicaSet controller gave a pod the controller reference to the
+-- set, took it away, or changed the labels of a pod that has it; and no finished pod of it began again. Then of the pods that the
+-- controller made for the set there are no more active ones than the greatest number of replicas that the set ever had
+pub record NeverOvershoots (t : Taken) : Type 0 where
+  pub few : (o : Owner) (before after : List Step) → t.steps ≡ before ++ after → LetAlone o (opening t) before → NeverMoreThanDeclared o (opening t) before
+
 -- ---- all of it
 
 pub record Headline (w : WorldState) : Type 0 where
@@ -137,3 +148,5 @@ pub record Headline (w : WorldState) : Type 0 where
   pub takes : TakesTheHeads w.trace
   -- the collector spares what has a live owner
   pub spares : SparesLiveOwners w.trace
+  -- no set that is let alone gets more pods than it was ever to have
+  pub few : NeverOvershoots w.trace

@@ -72,8 +72,9 @@ impl World {
     /// alone. No key is in two workers' hands, and a turn begins with the head of the queue. Each command that was issued is the next one
     /// of its plan for what its worker then had in hand: looks that were published since the last restart, and live reads of what was
     /// there. Each write that names a version replaced exactly that version. Each published change is, until a restart, still to be
-    /// handled, or each key that it owed then is still to be processed, or was taken after that. And what a delete of the garbage
-    /// collector marked or removed named owners, none of which was there and not being deleted.
+    /// handled, or each key that it owed then is still to be processed, or was taken after that. What a delete of the garbage
+    /// collector marked or removed named owners, none of which was there and not being deleted. And a ReplicaSet that is let alone never has
+    /// more active ones of the pods that were made for it than it was ever to have.
     ///
     /// `after` and `traced` say what becomes of the world and of the steps taken, and `stands` in `headline` what they have to do with
     /// one another: the other clauses are about the control plane after these steps.
