@@ -2,10 +2,12 @@
 ghost use Rattle.std.specs.Prelude.{◌≡◌, ◌+◌, ◌≤◌, IfOk, OnOk, OnErr, length, map, option_map, string_bytes};
 ghost use Rattle.control.specs.Boards.{begun, taken, finished, requeued, observed, expecting_creations, expecting_deletions, is_satisfied, forgotten, lowered, all_lowered, may_tick, ticked, last_moment};
 ghost use Rattle.controllers.specs.WorkQueues.{handed};
+ghost use Rattle.control_desk.specs.Aged.{HaveAgedOut};
 ghost use Rattle.control_desk.specs.Seen.{owner_of, observation_of};
 ghost use Rattle.keys.specs.Keys.{key_of};
 ghost use Rattle.work_keys.specs.WorkKeys.{work_key_of};
 
+use crate::aged_out::AgedOut;
 use crate::observation::{Observation, Owner};
 use backoff::{Backoff, Delayed};
 use expectations::Table;
@@ -142,6 +144,17 @@ impl Board {
     {
         self.expectations
             .satisfied(&owner.key, owner.uid.as_str(), self.time)
+    }
+
+    /// Returns the keys of the ReplicaSets that expected something at the moment `before`, and by its age no longer do, with the present
+    /// moment: who asks again with that misses none. The error is running out of memory.
+    pub fn aged_out(&self, before: u64) -> Result<AgedOut, AllocError>
+        ensures { IfOk result (λ a. HaveAgedOut before a.moment (map work_key_of a.keys.items) self.now) }
+    {
+        Ok(AgedOut {
+            keys: self.expectations.aged_out(before, self.time)?,
+            moment: self.time,
+        })
     }
 
     /// Removes what every ReplicaSet of this key expects, whatever its uid.

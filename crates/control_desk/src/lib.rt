@@ -2,8 +2,10 @@
 //! expected, and the time. Each call is one step.
 #![tactic(auto)]
 
+pub mod aged_out;
 pub mod board;
 pub mod observation;
 
+pub use aged_out::AgedOut;
 pub use board::Board;
 pub use observation::{Observation, Owner};

@@ -2,3 +2,4 @@
 pub mod Looked
 pub mod Handled
 pub mod Passed
+pub mod Woken

@@ -13,7 +13,11 @@ use worker_turns::Signals;
 /// How many milliseconds lie between two ticks.
 const TICK_MILLISECONDS: u64 = 5;
 
-/// What lets time pass at the board: no more than passes on the clock.
+/// How many milliseconds lie between two looks for expectations that aged out: each goes over all that is expected.
+const LOOK_MILLISECONDS: u64 = 1_000;
+
+/// What lets time pass at the board: no more than passes on the clock. It also wakes the keys of ReplicaSets that wait for what is never
+/// seen, as a pod whose create was lost on the way: nothing else adds them when their expectations age out.
 #[derive(Drop)]
 pub struct Ticker<'a, R> {
     rt: &'a R,
@@ -22,16 +26,19 @@ pub struct Ticker<'a, R> {
     signals: &'a Signals,
     /// So many milliseconds of the clock were let pass.
     passed: u64,
+    /// Until this moment of the board, those whose expectations aged out are woken.
+    woken: u64,
     ghost sits: { IsPassAt desk.now pass },
     ghost counted: { passed_in (known pass).made ≤ passed },
 }
 
 impl<'a, R: Wait + Clock> Ticker<'a, R> {
-    ghost use Rattle.std.specs.Prelude.{◌≡◌, ◌+◌, ◌-◌, OnOk, OnErr};
+    ghost use Rattle.std.specs.Prelude.{◌≡◌, ◌+◌, ◌-◌, ◌<◌, ◌⊎◌, OnOk, OnErr};
     ghost use Rattle.shared_board.specs.Calls.{IsCall, Nothing};
     ghost use Rattle.shared_board.specs.Desks.{known, IsNewAt};
     ghost use Rattle.shared_board.specs.Steps as steps;
     ghost use Rattle.manager.specs.Handled.{HasWaited};
+    ghost use Rattle.manager.specs.Woken.{Wakes};
 
     /// Returns what lets time pass, before any has.
     pub fn new(
@@ -41,7 +48,7 @@ impl<'a, R: Wait + Clock> Ticker<'a, R> {
         signals: &'a Signals,
     ) -> Ticker<'a, R>
         requires { IsNewAt desk.now pass }
-        ensures { result.passed ≡ 0 }
+        ensures { (result.passed ≡ 0) × (result.woken ≡ 0) }
     {
         Ticker {
             rt,
@@ -49,6 +56,7 @@ impl<'a, R: Wait + Clock> Ticker<'a, R> {
             pass,
             signals,
             passed: 0,
+            woken: 0,
         }
     }
 
@@ -60,6 +68,7 @@ impl<'a, R: Wait + Clock> Ticker<'a, R> {
         ensures passed { OnOk result (self.new.passed ≡ self.old.passed + (moment - self.old.passed)) }
         ensures err { OnErr result (HasWaited (known self.old.pass) (known self.new.pass)) }
         ensures still { OnErr result (self.new.passed ≡ self.old.passed) }
+        ensures woken { self.new.woken ≡ self.old.woken }
     {
         let milliseconds = moment.saturating_sub(self.passed);
         self.desk.tick(self.rt, &mut self.pass, milliseconds)?;
@@ -67,10 +76,40 @@ impl<'a, R: Wait + Clock> Ticker<'a, R> {
         Ok(())
     }
 
+    /// Adds the keys of the ReplicaSets whose expectations aged out since it was done last, as those that a change owes. The error is
+    /// running out of memory: then none are added, and they are the next time.
+    fn wake(&mut self) -> Result<(), AllocError>
+        ensures ok { OnOk result (Wakes self.old.woken self.new.woken (known self.old.pass) (known self.new.pass)) }
+        ensures err { OnErr result (HasWaited (known self.old.pass) (known self.new.pass)) }
+        ensures still { OnErr result (self.new.woken ≡ self.old.woken) }
+        ensures passed { self.new.passed ≡ self.old.passed }
+    {
+        let aged = self.desk.aged_out(self.rt, &mut self.pass, self.woken)?;
+        self.desk
+            .observe(self.rt, &mut self.pass, &[], aged.keys.as_slice())?;
+        self.woken = aged.moment;
+        Ok(())
+    }
+
+    /// Wakes those whose expectations aged out, unless that was done within the last second. The error is running out of memory: then none
+    /// are woken, and they are the next time.
+    fn wake_in_time(&mut self) -> Result<(), AllocError>
+        ensures ok { OnOk result ((self.old.passed < self.old.woken + 1000)
+            ⊎ Wakes self.old.woken self.new.woken (known self.old.pass) (known self.new.pass)) }
+        ensures still { OnErr result (self.new.woken ≡ self.old.woken) }
+        ensures passed { self.new.passed ≡ self.old.passed }
+    {
+        if self.passed.saturating_sub(self.woken) < LOOK_MILLISECONDS {
+            return Ok(());
+        }
+        self.wake()
+    }
+
     /// Wakes the workers where a key waits.
     fn announce(&mut self)
         ensures waited { HasWaited (known self.old.pass) (known self.new.pass) }
         ensures passed { self.new.passed ≡ self.old.passed }
+        ensures woken { self.new.woken ≡ self.old.woken }
     {
         if self.desk.has_waiting(self.rt, &mut self.pass) {
             self.signals.announce_work();
@@ -85,6 +124,7 @@ impl<'a, R: Wait + Clock> Ticker<'a, R> {
                 return;
             }
             let _ = self.tick(wall.millis());
+            let _ = self.wake_in_time();
             self.announce();
         }
     }

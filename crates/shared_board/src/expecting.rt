@@ -1,8 +1,10 @@
 //! What is expected at a desk.
-ghost use Rattle.std.specs.Prelude.{◌≡◌, None, map, string_bytes};
+ghost use Rattle.std.specs.Prelude.{◌≡◌, None, IfOk, map, string_bytes};
 ghost use Rattle.control.specs.Boards.{is_satisfied};
+ghost use Rattle.control_desk.specs.Aged.{HaveAgedOut};
 ghost use Rattle.control_desk.specs.Seen.{owner_of};
 ghost use Rattle.keys.specs.Keys.{key_of};
+ghost use Rattle.work_keys.specs.WorkKeys.{work_key_of};
 ghost use Rattle.shared_board.specs.Calls.{IsCall, Nothing, after_give, once_ok};
 ghost use Rattle.shared_board.specs.Desks.{known, key_in_hand, IsPassAt, IsHolding};
 ghost use Rattle.shared_board.specs.Hands.{board};
@@ -12,7 +14,7 @@ use crate::desks::{ControlDesk, WorkPass};
 use crate::entries::Entry;
 use crate::steps;
 use baton::{Change, Held};
-use control_desk::{Board, Owner};
+use control_desk::{AgedOut, Board, Owner};
 use keys::Key;
 use std::alloc::AllocError;
 use std::marker::Brand;
@@ -70,6 +72,27 @@ impl ControlDesk {
     {
         let held = self.take(rt, pass);
         let answer = held.get().satisfied(owner);
+        self.give_back(rt, pass, held);
+        answer
+    }
+
+    /// Returns the keys of the ReplicaSets that expected something at the moment `before`, and by its age no longer do, with the moment
+    /// that it is: who asks again with that misses none. The pass has then seen all that had happened. The error is running out of
+    /// memory.
+    pub fn aged_out<R: Wait>(
+        &self,
+        rt: &R,
+        pass: &mut WorkPass,
+        before: u64,
+    ) -> Result<AgedOut, AllocError>
+        requires { IsPassAt self.now pass.old }
+        ensures pass { IsPassAt self.now pass.new }
+        ensures step { IsCall (known pass.old) (λ b. None)
+            (λ b. IfOk result (λ a. HaveAgedOut before a.moment (map work_key_of a.keys.items) b)) (known pass.new) }
+        ensures key { key_in_hand pass.new ≡ key_in_hand pass.old }
+    {
+        let held = self.take(rt, pass);
+        let answer = held.get().aged_out(before);
         self.give_back(rt, pass, held);
         answer
     }

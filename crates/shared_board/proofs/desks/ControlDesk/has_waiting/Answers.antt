@@ -1,5 +1,5 @@
-use Rattle.std.specs.Prelude.{◌≡◌, refl, Bool, Option, Some, None, is_some, option_map}
-use Rattle.std.proofs.Common.{◌∙◌, ap, sym}
+use Rattle.std.specs.Prelude.{◌≡◌, refl, Option, Some, None, is_some, option_map}
+use Rattle.std.proofs.Common.{◌∙◌, ap}
 use Rattle.controllers.specs.WorkQueues.{handed}
 use Rattle.shared_board.proofs.Turns.{calls}
 use Rattle.shared_board.proofs.desks.ControlDesk.has_waiting.Goals as goal

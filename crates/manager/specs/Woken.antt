@@ -1,0 +1,16 @@
+-- What wakes the keys that wait for what is never seen.
+use Rattle.std.specs.Prelude.{ℕ, List, [], None}
+use Rattle.baton.specs.declared.views.Known.{Known}
+use Rattle.control.specs.Boards.{Board}
+use Rattle.control_desk.specs.Aged.{HaveAgedOut}
+use Rattle.controllers.specs.WorkQueues.{WorkKey}
+use Rattle.shared_board.specs.Calls.{IsCall, Nothing}
+use Rattle.shared_board.specs.Steps.{Step, changing, observe}
+
+-- The keys of the ReplicaSets whose expectations aged out from a moment until now, the board's time when it was looked at, are added as those
+-- that a change owes.
+pub record Wakes (before now : ℕ) (v w : Known Board Step) : Type 0 where
+  pub keys : List WorkKey
+  pub between : Known Board Step
+  pub looks : IsCall v (λ b. None) (λ b. HaveAgedOut before now keys b) between
+  pub adds : IsCall between (changing (observe [] keys)) Nothing w

@@ -1,0 +1,11 @@
+use Rattle.std.proofs.Common.{IfOk, map, subst, ◌∙◌}
+use Rattle.control_desk.specs.Aged.{HaveAgedOut}
+use Rattle.shared_board.proofs.Turns.{calls}
+use Rattle.shared_board.proofs.desks.ControlDesk.aged_out.Goals as goal
+use Rattle.work_keys.specs.WorkKeys.{work_key_of}
+
+pub returns-clause-step : goal.returns-clause-step
+returns-clause-step g c =
+    calls _ _ _ _ _ c.take-held.ensures.taken
+    (subst (λ b. IfOk c.aged_out-answer.result (λ a. HaveAgedOut c.args.before a.moment (map work_key_of a.keys.items) b)) (c.get.ensures ∙ c.take-held.ensures.holding.board) c.aged_out-answer.ensures)
+    c.give_back.ensures.known
