@@ -37,7 +37,7 @@ impl Manager {
     ghost use Rattle.control_desk.specs.Seen.{observation_of};
     ghost use Rattle.reconciling.specs.Managers.{begun, restarted};
     ghost use Rattle.worker_slots.specs.Seen.{issued_of};
-    ghost use Rattle.managers.specs.ToldOutcome.{told_of_tick};
+    ghost use Rattle.managers.specs.Told.{told_of_tick};
     ghost use Rattle.managers.specs.Outcomes.{outcome_of};
     ghost use Rattle.work_keys.specs.WorkKeys.{work_key_of};
 
