@@ -1,27 +1,46 @@
 -- What actions ask of the server.
-use Rattle.std.proofs.Common.{◌≡◌, ℕ, Option, Some, None, Bool, true, false, refl, arith}
+use Rattle.std.proofs.Common.{◌≡◌, ℕ, Option, Some, None, Bool, true, false, refl, ap, ◌∙◌}
+use Rattle.controllers.specs.Commands.{Command}
 use Rattle.definitions.specs.declared.kinds.Kind.{Kind}
-use Rattle.reconciling.specs.Managers.{Client, Manager, act, act_in, look}
+use Rattle.reconciling.specs.Managers.{Client, Manager, Action, Acted, act, act_in, carry_out, closed, delivery_of, is_for, is_take, look, ask_satisfied, read_live, expect, finish, take_key}
 use Rattle.reconciling.specs.NextSteps as steps
 use Rattle.reconciling.specs.NextSteps.{NextStep, next}
 use Rattle.reconciling.specs.Turns.{Turn}
-use Rattle.std.specs.Prelude.{slice_get, if◌then◌else◌}
-use Rattle.reconciling.specs.Managers.{Acted, carry_out, closed, delivered, is_for}
+use Rattle.std.specs.Prelude.{slice_get, ◌&&◌, if◌then◌else◌}
 
-asks_at : (c : Client) (w : ℕ) (k : Kind) (t : Turn) (m : Manager) (n : NextStep) (b : Bool) → is_for (look k) n ≡ b → (if b then carry_out c w t delivered n m else closed m).request ≡ None
-asks_at c w k t m (steps.look j) true e = refl
-asks_at c w k t m (steps.look j) false e = refl
-asks_at c w k t m steps.ask_satisfied b e = grind arith
-asks_at c w k t m (steps.read j) b e = grind arith
-asks_at c w k t m (steps.expect x) b e = grind arith
-asks_at c w k t m (steps.issue x) b e = grind arith
-asks_at c w k t m steps.finish b e = grind arith
+neither_asks : (b : Bool) (x y : Acted) → x.request ≡ None → y.request ≡ None → (if b then x else y).request ≡ None
+neither_asks true x y a b = a
+neither_asks false x y a b = b
 
-asks_in : (c : Client) (w : ℕ) (k : Kind) (s : Option (Option Turn)) (m : Manager) → (act_in c w (look k) s m).request ≡ None
-asks_in c w k None m = refl
-asks_in c w k (Some None) m = refl
-asks_in c w k (Some (Some t)) m = asks_at c w k t m (next t) (is_for (look k) (next t)) refl
+-- an action that issues no command
+module _ (a : Action) (issues_none : (x : Command) → is_for a (steps.issue x) ≡ false) (takes_none : is_take a ≡ false) where
+  asks_at : (c : Client) (w : ℕ) (t : Turn) (m : Manager) (n : NextStep) → (if is_for a n then carry_out c w t (delivery_of a) n m else closed m).request ≡ None
+  asks_at c w t m (steps.look k) = neither_asks (is_for a (steps.look k)) _ (closed m) refl refl
+  asks_at c w t m steps.ask_satisfied = neither_asks (is_for a steps.ask_satisfied) _ (closed m) refl refl
+  asks_at c w t m (steps.read k) = neither_asks (is_for a (steps.read k)) _ (closed m) refl refl
+  asks_at c w t m (steps.expect e) = neither_asks (is_for a (steps.expect e)) _ (closed m) refl refl
+  asks_at c w t m (steps.issue x) = ap (λ (b : Bool). (if b then carry_out c w t (delivery_of a) (steps.issue x) m else closed m).request) (issues_none x)
+  asks_at c w t m steps.finish = neither_asks (is_for a steps.finish) _ (closed m) refl refl
 
--- a look asks nothing of the server
+  asks_in : (c : Client) (w : ℕ) (s : Option (Option Turn)) (m : Manager) → (act_in c w a s m).request ≡ None
+  asks_in c w None m = refl
+  asks_in c w (Some None) m = rw takes_none refl
+  asks_in c w (Some (Some t)) m = asks_at c w t m (next t)
+
+  asks_nothing : (c : Client) (w : ℕ) (m : Manager) → (act c w a m).request ≡ None
+  asks_nothing c w m = asks_in c w (slice_get m.turns w) m
+
 pub look_asks_nothing : (c : Client) (w : ℕ) (k : Kind) (m : Manager) → (act c w (look k) m).request ≡ None
-look_asks_nothing c w k m = asks_in c w k (slice_get m.turns w) m
+look_asks_nothing c w k m = asks_nothing (look k) (λ x. refl) refl c w m
+
+pub ask_asks_nothing : (c : Client) (w : ℕ) (m : Manager) → (act c w ask_satisfied m).request ≡ None
+ask_asks_nothing c w m = asks_nothing ask_satisfied (λ x. refl) refl c w m
+
+pub read_asks_nothing : (c : Client) (w : ℕ) (m : Manager) → (act c w read_live m).request ≡ None
+read_asks_nothing c w m = asks_nothing read_live (λ x. refl) refl c w m
+
+pub expect_asks_nothing : (c : Client) (w : ℕ) (m : Manager) → (act c w expect m).request ≡ None
+expect_asks_nothing c w m = asks_nothing expect (λ x. refl) refl c w m
+
+pub finish_asks_nothing : (c : Client) (w : ℕ) (m : Manager) → (act c w finish m).request ≡ None
+finish_asks_nothing c w m = asks_nothing finish (λ x. refl) refl c w m

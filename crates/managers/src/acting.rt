@@ -118,7 +118,7 @@ impl Manager {
 
     /// Has a worker act, if the action is open: exactly the definition's step. Returns what is told of it. The error is running out
     /// of memory, and then nothing has changed.
-    #[tactic(auto, using(crate::proofs::Asking::look_asks_nothing))]
+    #[tactic(auto, using(crate::proofs::Asking::look_asks_nothing, crate::proofs::Asking::ask_asks_nothing, crate::proofs::Asking::read_asks_nothing, crate::proofs::Asking::expect_asks_nothing, crate::proofs::Asking::finish_asks_nothing))]
     pub fn act(
         &mut self,
         alloc: Global,
