@@ -1,5 +1,5 @@
 -- The command that a turn issues next, and what a manager makes of it.
-use Rattle.std.proofs.Common.{◌≡◌, ◌<◌, refl, sym, ap, subst, ◌∙◌, ℕ, [], ◌∷◌, ◌++◌, Option, Some, None, option_map, length, IfSome, Result, Ok, Err, OnOk, IfOk, List, Vec, Global}
+use Rattle.std.proofs.Common.{◌≡◌, ◌<◌, refl, sym, ap, subst, ◌∙◌, ℕ, [], ◌∷◌, ◌++◌, Option, Some, None, option_map, length, IfSome, Result, Ok, Err, OnOk, IfOk}
 use Rattle.std.specs.Prelude.{slice_get, slice_set, if◌then◌else◌}
 use Rattle.std.proofs.lemmas.Option.{slice_get_within}
 use Rattle.controllers.specs.Commands.{Command}

@@ -1,5 +1,5 @@
 -- What a worker learns of its command.
-use Rattle.std.proofs.Common.{◌≡◌, ◌∙◌, ℕ, List, Option, Some, None, Ok, refl, sym, ap, option_map}
+use Rattle.std.proofs.Common.{◌≡◌, ℕ, List, Option, Ok, refl, option_map}
 use Rattle.std.specs.Prelude.{string_bytes}
 use Rattle.answer_laws.specs.AnswerLaws.{IsOfObject}
 use Rattle.answers.specs.Serves.{Serves}

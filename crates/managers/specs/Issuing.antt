@@ -1,5 +1,5 @@
 -- What comes of the command that a turn issues next.
-use Rattle.std.specs.Prelude.{ℕ, Option, option_map, string_bytes}
+use Rattle.std.specs.Prelude.{ℕ, Option, option_map}
 use Rattle.std.specs.Arc.{arc_value}
 use Rattle.definitions.specs.History.{Write}
 use Rattle.controllers.specs.Commands.{Command}
