@@ -1,4 +1,5 @@
-//! Laws of no overshoot: no ReplicaSet gets more pods of its controller than it ever asked for, whatever steps are taken.
+//! Laws of no overshoot: over every list of steps that lets it alone, a ReplicaSet never has more active ones, at one moment, of the pods that its
+//! controller made for it than it ever was to have.
 #![tactic(auto)]
 
 pub mod bound_laws;
