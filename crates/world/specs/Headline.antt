@@ -148,5 +148,5 @@ pub record Headline (w : WorldState) : Type 0 where
   pub takes : TakesTheHeads w.trace
   -- the collector spares what has a live owner
   pub spares : SparesLiveOwners w.trace
-  -- no set that is let alone gets more pods than it was ever to have
+  -- of the pods that were made for a set that is let alone never more are active than the greatest number of replicas that it had
   pub few : NeverOvershoots w.trace
