@@ -18,7 +18,7 @@ class CuttingProxy(Proxy):
     """Relays connections to a port, and cuts each watch sooner or later, and some of the others, until it is told to be quiet.
 
     A request that is cut was not carried out, and who sent it cannot know: it may have been. A controller that loses the answer to a create
-    goes on expecting the pod, makes no others of that set meanwhile, and gives up after 300 seconds; where the request had arrived, it sees
+    goes on expecting the pod, makes no others of that set meanwhile, and looks again after 300 seconds; where the request had arrived, it sees
     the pod at once. So requests are cut only where there is time to wait for that, and where not, only what is answered: each request then
     arrives, and some are not known to have.
     """

@@ -126,9 +126,9 @@ def server(program, port=0):
     return Listener([program, "serve", "--port", port, "--window", WINDOW, "--threads", THREADS])
 
 
-def control(program, port):
+def control(program, port, workers=WORKERS):
     """Starts `kcp control` at a server."""
-    return Program([program, "control", "--server", f"127.0.0.1:{port}", "--workers", WORKERS])
+    return Program([program, "control", "--server", f"127.0.0.1:{port}", "--workers", workers])
 
 
 def lasting_port():

@@ -16,7 +16,6 @@ NAMES = [f"set-{number:02}" for number in range(SETS)]
 READERS = 4
 # After how many seconds a controller no longer expects a pod that it does not see.
 EXPECTED_SECONDS = 300
-TOUCH_SECONDS = 1
 RETRY_SECONDS = 0.05
 BETWEEN_LISTS_SECONDS = 0.005
 # About how many pods are taken away at once, and how long it takes until the next are.
@@ -114,20 +113,10 @@ def settle(port):
     until(lambda: wanted(client), lambda: counts(client))
 
 
-def touch(client):
-    """Writes an annotation to each set with too few pods, and waits. What is expected of a set expires without a sign: it is looked at again
-    when something is written that concerns it."""
-    found = of_sets(client.present("pods"))
-    for it in NAMES:
-        if found[it] < REPLICAS:
-            client.patch("replicasets", it, {"metadata": {"annotations": {"touched": str(time.monotonic())}}})
-    time.sleep(TOUCH_SECONDS)
-
-
 def settle_late(port):
     """Waits until each set has its pods, also those of which a controller expects pods that never come."""
     client = Client(port)
-    until(lambda: wanted(client) or touch(client), lambda: counts(client), more=EXPECTED_SECONDS)
+    until(lambda: wanted(client), lambda: counts(client), more=EXPECTED_SECONDS)
 
 
 def undisturbed(program, lists):

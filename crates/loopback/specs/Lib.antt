@@ -2,3 +2,4 @@ pub mod Told
 pub mod Asking
 pub mod Serving
 pub mod Threads
+pub mod Troubles

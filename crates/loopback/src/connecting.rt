@@ -1,5 +1,6 @@
 //! Connections to a server of the loopback address.
 use crate::reach::Reach;
+use crate::trouble::Trouble;
 use bells::Stop;
 use patience::Patient;
 use patience::patient::PIECE_MILLISECONDS;
@@ -12,6 +13,9 @@ use std::time::Duration;
 
 /// After how many seconds without a byte a connection is given up.
 const PATIENCE_SECONDS: u32 = 60;
+
+/// The first status code by which a server says that it has failed.
+const FIRST_FAILURE: u16 = 500;
 
 /// Connects to a server of the loopback address, again for each request, until a stop.
 #[derive(Drop)]
@@ -42,7 +46,7 @@ impl<'a, R> Connector<'a, R> {
     }
 }
 
-impl<R: Net<Stream = TcpStream> + Eprint> Connector<'_, R> {
+impl<'a, R: Net<Stream = TcpStream> + Eprint> Connector<'a, R> {
     /// Returns a stream to the port, and notes whether there is one.
     fn reach(&self) -> io::Result<TcpStream> {
         let reached = TcpStream::connect(self.rt, (Ipv4Addr::LOCALHOST, self.port));
@@ -50,8 +54,14 @@ impl<R: Net<Stream = TcpStream> + Eprint> Connector<'_, R> {
             Ok(_) => self.reach.note_reached(),
             Err(error) => self.note_failed(error),
         }
-        self.tell(reached.is_ok());
         reached
+    }
+
+    /// Notes that there is a stream, and what reads it.
+    fn note_ready(&self) {
+        if self.reach.is_there_again() {
+            self.say("is there again");
+        }
     }
 
     /// Notes that there is no stream. Where nobody listens any more the server has ended, and all who ask it stop.
@@ -59,18 +69,50 @@ impl<R: Net<Stream = TcpStream> + Eprint> Connector<'_, R> {
         if error.kind() == ErrorKind::ConnectionRefused && self.reach.note_refused() {
             self.stop.stop();
         }
+        self.note(Trouble::of_error(error));
     }
 
-    /// Says on standard error that the server cannot be reached, or can be again, if that is news.
-    fn tell(&self, is_reached: bool) {
-        if self.reach.is_news(is_reached) {
-            let word = if is_reached {
-                "is there again"
-            } else {
-                "cannot be reached"
-            };
-            let _ = eprintln!(self.rt; "kcp: the server at 127.0.0.1:{} {word}", self.port);
+    /// Notes a trouble with the server, and says it on standard error if it is news.
+    fn note(&self, trouble: Trouble) {
+        if !self.reach.is_news(trouble) {
+            return;
         }
+        match trouble {
+            Trouble::Unreachable => self.say("cannot be reached"),
+            Trouble::NoDescriptor => {
+                self.say("cannot be reached, as this program has no descriptor left")
+            }
+            Trouble::NoMemory => self.say("cannot be reached, as this program has no memory left"),
+            Trouble::Fails(code) => {
+                let _ = eprintln!(self.rt; "kcp: the server at 127.0.0.1:{} answers {code}", self.port);
+            }
+        }
+    }
+
+    /// Says something of the server on standard error.
+    fn say(&self, words: &str) {
+        let _ = eprintln!(self.rt; "kcp: the server at 127.0.0.1:{} {words}", self.port);
+    }
+
+    /// Notes a status code that the server answered with: from 500 on it says that the server has failed (RFC 9110, Server Error 5xx).
+    pub(crate) fn note_answered(&self, code: u16) {
+        if code >= FIRST_FAILURE {
+            self.note(Trouble::Fails(code));
+        } else if self.reach.answers_again() {
+            self.say("answers again");
+        }
+    }
+
+    /// Prepares a stream, and returns what reads it.
+    fn reader_of(&self, writer: &TcpStream) -> io::Result<BufReader<Patient<'a, TcpStream>>> {
+        writer.set_nodelay(true)?;
+        writer.set_read_timeout(Some(Duration::from_millis(PIECE_MILLISECONDS)))?;
+        writer.set_write_timeout(Some(Duration::from_secs(u64::from(PATIENCE_SECONDS))))?;
+        let stream = writer.try_clone()?;
+        BufReader::new(
+            self.alloc,
+            Patient::new(stream, self.stop, PATIENCE_SECONDS),
+        )
     }
 
     /// Looks whether the server is still there, unless all is to stop.
@@ -91,14 +133,15 @@ impl<'a, R: Net<Stream = TcpStream> + Eprint> Connect for Connector<'a, R> {
             return Err(io::Error::from(ErrorKind::Interrupted));
         }
         let writer = self.reach()?;
-        writer.set_nodelay(true)?;
-        writer.set_read_timeout(Some(Duration::from_millis(PIECE_MILLISECONDS)))?;
-        writer.set_write_timeout(Some(Duration::from_secs(u64::from(PATIENCE_SECONDS))))?;
-        let stream = writer.try_clone()?;
-        let reader = BufReader::new(
-            self.alloc,
-            Patient::new(stream, self.stop, PATIENCE_SECONDS),
-        )?;
-        Ok((reader, writer))
+        match self.reader_of(&writer) {
+            Ok(reader) => {
+                self.note_ready();
+                Ok((reader, writer))
+            }
+            Err(error) => {
+                self.note(Trouble::of_error(&error));
+                Err(error)
+            }
+        }
     }
 }

@@ -8,6 +8,7 @@ pub mod other_server;
 pub mod own_server;
 mod pausing;
 pub mod reach;
+pub mod trouble;
 
 pub use answering::{Connection, connections};
 pub use connecting::Connector;
@@ -15,3 +16,4 @@ pub use kind_bells::KindBells;
 pub use other_server::OtherServer;
 pub use own_server::{OwnServer, answer_of};
 pub use reach::Reach;
+pub use trouble::Trouble;

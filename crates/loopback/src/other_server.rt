@@ -7,6 +7,9 @@ use requests::Request;
 use std::alloc::Global;
 use std::net::{Net, TcpStream};
 
+/// The status code of a watch that is open (RFC 9110, 200 OK).
+const OK: u16 = 200;
+
 /// A server of another process. Where an answer or a watch breaks off, it is looked at once whether the server is still there: one that is
 /// started in its place has an empty store, and is not to be taken for one that goes on, though its first revisions are the same.
 #[derive(Drop)]
@@ -23,10 +26,12 @@ impl<'a, R, A: Api + Drop> OtherServer<'a, R, A> {
 }
 
 impl<R: Net<Stream = TcpStream> + Eprint, A: Api + Drop> OtherServer<'_, R, A> {
-    /// Returns an answer, after a look at the server where it broke off.
+    /// Returns an answer, after a look at the server where it broke off, and a note of the code that it was answered with.
     fn looked_after(&self, answer: Answer) -> Answer {
-        if matches!(answer, Answer::Lost) {
-            self.connector.look();
+        match &answer {
+            Answer::Lost => self.connector.look(),
+            Answer::Replied(reply) => self.connector.note_answered(reply.code),
+            Answer::NotSent => {}
         }
         answer
     }
@@ -45,8 +50,11 @@ impl<R: Net<Stream = TcpStream> + Eprint, A: Api + Drop> Api for OtherServer<'_,
 
     fn open_watch(&mut self, alloc: Global, kind: Kind, revision: u64) -> Opened {
         let opened = self.api.open_watch(alloc, kind, revision);
-        if opened == Opened::Lost {
-            self.connector.look();
+        match opened {
+            Opened::Lost => self.connector.look(),
+            Opened::Refused(code) => self.connector.note_answered(code),
+            Opened::Expired => {}
+            Opened::Open => self.connector.note_answered(OK),
         }
         opened
     }

@@ -1,4 +1,5 @@
 //! Whether a server is there.
+use crate::trouble::{FIRST_CODE, Trouble};
 use std::sync::atomic::{AtomicU64, Ordering};
 
 /// No connection was made yet.
@@ -10,14 +11,17 @@ const REACHED: u64 = 1;
 /// A connection was refused after one was made.
 const GONE: u64 = 2;
 
+/// No trouble with the server was said, or that it is over.
+const WELL: u64 = 0;
+
 /// Whether a server is there, as all who connect to it have found. Once it was reached and then refuses a connection it has ended: what comes
 /// after it is another server, even where it comes at once, and knows nothing of what this one was asked.
 #[derive(Drop)]
 pub struct Reach {
     /// `UNREACHED`, `REACHED` or `GONE`.
     found: AtomicU64,
-    /// 1 while it was said that the server cannot be reached.
-    away: AtomicU64,
+    /// The number of the trouble that was said last, until it was said that it is over.
+    said: AtomicU64,
 }
 
 impl Reach {
@@ -25,7 +29,7 @@ impl Reach {
     pub const fn new() -> Reach {
         Reach {
             found: AtomicU64::new(UNREACHED),
-            away: AtomicU64::new(0),
+            said: AtomicU64::new(WELL),
         }
     }
 
@@ -53,10 +57,31 @@ impl Reach {
         self.found.load(Ordering::SeqCst) == GONE
     }
 
-    /// Notes whether a server can be reached, and returns whether that is news: once when it goes away, and once when it is there again.
-    pub fn is_news(&self, is_reached: bool) -> bool {
-        let away = u64::from(!is_reached);
-        self.away.swap(away, Ordering::SeqCst) != away
+    /// Notes a trouble with the server, and returns whether it is news: another one was said last, or none.
+    pub(crate) fn is_news(&self, trouble: Trouble) -> bool {
+        let number = trouble.number();
+        self.said.swap(number, Ordering::SeqCst) != number
+    }
+
+    /// Notes that the server can be reached, and returns whether it is news: it was said last why it could not.
+    pub(crate) fn is_there_again(&self) -> bool {
+        let said = self.said.load(Ordering::SeqCst);
+        said < FIRST_CODE && self.is_over(said)
+    }
+
+    /// Notes that the server answers, and returns whether it is news: it was said last that it fails.
+    pub(crate) fn answers_again(&self) -> bool {
+        let said = self.said.load(Ordering::SeqCst);
+        said >= FIRST_CODE && self.is_over(said)
+    }
+
+    /// Notes that a trouble that was said is over, and returns whether one was said, and nobody has noted it before.
+    fn is_over(&self, said: u64) -> bool {
+        said != WELL
+            && self
+                .said
+                .compare_exchange(said, WELL, Ordering::SeqCst, Ordering::SeqCst)
+                .is_ok()
     }
 }
 

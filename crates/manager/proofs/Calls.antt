@@ -1,5 +1,5 @@
 -- What calls at the board leave in a pass.
-use Rattle.std.proofs.Common.{◌≡◌, ◌++◌, List, [], ◌∷◌, Option, None, Result, Ok, Err, OnOk, OnErr, ap, ◌∙◌, subst}
+use Rattle.std.proofs.Common.{◌≡◌, ◌++◌, List, [], ◌∷◌, Option, None, Result, Ok, Err, OnOk, OnErr, ap, ◌∙◌, subst, append_assoc}
 use Rattle.std.proofs.lemmas.List.{append-nil}
 use Rattle.baton.specs.declared.views.Known.{Known}
 use Rattle.control.specs.Boards.{Board, Observation}
@@ -11,6 +11,10 @@ use Rattle.manager.specs.Handled.{HasWaited}
 -- a call that changes nothing
 pub waited : {Says : Board → Type 0} → (v w : Known Board Step) → IsCall v (λ b. None) Says w → HasWaited v w
 waited v w c = ((c.later.0, ap (λ k. k.seen) c.knows ∙ append-nil c.history ∙ c.later.1), ap (λ k. k.made) c.knows ∙ append-nil v.made)
+
+-- and then another one
+pub waited_on : (u v w : Known Board Step) → HasWaited u v → HasWaited v w → HasWaited u w
+waited_on u v w first then = ((first.0.0 ++ then.0.0, then.0.1 ∙ ap (λ s. s ++ then.0.0) first.0.1 ∙ append_assoc u.seen first.0.0 then.0.0), then.1 ∙ first.1)
 
 -- a call that failed
 pub waited_at : {X Y : Type 0} {Says : Board → Type 0} → (r : Result X Y) (step : Board → Option Step) (v w : Known Board Step) → IsCall v (λ b. once_ok r (step b)) Says w → OnErr r (HasWaited v w)

@@ -35,6 +35,33 @@ fn waits(alloc: Global) -> Result<([bool; 3], [bool; 2]), AllocError> {
     Ok((creations(alloc, &key)?, deletions(alloc, &key)?))
 }
 
+/// Returns how many ReplicaSets age out from one moment to another, where `web` waits for a pod since moment 0, and `api` saw its own.
+fn aged(alloc: Global, before: u64, now: u64) -> Result<usize, AllocError> {
+    let web = key(alloc, Kind::ReplicaSet, "web")?;
+    let api = key(alloc, Kind::ReplicaSet, "api")?;
+    let mut table = Table::new(alloc);
+    table.expect_creations(&web, "uid-1", 1, 0)?;
+    table.expect_creations(&api, "uid-2", 1, 0)?;
+    table.created(&api, "uid-2");
+    Ok(table.aged_out(before, now)?.len())
+}
+
+/// Returns how many age out until five minutes have passed, in the millisecond after, and then.
+fn ages(alloc: Global) -> Result<[usize; 3], AllocError> {
+    Ok([
+        aged(alloc, 0, 300_000)?,
+        aged(alloc, 300_000, 300_001)?,
+        aged(alloc, 300_001, 600_000)?,
+    ])
+}
+
+#[test]
+fn who_waits_in_vain_ages_out_once(rt: HostRuntime) -> Result<(), AllocError> {
+    let ages = ages(rt.alloc())?;
+    assert_eq!(rt; ages, [0, 1, 0]);
+    Ok(())
+}
+
 #[test]
 fn creations_and_deletions_are_waited_for(rt: HostRuntime) -> Result<(), AllocError> {
     let seen = waits(rt.alloc())?;

@@ -1,0 +1,68 @@
+//! What keeps a server from answering.
+ghost use Rattle.std.specs.Prelude.{◌≡◌, ◌≢◌, true};
+ghost use Rattle.std.specs.IoError.{error_kind, raw_os_error};
+ghost use Rattle.loopback.specs.Troubles.{LacksDescriptor};
+
+use std::io;
+use std::io::ErrorKind;
+
+/// The fault of a system call that finds no descriptor left for this process (Linux, errno(3), EMFILE).
+const NONE_FOR_PROCESS: i32 = 24;
+
+/// The fault of one that finds none left on the machine (ENFILE).
+const NONE_ON_MACHINE: i32 = 23;
+
+/// What keeps who asks a server from an answer that says something.
+#[derive(Debug, Clone, Copy, PartialEq, Eq)]
+pub enum Trouble {
+    /// No connection can be made.
+    Unreachable,
+    /// No descriptor is left here for one.
+    NoDescriptor,
+    /// No memory is left here for one.
+    NoMemory,
+    /// The server answers that it has failed, with this status code.
+    Fails(u16),
+}
+
+impl Trouble {
+    /// Returns what kept a connection from being made.
+    pub fn of_error(error: &io::Error) -> Trouble
+        ensures descriptor { LacksDescriptor (raw_os_error error.now) → result ≡ Trouble.NoDescriptor }
+        ensures memory { (LacksDescriptor (raw_os_error error.now) → ⊥) → error_kind error.now ≡ ErrorKind.OutOfMemory → result ≡ Trouble.NoMemory }
+        ensures other { (LacksDescriptor (raw_os_error error.now) → ⊥) → error_kind error.now ≢ ErrorKind.OutOfMemory → result ≡ Trouble.Unreachable }
+    {
+        if is_without_descriptor(error) {
+            return Trouble::NoDescriptor;
+        }
+        if error.kind() == ErrorKind::OutOfMemory {
+            Trouble::NoMemory
+        } else {
+            Trouble::Unreachable
+        }
+    }
+
+    /// Returns a number of its own, above 0, by which threads share it.
+    pub(crate) fn number(self) -> u64 {
+        match self {
+            Trouble::Unreachable => 1,
+            Trouble::NoDescriptor => 2,
+            Trouble::NoMemory => 3,
+            Trouble::Fails(code) => FIRST_CODE + u64::from(code),
+        }
+    }
+}
+
+/// The number of an answer with the status code 0: those below are of connections that are not made.
+pub(crate) const FIRST_CODE: u64 = 4;
+
+/// Returns whether an error says that no descriptor is left.
+fn is_without_descriptor(error: &io::Error) -> bool
+    ensures yes { LacksDescriptor (raw_os_error error.now) → result ≡ true }
+    ensures no { result ≡ true → LacksDescriptor (raw_os_error error.now) }
+{
+    match error.raw_os_error() {
+        Some(code) => code == NONE_FOR_PROCESS || code == NONE_ON_MACHINE,
+        None => false,
+    }
+}
