@@ -35,9 +35,7 @@ pub fn look_at(alloc: Global, routes: &Routes, bytes: &[u8]) -> Result<Arrived, 
     let front = front_of(bytes);
     match find_head(front, &mut fields) {
         Found::Whole(found) => with_head(alloc, routes, bytes, front, found, &fields),
-        Found::IllFormed => Ok(Arrived::Whole(Received::Refused(Fault::BadRequest(
-            Part::Head,
-        )))),
+        Found::IllFormed => Ok(Arrived::Whole(Received::Refused(Fault::BadRequest(Part::Head)))),
         Found::TooLarge => Ok(Arrived::Whole(Received::Refused(Fault::TooLarge))),
         Found::Cut => Ok(Arrived::Part(front.len() + 1)),
     }
