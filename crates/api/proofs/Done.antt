@@ -65,14 +65,6 @@ pub asks_said : (known : Option (List ℕ)) (r : Received) → received.AsksKnow
 asks_said None r a = tt
 asks_said (Some bytes) r a = a
 
-module _ {S D : Type 0} (begins : S → View → Result Listed Refusal → S → Type 0) (watches : S → View → ℕ → ℕ → Look → S → Type 0) (v : View) (bookmarks : Bool)
-    (contents : D → Option (List ℕ)) where
-  -- a watch that was served so
-  pub concluded : (s t : S) (from : Option ℕ) (old mid new : Watched D) (served known : Result (Unit {0}) WatchFault) (r : Result (Unit {0}) ServeFault) → served ≡ known
-      → Serves begins watches v bookmarks contents s t old mid from served → Concludes contents known mid new r
-      → (mid : Watched D) × (served : Result (Unit {0}) WatchFault) × Serves begins watches v bookmarks contents s t old mid from served × Concludes contents served mid new r
-  concluded s t from old mid new served known r e h c = (mid, known, subst (Serves begins watches v bookmarks contents s t old mid from) e h, c)
-
 -- ---- a whole request
 
 abbrev says_asked : Result Served ServeFault → Bool

@@ -13,7 +13,8 @@ use Rattle.keys.specs.Faults.{refusal_of}
 use Rattle.keys.specs.declared.fault.Fault.{Fault}
 use Rattle.reply.specs.declared.reply.Reply as replies
 use Rattle.sites.specs.Told.{Tells}
-use Rattle.api.specs.Replying.{Sends, Replies, RepliesTo}
+use Rattle.api.specs.Replying.{Sends, Replies}
+use Rattle.api.specs.Responding.{IsReplyTo, IsReplyOf}
 use Rattle.api.specs.Serving.{has_reader_failed}
 use Rattle.api.specs.declared.fault.ServeFault.{ServeFault}
 use Rattle.api.specs.declared.fault.ServeFault.TheVariants as fault
@@ -21,6 +22,13 @@ use Rattle.api.specs.declared.fault.ServeFault.TheVariants as fault
 appends_none : (known : Option (List ℕ)) → Appends known known []
 appends_none None = tt
 appends_none (Some xs) = sym (append-nil xs)
+
+-- what a server tells is replied to
+pub told_then : (IsSo : Outcome → Type 0) (answer : Result replies.Reply Fault) (bytes : List ℕ) → Tells IsSo answer → IsReplyOf answer bytes → (o : Outcome) × IsSo o × IsReplyTo o bytes
+told_then IsSo (Ok reply) bytes (a, says, so) is =
+    let text : response_text reply.code (string_bytes reply.text) ≡ reply_text (outcome (answered a)) = cc (says.code, says.text) in
+    (answered a, so, is ∙ text)
+told_then IsSo (Err e) bytes so is = (refused (refusal_of e), so, is)
 
 module _ {D : Type 0} (contents : D → Option (List ℕ)) (old new : Watched D) where
   pub sent : (text : List ℕ) (u : Unit {0}) → WritesInPlace text contents old new (Ok u) → Sends contents old new text (Ok u)
@@ -34,13 +42,11 @@ module _ {D : Type 0} (contents : D → Option (List ℕ)) (old new : Watched D)
   not_sent text chunk.Truncated w = absurd w
   not_sent text chunk.Want w = absurd w
 
-  -- what a server tells is replied to
-  pub told_then : (IsSo : Outcome → Type 0) (answer : Result replies.Reply Fault) (r : Result (Unit {0}) ServeFault) → Tells IsSo answer → RepliesTo contents old new answer r
-      → (o : Outcome) × IsSo o × Replies contents old new o r
-  told_then IsSo (Ok reply) r (a, says, so) sends =
-      let text : response_text reply.code (string_bytes reply.text) ≡ reply_text (outcome (answered a)) = cc (says.code, says.text) in
-      (answered a, so, subst (λ x. Sends contents old new x r) text sends)
-  told_then IsSo (Err e) r so sends = (refused (refusal_of e), so, sends)
+  -- the reply to an outcome, sent
+  pub replied : (o : Outcome) (bytes : List ℕ) (r : Result (Unit {0}) ServeFault) → IsReplyTo o bytes → Sends contents old new bytes r → Replies contents old new o r
+  replied (answered a) bytes r is sends = subst (λ t. Sends contents old new t r) is sends
+  replied (refused f) bytes r (inl is) sends = inl (subst (λ t. Sends contents old new t r) is sends)
+  replied (refused f) bytes r (inr is) sends = inr (subst (λ t. Sends contents old new t r) is sends)
 
   -- the reader is not at fault
   pub sends_fault : (text : List ℕ) (r : Result (Unit {0}) ServeFault) → Sends contents old new text r → has_reader_failed r ≡ false

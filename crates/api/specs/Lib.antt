@@ -1,2 +1,4 @@
 pub mod Replying
+pub mod Responding
+pub mod Delivering
 pub mod Serving

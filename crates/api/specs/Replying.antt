@@ -1,15 +1,12 @@
 -- What is written for an answer.
-use Rattle.std.specs.Prelude.{◌≡◌, ◌⊎◌, ℕ, List, Option, true, false, Result, Ok, Err, string_bytes}
+use Rattle.std.specs.Prelude.{◌≡◌, ◌⊎◌, ℕ, List, Option, true, false, Result, Ok, Err}
 use Rattle.std.specs.Io.KnownBytes.{Appends}
 use Rattle.definitions.specs.Refusals.{no_memory}
 use Rattle.definitions.specs.Replies.{outcome}
 use Rattle.definitions.specs.Verbs.{Outcome, answered, refused}
 use Rattle.chunked.specs.Devices.{AppendsBeginning, device_of, has_failed}
 use Rattle.chunked.specs.declared.watched.Watched.{Watched}
-use Rattle.connections.specs.Replies.{response_text, reply_text}
-use Rattle.keys.specs.Faults.{refusal_of}
-use Rattle.keys.specs.declared.fault.Fault.{Fault}
-use Rattle.reply.specs.declared.reply.Reply as replies
+use Rattle.connections.specs.Replies.{reply_text}
 use Rattle.api.specs.declared.fault.ServeFault.{ServeFault}
 use Rattle.api.specs.declared.fault.ServeFault.TheVariants as fault
 
@@ -25,8 +22,3 @@ module _ {D : Type 0} (contents : D → Option (List ℕ)) (old new : Watched D)
   abbrev pub Replies : Outcome → Result (Unit {0}) ServeFault → Type 0
   Replies (answered a) result = Sends (reply_text (outcome (answered a))) result
   Replies (refused f) result = Sends (reply_text (outcome (refused f))) result ⊎ Sends (reply_text (outcome (refused no_memory))) result
-
-  -- the same of what a server answers
-  abbrev pub RepliesTo : Result replies.Reply Fault → Result (Unit {0}) ServeFault → Type 0
-  RepliesTo (Ok r) result = Sends (response_text r.code (string_bytes r.text)) result
-  RepliesTo (Err e) result = Replies (refused (refusal_of e)) result

@@ -1,15 +1,15 @@
-//! Replies, written.
-ghost use Rattle.std.specs.Prelude.{string_bytes};
-ghost use Rattle.api.specs.Replying.{Sends, Replies, RepliesTo};
-ghost use Rattle.connections.specs.Replies.{response_text};
+//! Replies, as bytes.
+ghost use Rattle.api.specs.Replying.{Sends};
+ghost use Rattle.api.specs.Responding.{IsReplyTo, IsReplyOf, text_of};
 ghost use Rattle.definitions.specs.Verbs.{refused};
 ghost use Rattle.keys.specs.Faults.{refusal_of};
 
 use crate::fault::ServeFault;
+use crate::response::Text;
 use chunked::Watched;
 use keys::Fault;
 use reply::Reply;
-use responses::{out_of_memory, refusal, send_response};
+use responses::{out_of_memory, refusal, response, send_response};
 use std::alloc::Global;
 use std::io::Write;
 
@@ -24,55 +24,48 @@ pub(crate) fn send<W: Write + Drop>(text: &[u8], writer: &mut Watched<W>) -> Res
 }
 
 /// Writes a reply. It never lacks memory.
-fn send_reply<W: Write + Drop>(
+pub(crate) fn send_reply<W: Write + Drop>(
     alloc: Global,
-    reply: &Reply,
+    text: &Text,
     writer: &mut Watched<W>,
 ) -> Result<(), ServeFault>
-    ensures { Sends W.contents writer.old writer.new (response_text reply.now.code (string_bytes reply.now.text)) result }
+    ensures { Sends W.contents writer.old writer.new (text_of text.now) result }
 {
-    match send_response(alloc, reply.code, reply.text.as_str(), writer) {
-        Ok(()) => Ok(()),
-        Err(_) => Err(ServeFault::Write),
+    match text {
+        Text::Whole(bytes) => match send(bytes, writer) {
+            Ok(()) => Ok(()),
+            Err(fault) => Err(fault),
+        },
+        Text::Parts(reply) => match send_response(alloc, reply.code, reply.text.as_str(), writer) {
+            Ok(()) => Ok(()),
+            Err(_) => Err(ServeFault::Write),
+        },
+        Text::OutOfMemory => match send(out_of_memory(), writer) {
+            Ok(()) => Ok(()),
+            Err(fault) => Err(fault),
+        },
     }
 }
 
-/// Writes the reply that refuses a request. Where there is no memory to say why, it says that.
-pub(crate) fn send_refusal<W: Write + Drop>(
-    alloc: Global,
-    fault: &Fault,
-    writer: &mut Watched<W>,
-) -> Result<(), ServeFault>
-    ensures { Replies W.contents writer.old writer.new (refused (refusal_of fault.now)) result }
+/// Returns the reply that refuses a request. Where there is no memory to say why, it says that.
+pub fn refusal_text(alloc: Global, fault: &Fault) -> Text
+    ensures { IsReplyTo (refused (refusal_of fault.now)) (text_of result) }
 {
     match refusal(alloc, fault) {
-        Ok(text) => match send(&text, writer) {
-            Ok(()) => Ok(()),
-            Err(fault) => Err(fault),
-        },
-        Err(_) => match send(out_of_memory(), writer) {
-            Ok(()) => Ok(()),
-            Err(fault) => Err(fault),
-        },
+        Ok(bytes) => Text::Whole(bytes),
+        Err(_) => Text::OutOfMemory,
     }
 }
 
-/// Writes the reply to what a server answers.
-pub(crate) fn send_answer<W: Write + Drop>(
-    alloc: Global,
-    answer: Result<Reply, Fault>,
-    writer: &mut Watched<W>,
-) -> Result<(), ServeFault>
-    ensures { RepliesTo W.contents writer.old writer.new answer result }
+/// Returns the reply to what a server answers. It never lacks memory.
+pub(crate) fn answer_text(alloc: Global, answer: Result<Reply, Fault>) -> Text
+    ensures { IsReplyOf answer (text_of result) }
 {
     match answer {
-        Ok(reply) => match send_reply(alloc, &reply, writer) {
-            Ok(()) => Ok(()),
-            Err(fault) => Err(fault),
+        Ok(reply) => match response(alloc, reply.code, reply.text.as_str()) {
+            Ok(bytes) => Text::Whole(bytes),
+            Err(_) => Text::Parts(reply),
         },
-        Err(refused) => match send_refusal(alloc, &refused, writer) {
-            Ok(()) => Ok(()),
-            Err(fault) => Err(fault),
-        },
+        Err(fault) => refusal_text(alloc, &fault),
     }
 }

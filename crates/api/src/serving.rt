@@ -3,9 +3,10 @@ ghost use Rattle.std.specs.Prelude.{◌≡◌};
 ghost use Rattle.api.specs.Serving.{AsksWhole, Reads, ServesOne, has_reader_failed, how_left};
 ghost use Rattle.chunked.specs.Devices.{device_of, has_failed};
 
-use crate::answering::do_received;
+use crate::delivering::deliver;
 use crate::fault::ServeFault;
 use crate::replying::send;
+use crate::responding::respond;
 use crate::served::{Served, served_by};
 use chunked::Watched;
 use received::receive;
@@ -43,7 +44,8 @@ pub fn serve_one<S: Site, P: Pace, R: Read + Drop, W: Write + Drop>(
     match receive(alloc, routes, reader) {
         Ok(received) => {
             let served = served_by(&received);
-            match do_received(alloc, received, site, moment, pace, writer) {
+            let response = respond(alloc, received, site, moment);
+            match deliver(alloc, &response, site, pace, writer) {
                 Ok(()) => Ok(served),
                 Err(fault) => Err(fault),
             }

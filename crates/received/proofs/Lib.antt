@@ -2,3 +2,4 @@ pub mod Filling
 pub mod Told
 pub mod Needed
 pub mod ReadHeads
+pub mod SoFar

@@ -100,7 +100,11 @@ fn after_opening<R: Read + Drop>(
 }
 
 /// Returns what is asked by a head whose checks pass, with the body that these bytes begin with.
-fn with_body(alloc: Global, opening: Opening<'_>, bytes: &[u8]) -> Result<Received, ReadFault>
+pub(crate) fn with_body(
+    alloc: Global,
+    opening: Opening<'_>,
+    bytes: &[u8],
+) -> Result<Received, ReadFault>
     requires whole { opening.body_length ≤ length bytes.now }
     ensures says { Says (opening_seen opening.entry) bytes.now result }
     ensures memory { IfOk result (λ r. r ≡ received.Refused NoMemory → ⊥) }

@@ -29,13 +29,6 @@ begun_then before now after text more a b =
 begun_by : (before after : Option (List ℕ)) (text more : List ℕ) → Appends before after text → AppendsBeginning before after (text ++ more)
 begun_by before after text more a = (text, more, a, refl)
 
--- nothing more is written
-pub writes_nil : {D : Type 0} (X Y : Type 0) (text : List ℕ) (contents : D → Option (List ℕ)) (old new : device.Watched D) (c : Cut) → Writes {X = X} text contents old new (Err c)
-    → Writes {X = Y} (text ++ []) contents old new (Err c)
-writes_nil X Y text contents old new cut.Device x =
-    (x.0, subst (AppendsBeginning (contents (device_of old)) (contents (device_of new))) (sym (append-nil text)) x.1)
-writes_nil X Y text contents old new cut.NoMemory x = x
-
 module _ {S D : Type 0} (watches : S → View → ℕ → ℕ → Look → S → Type 0) (v : View) (b : Bool) (contents : D → Option (List ℕ)) where
   -- looks were made and their frames written, and whatever looks are made from here on, they are the further looks of the watch
   pub record IsUnderWay (s : S) (at idle : ℕ) (t : S) (now_at now_idle : ℕ) (before after : device.Watched D) : Type 0 where
@@ -155,10 +148,8 @@ module _ {S D : Type 0} (watches : S → View → ℕ → ℕ → Look → S →
       ([], refl, inl (subst (AppendsBeginning (contents (device_of before)) (contents (device_of after))) (sym (append-nil text)) a), f)
 
   -- from where a watch that has opened stands
-  pub opened_follows : (s t : S) (before start after : device.Watched D) (text opening : List ℕ) (at idle stands idles : ℕ) (r : Result (Unit {0}) Cut) → at ≡ stands → idle ≡ idles
-      → text ≡ opening → Appends (contents (device_of before)) (contents (device_of start)) text → Follows watches v b contents s t start after [] at idle r
-      → Follows watches v b contents s t before after opening stands idles r
-  opened_follows s t before start after text opening at idle stands idles r e i o a f =
+  pub opened_follows : (s t : S) (before after : device.Watched D) (text opening : List ℕ) (at idle stands idles : ℕ) (r : Result (Unit {0}) Cut) → at ≡ stands → idle ≡ idles
+      → text ≡ opening → Follows watches v b contents s t before after text at idle r → Follows watches v b contents s t before after opening stands idles r
+  opened_follows s t before after text opening at idle stands idles r e i o f =
       subst (λ x. Follows watches v b contents s t before after x stands idles r) o
-      (subst (λ x. Follows watches v b contents s t before after text stands x r) i
-      (subst (λ x. Follows watches v b contents s t before after text x idle r) e (follows_after s t before start after text at idle r a f)))
+      (subst (λ x. Follows watches v b contents s t before after text stands x r) i (subst (λ x. Follows watches v b contents s t before after text x idle r) e f))

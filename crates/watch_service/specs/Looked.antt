@@ -11,6 +11,7 @@ use Rattle.connections.specs.Replies.{frames_text}
 use Rattle.watch_service.specs.Watches.{Look, most_changes, idle_after, look_frames}
 use Rattle.watch_service.specs.declared.fault.Cut.{Cut}
 use Rattle.watch_service.specs.declared.fault.Cut.TheVariants as cut
+use Rattle.watch_service.specs.declared.looked.Looked.{Looked}
 use Rattle.watch_service.specs.declared.standing.Standing.{Standing}
 
 -- the text was written; or the writer has failed, and a beginning was; or out of memory, and nothing was
@@ -24,9 +25,10 @@ abbrev pub StandsAfter : Bool → Standing → Watched → Result Standing Cut �
 StandsAfter bookmarks at w (Ok next) = (next.revision ≡ w.stands) × (next.idle ≡ idle_after at.idle (told_lines bookmarks at.revision w))
 StandsAfter bookmarks at w (Err c) = Unit {0}
 
--- the frames of what was given were written
-abbrev pub Shows : {D : Type 0} → Kind → Bool → Standing → Watched → (D → Option (List ℕ)) → device.Watched D → device.Watched D → Result Standing Cut → Type 0
-Shows k bookmarks at w contents old new result = Writes (frames_text k (told_lines bookmarks at.revision w)) contents old new result × StandsAfter bookmarks at w result
+-- these are the frames of what was given, and where the watch then stands
+abbrev pub IsShown : Kind → Bool → Standing → Watched → Looked → Type 0
+IsShown k bookmarks at w l =
+    (l.text.items ≡ frames_text k (told_lines bookmarks at.revision w)) × ((next : Standing) × (l.next ≡ Some next) × StandsAfter bookmarks at w (Ok next))
 
 -- where the watch stands after a look, nowhere after one that was refused
 abbrev pub StandsAt : Bool → Standing → Look → Result (Option Standing) Cut → Type 0
@@ -40,3 +42,9 @@ StandsAt bookmarks at w (Err c) = Unit {0}
 abbrev pub LooksOnce : {S D : Type 0} → (S → View → ℕ → ℕ → Look → S → Type 0) → View → Bool → Standing → S → S → (D → Option (List ℕ)) → device.Watched D → device.Watched D → Result (Option Standing) Cut → Type 0
 LooksOnce watches v bookmarks at s t contents old new result =
     (w : Look) × watches s v at.revision most_changes w t × Writes (look_frames v.kind bookmarks at.revision (w ∷ [])) contents old new result × StandsAt bookmarks at w result
+
+-- a look was made, with these frames, and the watch then stands there; or out of memory
+abbrev pub IsLook : {S E : Type 0} → (S → View → ℕ → ℕ → Look → S → Type 0) → View → Bool → Standing → S → S → Result Looked E → Type 0
+IsLook watches v bookmarks at s t (Ok l) =
+    (w : Look) × watches s v at.revision most_changes w t × (l.text.items ≡ look_frames v.kind bookmarks at.revision (w ∷ [])) × StandsAt bookmarks at w (Ok l.next)
+IsLook watches v bookmarks at s t (Err e) = (w : Look) × watches s v at.revision most_changes w t

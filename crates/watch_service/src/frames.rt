@@ -1,18 +1,18 @@
 //! The frames of what a watch is given, written.
-ghost use Rattle.std.specs.Prelude.{◌≡◌, ◌<◌, ◌++◌, IfErr, OnOk, map, true, false};
+ghost use Rattle.std.specs.Prelude.{◌≡◌, ◌<◌, ◌++◌, IfOk, IfErr, OnOk, None, map, true};
 ghost use Rattle.chunked.specs.Bodies.{chunk_text};
-ghost use Rattle.chunked.specs.Devices.{has_failed};
 ghost use Rattle.connections.specs.Replies.{frames_text};
 ghost use Rattle.definitions.specs.Frames.{frame_text, error_frame};
 ghost use Rattle.definitions.specs.Streams.{event};
 ghost use Rattle.definitions.specs.WatchReplies.{told_lines};
 ghost use Rattle.keys.specs.Faults.{refusal_of};
 ghost use Rattle.revisions.specs.Watches.{watched_of, last_bookmark};
-ghost use Rattle.watch_service.specs.Looked.{Writes, Shows};
+ghost use Rattle.watch_service.specs.Looked.{Writes, IsShown};
 ghost use Rattle.watch_service.specs.Watches.{idle_after, most_idle};
 ghost use Rattle.watch_service.specs.declared.fault.Cut.TheVariants as cut;
 
 use crate::fault::Cut;
+use crate::looked::Looked;
 use crate::standing::Standing;
 use chunked::Watched as Device;
 use definitions::kinds::Kind;
@@ -64,48 +64,36 @@ pub(crate) fn idle_after(idle: u64, watched: &Watched, bookmark: Option<u64>) ->
     }
 }
 
-/// Writes the frames of what a look gave, all in one write, and returns where the watch then stands. Where there are none
-/// nothing is written.
-pub(crate) fn show<W: Write + Drop>(
+/// Returns the frames of what a look gave, and where the watch then stands.
+pub(crate) fn shown(
     alloc: Global,
     kind: Kind,
     bookmarks: bool,
     at: Standing,
     watched: &Watched,
-    writer: &mut Device<W>,
-) -> Result<Standing, Cut>
+) -> Result<Looked, AllocError>
     requires idle { at.idle < most_idle }
-    requires sound { has_failed writer.old ≡ false }
-    ensures { Shows kind bookmarks at (watched_of watched.now) W.contents writer.old writer.new result }
+    ensures { IfOk result (λ l. IsShown kind bookmarks at (watched_of watched.now) l) }
 {
     let bookmark = last_bookmark(bookmarks, at.revision, watched);
-    if watched.events.is_empty() && bookmark.is_none() {
-        return Ok(Standing {
-            revision: watched.stands,
-            idle: at.idle + 1,
-        });
-    }
     let mut text = Vec::new(alloc);
     push_look(alloc, &mut text, kind, watched, bookmark)?;
-    match write_text(writer, &text) {
-        Ok(()) => Ok(Standing {
-            revision: watched.stands,
-            idle: 0,
-        }),
-        Err(cut) => Err(cut),
-    }
+    let next = Standing {
+        revision: watched.stands,
+        idle: idle_after(at.idle, watched, bookmark),
+    };
+    Ok(Looked {
+        text,
+        next: Some(next),
+    })
 }
 
-/// Writes the frame that says why a watch ends.
-pub(crate) fn tell<W: Write + Drop>(
-    alloc: Global,
-    fault: &Fault,
-    writer: &mut Device<W>,
-) -> Result<(), Cut>
-    requires sound { has_failed writer.old ≡ false }
-    ensures { Writes (chunk_text (frame_text (error_frame (refusal_of fault.now)))) W.contents writer.old writer.new result }
+/// Returns the frame that says why a watch ends.
+pub(crate) fn told(alloc: Global, fault: &Fault) -> Result<Looked, AllocError>
+    ensures text { IfOk result (λ l. l.text.items ≡ chunk_text (frame_text (error_frame (refusal_of fault.now)))) }
+    ensures next { IfOk result (λ l. l.next ≡ None) }
 {
     let mut text = Vec::new(alloc);
     push_error(alloc, &mut text, fault)?;
-    write_text(writer, &text)
+    Ok(Looked { text, next: None })
 }

@@ -4,6 +4,7 @@
 pub mod begun;
 pub mod fault;
 pub mod frames;
+pub mod looked;
 pub mod looking;
 pub mod opening;
 pub mod serving;
@@ -12,5 +13,9 @@ pub mod standing;
 
 pub use begun::Begun;
 pub use fault::{Cut, WatchFault};
-pub use serving::serve_watch;
+pub use looked::Looked;
+pub use looking::take_look;
+pub use opening::{Opened, open};
+pub use serving::{MOST_IDLE, go_on, serve_watch};
 pub use source::{Pace, WatchSource};
+pub use standing::Standing;

@@ -22,10 +22,10 @@ use std::alloc::{AllocError, Global};
 
 /// A watch that has opened.
 #[derive(Drop)]
-pub(crate) struct Opened {
+pub struct Opened {
     /// Where it stands.
     pub at: Standing,
-    /// The head, and the first frames.
+    /// What it opens with: the head, and the first frames.
     pub text: Vec<u8>,
 }
 
@@ -103,8 +103,9 @@ fn open_at<S: WatchSource>(
     }
 }
 
-/// Opens a watch: the first look decides whether it is refused.
-pub(crate) fn open<S: WatchSource>(
+/// Opens a watch of a view, from a revision or, without one, from what is there. The first look decides whether it is refused; nothing
+/// is to be written then. Else what it opens with is to be written at once, and then the frames of each look from where it stands.
+pub fn open<S: WatchSource>(
     alloc: Global,
     source: &mut S,
     view: &View,

@@ -9,7 +9,7 @@ ghost use Rattle.watch_service.specs.Served.{Follows, Serves};
 use crate::fault::{Cut, WatchFault};
 use crate::frames::write_text;
 use crate::looking::look;
-use crate::opening::open;
+use crate::opening::{Opened, open};
 use crate::source::{Pace, WatchSource};
 use crate::standing::Standing;
 use chunked::Watched as Device;
@@ -19,7 +19,7 @@ use std::alloc::Global;
 use std::io::Write;
 
 /// How many looks in a row that give no line end a watch.
-const MOST_IDLE: u64 = 1024;
+pub const MOST_IDLE: u64 = 1024;
 
 /// Writes the end of a watch.
 fn finish<W: Write + Drop>(writer: &mut Device<W>) -> Result<(), Cut>
@@ -67,6 +67,30 @@ fn follow<S: WatchSource, P: Pace, W: Write + Drop>(
     Err(Cut::NoMemory)
 }
 
+/// Writes what a watch opened with, and goes on with it: writes the frames of each look as they come, those of one look in one write,
+/// and at last its end. A look after one that gave nothing waits for the pace.
+pub fn go_on<S: WatchSource, P: Pace, W: Write + Drop>(
+    alloc: Global,
+    source: &mut S,
+    view: &View,
+    bookmarks: bool,
+    opened: &Opened,
+    pace: &mut P,
+    writer: &mut Device<W>,
+) -> Result<(), Cut>
+    ensures { Follows S.Watches (view_of view.now) bookmarks W.contents source.old source.new writer.old writer.new
+        opened.now.text.items opened.now.at.revision opened.now.at.idle result }
+{
+    match write_text(writer, &opened.text) {
+        Ok(()) => {}
+        Err(_) => return Err(Cut::Device),
+    }
+    match follow(alloc, source, view, bookmarks, opened.at, pace, writer) {
+        Ok(()) => Ok(()),
+        Err(cut) => Err(cut),
+    }
+}
+
 /// Serves a watch of a view, from a revision or, without one, from what is there. The first look decides whether it is refused;
 /// then nothing is written. Else the head is written at once, with the first frames, and then the frames of each look as they
 /// come, those of one look in one write. The watch is over after 1,024 looks in a row that gave no line, or by a refusal, which
@@ -88,11 +112,7 @@ pub fn serve_watch<S: WatchSource, P: Pace, W: Write + Drop>(
         Ok(opened) => opened,
         Err(fault) => return Err(WatchFault::Refused(fault)),
     };
-    match write_text(writer, &opened.text) {
-        Ok(()) => {}
-        Err(_) => return Err(WatchFault::Cut(Cut::Device)),
-    }
-    match follow(alloc, source, view, bookmarks, opened.at, pace, writer) {
+    match go_on(alloc, source, view, bookmarks, &opened, pace, writer) {
         Ok(()) => Ok(()),
         Err(cut) => Err(WatchFault::Cut(cut)),
     }

@@ -1,0 +1,59 @@
+//! Responses, written.
+ghost use Rattle.api.specs.Delivering.{Delivers, GoesOn};
+ghost use Rattle.api.specs.Replying.{Sends};
+
+use crate::fault::ServeFault;
+use crate::replying::send_reply;
+use crate::response::{OpenWatch, Response};
+use chunked::Watched;
+use std::alloc::Global;
+use std::io::Write;
+use watch_service::{Cut, Pace, WatchSource, go_on};
+
+/// Writes what a watch opened with, and goes on with it up to its end.
+fn deliver_watch<S: WatchSource, P: Pace, W: Write + Drop>(
+    alloc: Global,
+    watch: &OpenWatch,
+    site: &mut S,
+    pace: &mut P,
+    writer: &mut Watched<W>,
+) -> Result<(), ServeFault>
+    ensures { GoesOn S.Watches W.contents site.old site.new writer.old writer.new watch.now result }
+{
+    match go_on(
+        alloc,
+        site,
+        &watch.view,
+        watch.bookmarks,
+        &watch.opened,
+        pace,
+        writer,
+    ) {
+        Ok(()) => Ok(()),
+        Err(Cut::Device) => Err(ServeFault::Write),
+        Err(Cut::NoMemory) => Err(ServeFault::NoMemory),
+    }
+}
+
+/// Writes a response: a reply at once, a watch up to its end.
+pub(crate) fn deliver<S: WatchSource, P: Pace, W: Write + Drop>(
+    alloc: Global,
+    response: &Response,
+    site: &mut S,
+    pace: &mut P,
+    writer: &mut Watched<W>,
+) -> Result<(), ServeFault>
+    ensures { Delivers S.Watches W.contents site.old site.new writer.old writer.new response.now result }
+{
+    match response {
+        Response::Nothing => Ok(()),
+        Response::Reply(text) => match send_reply(alloc, text, writer) {
+            Ok(()) => Ok(()),
+            Err(fault) => Err(fault),
+        },
+        Response::Watch(watch) => match deliver_watch(alloc, watch, site, pace, writer) {
+            Ok(()) => Ok(()),
+            Err(fault) => Err(fault),
+        },
+    }
+}

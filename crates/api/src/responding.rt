@@ -1,0 +1,98 @@
+//! What is asked, done at a server.
+ghost use Rattle.std.specs.Prelude.{Ok, Some};
+ghost use Rattle.api.specs.Responding.{Responds};
+ghost use Rattle.asked.specs.Asked.{asked_seen};
+ghost use Rattle.definitions.specs.Targets as targets;
+ghost use Rattle.received.specs.Receiving.{said};
+ghost use Rattle.requests.specs.Collected.{list_seen, watch_seen};
+ghost use Rattle.selector.specs.Views.{view_of};
+ghost use Rattle.requests.specs.Requests.{request_of};
+
+use crate::replying::{answer_text, refusal_text};
+use crate::response::{OpenWatch, Response};
+use asked::Asked;
+use received::Received;
+use requests::Request;
+use requests::list_options::ListOptions;
+use requests::watch_options::WatchOptions;
+use selector::View;
+use sites::Site;
+use stamps::moments::Moment;
+use std::alloc::Global;
+use watch_service::open;
+
+/// Does a request at a server, and returns its reply.
+fn respond_to_request<S: Site>(
+    alloc: Global,
+    request: Request,
+    site: &mut S,
+    moment: Moment,
+) -> Response
+    ensures { Responds S.Calls S.Lists S.Begins S.Watches moment site.old site.new
+        (Some (Ok (targets.request (request_of request)))) result }
+{
+    let answer = site.call(alloc, request, moment);
+    Response::Reply(answer_text(alloc, answer))
+}
+
+/// Lists a view, and returns the reply.
+fn respond_to_list<S: Site>(
+    alloc: Global,
+    view: &View,
+    options: &ListOptions,
+    site: &mut S,
+    moment: Moment,
+) -> Response
+    ensures { Responds S.Calls S.Lists S.Begins S.Watches moment site.old site.new
+        (Some (Ok (targets.list (view_of view.now) (list_seen options.now)))) result }
+{
+    let _ = moment;
+    let answer = site.list(alloc, view, options);
+    Response::Reply(answer_text(alloc, answer))
+}
+
+/// Opens a watch of a view, or returns the reply that refuses it.
+fn respond_to_watch<S: Site>(
+    alloc: Global,
+    view: View,
+    options: WatchOptions,
+    site: &mut S,
+    moment: Moment,
+) -> Response
+    ensures { Responds S.Calls S.Lists S.Begins S.Watches moment site.old site.new
+        (Some (Ok (targets.watch (view_of view) (watch_seen options)))) result }
+{
+    let _ = moment;
+    match open(alloc, site, &view, options.bookmarks, options.from) {
+        Ok(opened) => Response::Watch(OpenWatch {
+            view,
+            bookmarks: options.bookmarks,
+            opened,
+        }),
+        Err(fault) => Response::Reply(refusal_text(alloc, &fault)),
+    }
+}
+
+/// Does what is asked at a server, and returns what is to be written. A reply to what was done never lacks memory.
+pub fn respond_to<S: Site>(alloc: Global, asked: Asked, site: &mut S, moment: Moment) -> Response
+    ensures { Responds S.Calls S.Lists S.Begins S.Watches moment site.old site.new
+        (Some (Ok (asked_seen asked))) result }
+{
+    match asked {
+        Asked::Request(request) => respond_to_request(alloc, request, site, moment),
+        Asked::List { view, options } => respond_to_list(alloc, &view, &options, site, moment),
+        Asked::Watch { view, options } => respond_to_watch(alloc, view, options, site, moment),
+    }
+}
+
+/// Does what was received at a server, and returns what is to be written. Where nothing was asked nothing is done, nor where what was
+/// asked is refused.
+pub fn respond<S: Site>(alloc: Global, received: Received, site: &mut S, moment: Moment) -> Response
+    ensures { Responds S.Calls S.Lists S.Begins S.Watches moment site.old site.new (said received) result }
+{
+    match received {
+        Received::Asked(asked) => respond_to(alloc, asked, site, moment),
+        Received::Refused(fault) => Response::Reply(refusal_text(alloc, &fault)),
+        Received::Ended => Response::Nothing,
+    }
+}
