@@ -15,6 +15,8 @@ LOWEST_PORT = 20_000
 WINDOW = 65_536
 THREADS = 48
 WORKERS = 8
+# The most that there may be.
+MOST_THREADS, MOST_WORKERS = 128, 64
 
 
 class Lines:
@@ -116,9 +118,9 @@ class AllInOne(Listener):
         return int(code), json.loads(text)
 
 
-def all_in_one(program):
+def all_in_one(program, threads=THREADS, workers=WORKERS):
     """Starts `kcp all` on a free port."""
-    return AllInOne([program, "all", "--port", 0, "--window", WINDOW, "--threads", THREADS, "--workers", WORKERS])
+    return AllInOne([program, "all", "--port", 0, "--window", WINDOW, "--threads", threads, "--workers", workers])
 
 
 def server(program, port=0):

@@ -42,6 +42,7 @@ def scenarios(asked):
         "answers-one-line": lambda: adoptions.answers_one_line(program),
         "answers-lines": lambda: adoptions.answers_lines(program),
         "many-sets": lambda: sets.undisturbed(program, lists),
+        "many-sets-many-workers": lambda: sets.many_workers(program),
         "many-sets-server-killed": lambda: sets.server_killed(program, lists, kills),
         "many-sets-connections-cut": lambda: sets.connections_cut(program, lists, cuts, asked.seed, cuts_requests=not few),
         "commands-lost": lambda: losing.lost_by(program, [1, 4], is_short=few),

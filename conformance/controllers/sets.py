@@ -7,13 +7,14 @@ import time
 from clients import CUT, Client, Refused
 from cutting import CuttingProxy
 from objects import controller, name, replica_set, staying, uid
-from programs import Ending, all_in_one, control, lasting_port, server
+from programs import MOST_THREADS, MOST_WORKERS, Ending, all_in_one, control, lasting_port, server
 from waiting import Limit, Wrong, check, until
 
 SETS = 20
 REPLICAS = 20
 NAMES = [f"set-{number:02}" for number in range(SETS)]
 READERS = 4
+MANY_LISTS = 1000
 # After how many seconds a controller no longer expects a pod that it does not see.
 EXPECTED_SECONDS = 300
 RETRY_SECONDS = 0.05
@@ -121,11 +122,20 @@ def settle_late(port):
 
 def undisturbed(program, lists):
     """Sets are declared at once at a `kcp all`, and pods listed meanwhile."""
-    with Ending(all_in_one(program)) as running:
-        port = running.programs[0].port
-        readers = Readers(port, lists, may_be_cut=False)
-        declare(port)
-        settle(port)
+    return declared_at(all_in_one(program), lists)
+
+
+def many_workers(program):
+    """So they are where it has as many threads and workers as there may be, and pods are listed a thousand times."""
+    return declared_at(all_in_one(program, MOST_THREADS, MOST_WORKERS), MANY_LISTS)
+
+
+def declared_at(program, lists):
+    """Declares all sets at a program, lists pods meanwhile, and waits until each set has its own."""
+    with Ending(program):
+        readers = Readers(program.port, lists, may_be_cut=False)
+        declare(program.port)
+        settle(program.port)
         return f"{SETS * REPLICAS} pods, {readers.end()} lists"
 
 

@@ -1,5 +1,5 @@
 -- What holds of every world.
-use Rattle.std.proofs.Common.{◌≡◌, ◌≤◌, ◌+◌, ◌-◌, sym, subst, ℕ, List, [], take, length, None, Some, Result, Ok, Err, OnOk, OnErr, IfErr, map, ◌<◌, slice_get}
+use Rattle.std.proofs.Common.{◌≡◌, ◌≤◌, ◌+◌, ◌-◌, sym, subst, List, [], take, length, None, Some, Result, Ok, Err, OnOk, OnErr, IfErr, map, ◌<◌, slice_get}
 use Rattle.std.specs.List.{AllByRecursion}
 use Rattle.definitions.specs.declared.kinds.Kind.{Kind}
 use Rattle.definitions.specs.History.{History, writes, viewed, after_all, last_of}
@@ -8,7 +8,6 @@ use Rattle.server_state.specs.Snapshots.{Snapshot}
 use Rattle.controllers.specs.Commands.{Command}
 use Rattle.controllers.specs.Hands.{Read}
 use Rattle.simulation.specs.Clusters as clusters
-use Rattle.reconciling.specs.ControlPlanes as planes
 use Rattle.reconciling.specs.ControlPlanes.{Step}
 use Rattle.reconciling.specs.Managers.{Manager, Issued}
 use Rattle.reconciling.specs.Turns.{Turn, Sight, looked, satisfied}
@@ -23,7 +22,7 @@ use Rattle.control_plane_laws.specs.PlaneLaws.{IsServerList}
 use Rattle.control_plane_laws.proofs.PlaneRuns.{followed, look_listed}
 use Rattle.steps.specs.PlaneSteps.{plane_step_of}
 use Rattle.steps.specs.declared.plane_steps.PlaneStep.{PlaneStep}
-use Rattle.traces.specs.Taken.{Taken, opening, plane, followed_by_all}
+use Rattle.traces.specs.Taken.{opening, plane, followed_by_all}
 use Rattle.cluster.specs.Standing as stored
 use Rattle.cluster.specs.declared.stopped.Stopped.{Stopped}
 use Rattle.cluster.proofs.Headlines.{shown}

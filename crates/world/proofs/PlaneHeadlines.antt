@@ -1,15 +1,14 @@
 -- What holds over every list of steps of a control plane.
-use Rattle.std.proofs.Common.{◌≡◌, ◌≤◌, ◌⊎◌, refl, sym, ap, subst, ◌∙◌, ℕ, List, [], ◌∷◌, ◌++◌, Some, IfSome}
+use Rattle.std.proofs.Common.{◌≡◌, ◌≤◌, ◌⊎◌, sym, ap, subst, ◌∙◌, ℕ, List, [], ◌∷◌, ◌++◌, Some, IfSome}
 use Rattle.serde_json.specs.Data.{Data}
 use Rattle.definitions.specs.History.{History, Write, write, present, state}
 use Rattle.definitions.specs.Keys.{Key}
 use Rattle.definitions.specs.Metadata.{version}
 use Rattle.definitions.specs.ObjectRequests.{Request}
-use Rattle.definitions.specs.Verbs.{Outcome, accept, history_after, with_write, write_of}
+use Rattle.definitions.specs.Verbs.{Outcome, accept, history_after, write_of}
 use Rattle.laws.specs.LifecycleLaws.{ReplacesVersion}
 use Rattle.simulation.specs.Clusters.{history, follower, request, compact, moves, restart}
 use Rattle.simulation_laws.specs.ClusterLaws.{NamesVersion}
-use Rattle.reconciling.specs.ControlPlanes as planes
 use Rattle.reconciling.specs.ControlPlanes.{ControlPlane, Step, in_cluster, handle, works, tick, step}
 use Rattle.reconciling.specs.Managers.{Manager}
 use Rattle.reconciling.specs.Managers as action

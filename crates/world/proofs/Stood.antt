@@ -1,5 +1,5 @@
 -- A world stands for the control plane that was opened, after the steps that were taken.
-use Rattle.std.proofs.Common.{◌≡◌, refl, sym, ap, subst, ◌∙◌, ℕ, List, [], ◌∷◌, ◌++◌, Result, Ok, Err, IfOk, IfErr, OnOk, append-nil, append_assoc}
+use Rattle.std.proofs.Common.{◌≡◌, sym, ap, subst, ◌∙◌, ℕ, List, [], ◌∷◌, Result, Ok, Err, IfOk, OnOk, append-nil, append_assoc}
 use Rattle.reconciling.specs.ControlPlanes as planes
 use Rattle.reconciling.specs.ControlPlanes.{ControlPlane, Step}
 use Rattle.reconciling.specs.Outcomes.{Outcome}
