@@ -124,9 +124,9 @@ def asked_first(log):
 
 
 def asked_of_program(log):
-    """Runs what asks the program that `rt ci` built: request lines, also while growths of its memory are refused, schedules of a simulated cluster, a rollout and schedules of controllers, and over
-    sockets cases, random heads, many clients at once, real clients where they are installed, a follower through a proxy and over
-    recorded bytes, and the controllers at work."""
+    """Runs what asks the program that `rt ci` built: request lines, also while growths of its memory are refused, schedules of a simulated
+    cluster, a rollout and schedules of controllers, and over sockets cases, random heads, many clients at once, real clients where they are
+    installed, a follower through a proxy and over recorded bytes, and the controllers at work."""
     words = {
         "conformance": ["run.py"],
         "refused growths": ["refusals/run.py"],
