@@ -94,7 +94,12 @@ fn told_after(alloc: Global, config: Config, lines: &[&str]) -> Result<Option<St
 }
 
 /// Returns whether just this is told of that world.
-fn is_told(alloc: Global, config: Config, lines: &[&str], wanted: &str) -> Result<bool, AllocError> {
+fn is_told(
+    alloc: Global,
+    config: Config,
+    lines: &[&str],
+    wanted: &str,
+) -> Result<bool, AllocError> {
     match told_after(alloc, config, lines)? {
         Some(text) => Ok(text.as_str() == wanted),
         None => Ok(false),
@@ -107,7 +112,10 @@ fn a_cut_letter_leaves_the_journal(rt: HostRuntime) {
         window: 4,
         workers: 1,
     };
-    assert_eq!(rt; is_told(rt.alloc(), config, &CUT_LETTER, "a 2\nb 3\n"), Ok(true));
+    assert_eq!(rt;
+        is_told(rt.alloc(), config, &CUT_LETTER, "a 2\nb 3\n"),
+        Ok(true)
+    );
 }
 
 #[test]

@@ -5,5 +5,5 @@ use Rattle.simulations.proofs.simulations.first_step.Goals as goal
 
 pub returns-clause-text : goal.returns-clause-text
 returns-clause-text c =
-    let world = c.in_ok-world.ensures ∙ ap opened_stored c.default.ensures in
+    let world = c.in_ok-world.ensures.opened ∙ ap opened_stored c.default.ensures in
     c.in_ok-text.ensures.text ∙ ap (λ w. told_by_stored w (step_asked c.args.line.now)) world
