@@ -1,5 +1,5 @@
 -- What calls at the board leave in a pass.
-use Rattle.std.proofs.Common.{◌≡◌, ◌++◌, List, [], ◌∷◌, Option, None, Result, Ok, Err, OnOk, OnErr, ap, ◌∙◌, subst, append_assoc}
+use Rattle.std.proofs.Common.{◌≡◌, ◌++◌, List, Option, None, Result, Ok, Err, OnOk, OnErr, ap, ◌∙◌, subst, append_assoc}
 use Rattle.std.proofs.lemmas.List.{append-nil}
 use Rattle.baton.specs.declared.views.Known.{Known}
 use Rattle.control.specs.Boards.{Board, Observation}

@@ -1,5 +1,5 @@
 -- How much time the steps of a pass let pass.
-use Rattle.std.proofs.Common.{◌≡◌, ◌≤◌, ◌+◌, ◌++◌, ℕ, List, [], ◌∷◌, Bool, true, false, None, Some, if◌then◌else◌, ap, refl, arith}
+use Rattle.std.proofs.Common.{◌≡◌, ◌≤◌, ◌+◌, ◌++◌, ℕ, List, [], ◌∷◌, Bool, true, false, None, Some, if◌then◌else◌, ap, arith}
 use Rattle.baton.specs.Marks.{entries, marked}
 use Rattle.baton.specs.declared.views.Known.{Known}
 use Rattle.control.specs.Boards.{Board}

@@ -24,7 +24,6 @@ use Rattle.following.proofs.follower.Follower.TheSendSync as follower_of
 use Rattle.indexer.specs.contracts.indexed.Indexed as Indexed
 use Rattle.listers.proofs.Sent.{lister, indexed_send, shared_informer}
 use Rattle.listers.specs.contracts.listers.Lister as Lister
-use Rattle.listers.specs.contracts.shared.SharedInformer as SharedInformer
 use Rattle.shared_board.proofs.desks.ControlDesk.TheSendSync as desk
 use Rattle.shared_board.specs.contracts.desks.ControlDesk as ControlDesk
 use Rattle.shared_board.specs.contracts.entries.Entry as Entry
