@@ -1,5 +1,5 @@
 //! What a line is answered.
-ghost use Rattle.std.specs.Prelude.{◌≡◌, IfOk, IfErr, OnErr};
+ghost use Rattle.std.specs.Prelude.{◌≡◌, IfOk, IfErr, OnErr, None};
 ghost use Rattle.line_service.specs.Answers.{text_of, is_refusal};
 ghost use Rattle.line_service.specs.Replies.{MayBe, reply_or_refusal, next_or_same};
 
@@ -40,6 +40,7 @@ pub(crate) fn take<S: LineService>(
     ensures may { IfOk result (λ a. MayBe S.refusal (line.now, is_refusal a)) }
     ensures err { OnErr result (service.new ≡ service.old) }
     ensures fault { IfErr result (λ fault. fault ≡ RunFault.Want) }
+    ensures untold { OnErr result (S.refusal line.now ≡ None) }
 {
     match service.serve(alloc, line) {
         Ok(reply) => Ok(Answer::Reply(reply)),
