@@ -1,50 +1,79 @@
 //! Worked examples, each taken at once as one list of steps.
+use definitions::kinds::Kind;
 use revisions::Journal;
-use simulated_lines::step_asked;
 use std::alloc::{AllocError, Global};
-use steps::Config;
+use steps::{Action, Config, Delivery, Move, PlaneStep, Step};
 use turns::Command;
 use world::World;
 
-/// A ConfigMap whose frame is cut within a letter comes once more.
-const CUT_LETTER: [&str; 12] = [
-    "request POST /api/v1/namespaces/default/configmaps {\"metadata\":{\"name\":\"a\"}}",
-    "list configmaps",
-    "publish configmaps",
-    "request POST /api/v1/namespaces/default/configmaps {\"metadata\":{\"name\":\"b\"},\"data\":{\"k\":\"é\"}}",
-    "watch configmaps",
-    "send configmaps 1",
-    "deliver configmaps 43",
-    "cut configmaps",
-    "watch configmaps",
-    "send configmaps 1",
-    "deliver configmaps all",
-    "publish configmaps",
-];
+/// A ConfigMap.
+const FIRST: &str = "POST /api/v1/namespaces/default/configmaps {\"metadata\":{\"name\":\"a\"}}";
 
-/// A ReplicaSet of two gets its pods.
-const TWO_PODS: [&str; 20] = [
-    "request POST /apis/apps/v1/namespaces/default/replicasets {\"metadata\":{\"name\":\"web\"},\"spec\":{\"replicas\":2,\"selector\":{\"matchLabels\":{\"app\":\"web\"}},\"template\":{\"metadata\":{\"labels\":{\"app\":\"web\"}},\"spec\":{}}}}",
-    "list configmaps",
-    "publish configmaps",
-    "list pods",
-    "publish pods",
-    "list replicasets",
-    "publish replicasets",
-    "list deployments",
-    "publish deployments",
-    "handle replicasets",
-    "take 0",
-    "look 0 replicasets",
-    "satisfied 0",
-    "look 0 pods",
-    "expect 0",
-    "issue 0",
-    "issue 0",
-    "issue 0",
-    "finish 0",
-    "take 0",
-];
+/// One with a letter of two bytes.
+const SECOND: &str =
+    "POST /api/v1/namespaces/default/configmaps {\"metadata\":{\"name\":\"b\"},\"data\":{\"k\":\"é\"}}";
+
+/// A ReplicaSet of two.
+const WEB: &str =
+    "POST /apis/apps/v1/namespaces/default/replicasets {\"metadata\":{\"name\":\"web\"},\"spec\":{\"replicas\":2,\"selector\":{\"matchLabels\":{\"app\":\"web\"}},\"template\":{\"metadata\":{\"labels\":{\"app\":\"web\"}},\"spec\":{}}}}";
+
+/// Returns the step in which the server reads a request.
+fn asks(line: &str) -> PlaneStep<'_> {
+    PlaneStep::InCluster(Step::Request(line.as_bytes()))
+}
+
+/// Returns a move of what follows a kind.
+fn moves(kind: Kind, movement: Move) -> PlaneStep<'static> {
+    PlaneStep::InCluster(Step::Moves(kind, movement))
+}
+
+/// Returns the steps in which a ConfigMap whose frame is cut within a letter comes once more.
+fn cut_letter(alloc: Global) -> Result<Vec<PlaneStep<'static>>, AllocError> {
+    let mut steps = Vec::new(alloc);
+    steps.push(asks(FIRST))?;
+    for movement in [Move::List, Move::Publish] {
+        steps.push(moves(Kind::ConfigMap, movement))?;
+    }
+    steps.push(asks(SECOND))?;
+    let cut = [Move::Watch, Move::Send(1), Move::Deliver(43), Move::Cut];
+    let again = [Move::Watch, Move::Send(1), Move::DeliverAll, Move::Publish];
+    for movement in cut.iter().chain(again.iter()) {
+        steps.push(moves(Kind::ConfigMap, *movement))?;
+    }
+    Ok(steps)
+}
+
+/// Returns the steps in which a ReplicaSet of two gets its pods.
+fn two_pods(alloc: Global) -> Result<Vec<PlaneStep<'static>>, AllocError> {
+    let mut steps = Vec::new(alloc);
+    steps.push(asks(WEB))?;
+    for kind in [
+        Kind::ConfigMap,
+        Kind::Pod,
+        Kind::ReplicaSet,
+        Kind::Deployment,
+    ] {
+        steps.push(moves(kind, Move::List))?;
+        steps.push(moves(kind, Move::Publish))?;
+    }
+    steps.push(PlaneStep::Handle(Kind::ReplicaSet))?;
+    let actions = [
+        Action::Take,
+        Action::Look(Kind::ReplicaSet),
+        Action::AskSatisfied,
+        Action::Look(Kind::Pod),
+        Action::Expect,
+        Action::Issue(Delivery::Delivered),
+        Action::Issue(Delivery::Delivered),
+        Action::Issue(Delivery::Delivered),
+        Action::Finish,
+        Action::Take,
+    ];
+    for action in actions {
+        steps.push(PlaneStep::Works(0, action))?;
+    }
+    Ok(steps)
+}
 
 /// Returns the word for a command.
 fn word_of(command: &Command) -> &'static str {
@@ -80,14 +109,14 @@ fn told(alloc: Global, world: &World) -> Result<String, AllocError> {
     Ok(text)
 }
 
-/// Returns what is told of a world after all steps that these lines ask for, taken at once, or none where it stopped before.
-fn told_after(alloc: Global, config: Config, lines: &[&str]) -> Result<Option<String>, AllocError> {
-    let mut steps = Vec::new(alloc);
-    for line in lines {
-        steps.push(step_asked(line.as_bytes()))?;
-    }
+/// Returns what is told of a world once these steps were taken at once, or none where it stopped before.
+fn told_after(
+    alloc: Global,
+    config: Config,
+    steps: &[PlaneStep<'_>],
+) -> Result<Option<String>, AllocError> {
     let mut world = World::open(alloc, config)?;
-    match world.run(alloc, steps.as_slice()) {
+    match world.run(alloc, steps) {
         Ok(()) => Ok(Some(told(alloc, &world)?)),
         Err(_) => Ok(None),
     }
@@ -97,33 +126,36 @@ fn told_after(alloc: Global, config: Config, lines: &[&str]) -> Result<Option<St
 fn is_told(
     alloc: Global,
     config: Config,
-    lines: &[&str],
+    steps: &[PlaneStep<'_>],
     wanted: &str,
 ) -> Result<bool, AllocError> {
-    match told_after(alloc, config, lines)? {
+    match told_after(alloc, config, steps)? {
         Some(text) => Ok(text.as_str() == wanted),
         None => Ok(false),
     }
 }
 
 #[test]
-fn a_cut_letter_leaves_the_journal(rt: HostRuntime) {
+fn a_cut_letter_leaves_the_journal(rt: HostRuntime) -> Result<(), AllocError> {
     let config = Config {
         window: 4,
         workers: 1,
     };
-    assert_eq!(rt;
-        is_told(rt.alloc(), config, &CUT_LETTER, "a 2\nb 3\n"),
-        Ok(true)
-    );
+    let steps = cut_letter(rt.alloc())?;
+    let is_told = is_told(rt.alloc(), config, steps.as_slice(), "a 2\nb 3\n")?;
+    assert!(rt; is_told);
+    Ok(())
 }
 
 #[test]
-fn two_pods_are_created(rt: HostRuntime) {
+fn two_pods_are_created(rt: HostRuntime) -> Result<(), AllocError> {
     let config = Config {
         window: 16,
         workers: 2,
     };
+    let steps = two_pods(rt.alloc())?;
     let wanted = "web 2\nweb-bbbbf 3\nweb-bbbbg 4\nweb 5\ncreate\ncreate\nstatus\n";
-    assert_eq!(rt; is_told(rt.alloc(), config, &TWO_PODS, wanted), Ok(true));
+    let is_told = is_told(rt.alloc(), config, steps.as_slice(), wanted)?;
+    assert!(rt; is_told);
+    Ok(())
 }
