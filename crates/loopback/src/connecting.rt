@@ -84,7 +84,10 @@ impl<'a, R: Net<Stream = TcpStream> + Eprint> Connector<'a, R> {
             }
             Trouble::NoMemory => self.say("cannot be reached, as this program has no memory left"),
             Trouble::Fails(code) => {
-                let _ = eprintln!(self.rt; "kcp: the server at 127.0.0.1:{} answers {code}", self.port);
+                let _ = eprintln!(self.rt;
+                    "kcp: the server at 127.0.0.1:{} answers {code}",
+                    self.port
+                );
             }
         }
     }
