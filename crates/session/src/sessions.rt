@@ -8,10 +8,10 @@ use keys::Fault;
 use line_service::LineService;
 use meta::Write;
 use reply::Reply;
-use reply_lines::no_memory_line;
 use reply_lines::lines::{
     change_lines, fault_line, initial_lines, line, refusal_line, success_line,
 };
+use reply_lines::no_memory_line;
 use requests::Request;
 use requests::line::{Line, read_line};
 use requests::list_options::ListOptions;
