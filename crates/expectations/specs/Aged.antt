@@ -13,8 +13,8 @@ use Rattle.expectations.specs.Seen.{Owners}
 abbrev pub replica_set : Key → WorkKey
 replica_set k = record { controller = controller.ReplicaSet; key = k }
 
--- The keys are those of just the ReplicaSets that waited for something at the moment before, and that, though nothing more was seen, wait no longer
--- now: each once, and in order.
+-- The keys are those of just the ReplicaSets that have something left to see, and whose five minutes end after the moment before and by now: each once,
+-- and in order.
 pub record AreAgedOut (before now : ℕ) (t : Table) (ks : List WorkKey) : Type 0 where
   pub in_order : IsStrictlySortedBy work_key_cmp ks
   pub each : (o : Owner) → satisfied o before t ≡ false → satisfied o now t ≡ true → Contains ks (replica_set o.key)
