@@ -1,5 +1,5 @@
 -- A simulation that is stored, and one as the definitions have it.
-use Rattle.std.proofs.Common.{◌≡◌, ℕ, List, [], ◌∷◌, ◌++◌, Option, Some, None, IfSome, Result, OnOk, IfErr, refl, ap, ◌∙◌}
+use Rattle.std.proofs.Common.{◌≡◌, ℕ, List, [], ◌∷◌, ◌++◌, Option, None, IfSome, Result, OnOk, IfErr, refl, ap, ◌∙◌}
 use Rattle.line_service.specs.Replies as service
 use Rattle.line_service.proofs.Alongside.{all-run, some-run}
 use Rattle.line_service.specs.Replies.{replies, none_refused, reply_or_refusal, next_or_same}
