@@ -2,7 +2,9 @@
 use cluster::Cluster;
 use definitions::kinds::Kind;
 use followers::ClusterOutcome;
-use meta::Member;
+use meta::{Member, Write};
+use recorded_sessions::Entry as Happened;
+use revisions::Journal;
 use selector::View;
 use std::alloc::{AllocError, Global};
 use std::test::Fail;
@@ -96,13 +98,35 @@ fn are_same(alloc: Global, these: &[Entry<'_>], those: &[Member<'_>]) -> Result<
     Ok(true)
 }
 
-/// Returns whether what is published of a kind is the server's list at its revision, by the journal of all writes.
+/// Returns a copy of a write, which shares the object's text.
+fn copy_of(write: &Write) -> Result<Write, AllocError> {
+    let put = match &write.put {
+        Some(object) => Some(object.try_copy()?),
+        None => None,
+    };
+    Ok(Write {
+        key: write.key.try_copy()?,
+        put,
+    })
+}
+
+/// Returns the writes of what has happened.
+fn writes_of(alloc: Global, happened: &[Happened]) -> Result<Journal, AllocError> {
+    let mut journal = Journal::new(alloc);
+    for entry in happened {
+        if let Happened::Write(write) = entry {
+            journal.push(copy_of(write)?)?;
+        }
+    }
+    Ok(journal)
+}
+
+/// Returns whether what is published of a kind is the server's list at its revision, by the journal of all that has happened.
 fn shows_list(alloc: Global, cluster: &Cluster, kind: Kind) -> Result<bool, AllocError> {
     let published = cluster.published(kind);
     let view = View::unfiltered(alloc, kind, None);
-    let listed = cluster
-        .journal()
-        .list_at(alloc, &view, published.revision())?;
+    let writes = writes_of(alloc, cluster.journal())?;
+    let listed = writes.list_at(alloc, &view, published.revision())?;
     let shown = published.list(alloc)?;
     are_same(alloc, shown.as_slice(), listed.as_slice())
 }
