@@ -5,6 +5,7 @@ ghost use Rattle.shared_desk.specs.Desks.{IsNewAt};
 use crate::controlling::MOST_WORKERS;
 use crate::own_desk::OwnDesk;
 use crate::parts::run_controllers;
+use chunked::Watched;
 use line_relay::relay;
 use line_service::RunFault;
 use loopback::{KindBells, Reach};
@@ -55,7 +56,12 @@ where
     I: BufRead,
     W: Write,
 {
-    let outcome = relay(own.alloc, &mut own.connector(), reader, writer);
+    let outcome = relay(
+        own.alloc,
+        &mut own.connector(),
+        &mut Watched::new(reader),
+        &mut Watched::new(writer),
+    );
     own.signals.stop_all();
     own.bells.ring_all();
     wake(own.rt, own.port, threads);

@@ -1,6 +1,7 @@
 //! Runs over lines whose reader or writer fails in mid-stream, and when replies are flushed.
 ghost use Rattle.std.specs.Prelude.{◌==◌, [], ◌∷◌, ◌++◌, length, None, if◌then◌else◌};
 
+use chunked::Watched;
 use line_service::{LineService, RunFault, run};
 use std::alloc::{AllocError, Global};
 use std::cell::Cell;
@@ -180,15 +181,15 @@ fn ends_so(alloc: Global, wire: &Wire, run_of: &Run) -> io::Result<bool> {
         kind: run_of.1,
         wire,
     };
-    let mut reader = BufReader::new(alloc, source)?;
-    let mut writer = Narrow {
+    let mut reader = Watched::new(BufReader::new(alloc, source)?);
+    let mut writer = Watched::new(Narrow {
         taken: Vec::new(alloc),
         full: run_of.2,
         wire,
-    };
+    });
     let mut service = Echo { is_poor: run_of.3 };
     let outcome = run(alloc, &mut service, &mut reader, &mut writer);
-    Ok(outcome == run_of.4 && writer.taken.as_slice() == run_of.5)
+    Ok(outcome == run_of.4 && writer.into_inner().taken.as_slice() == run_of.5)
 }
 
 /// Returns the first run that does not end as it says.

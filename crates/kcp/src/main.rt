@@ -3,10 +3,12 @@
 //! such a server, and `kcp all` is both in one.
 #![tactic(auto)]
 
-ghost use Rattle.std.specs.Prelude.{◌≡◌, OnOk, IfErr, IfSome};
+ghost use Rattle.std.specs.Prelude.{◌≡◌, OnOk, IfErr, IfSome, true};
+ghost use Rattle.chunked.specs.Devices.{device_of, has_failed};
 ghost use Rattle.kcp.specs.Faults.{fault_text, serve_fault_text};
 ghost use Rattle.simulations.specs.Laws as simulated;
 
+use chunked::Watched;
 use commands::{AllFault, all, control, serve};
 use line_service::RunFault;
 use options::Command;
@@ -23,14 +25,17 @@ use std::{env, io};
 /// A request for which there is no memory is answered 503, by a line that takes none, and changes nothing. Where there is none for any other
 /// step, the run ends.
 ///
-/// At an error no step after the one at which the error came is taken, and the outcomes of those before it were written whole.
-pub fn simulate<R: BufRead, W: Write>(
+/// At an error no step after the one at which the error came is taken, and the outcomes of those before it were written whole. That the reader
+/// or the writer failed is the error only where its flag is up.
+pub fn simulate<R: BufRead + Drop, W: Write + Drop>(
     alloc: Global,
-    reader: &mut R,
-    writer: &mut W,
+    reader: &mut Watched<R>,
+    writer: &mut Watched<W>,
 ) -> Result<(), RunFault>
-    ensures ok { OnOk result (IfSome (R.remaining reader.old) (simulated.AnswersAll (W.contents writer.old) (W.contents writer.new))) }
-    ensures ended { IfErr result (λ fault. IfSome (R.remaining reader.old) (simulated.AnswersSome fault (W.contents writer.old) (W.contents writer.new))) }
+    ensures ok { OnOk result (IfSome (R.remaining (device_of reader.old)) (simulated.AnswersAll (W.contents (device_of writer.old)) (W.contents (device_of writer.new)))) }
+    ensures ended { IfErr result (λ fault. IfSome (R.remaining (device_of reader.old)) (simulated.AnswersSome fault (W.contents (device_of writer.old)) (W.contents (device_of writer.new)))) }
+    ensures reader { IfErr result (λ fault. fault ≡ RunFault.Read → has_failed reader.new ≡ true) }
+    ensures writer { IfErr result (λ fault. fault ≡ RunFault.Write → has_failed writer.new ≡ true) }
 {
     simulations::simulate(alloc, reader, writer)
 }
@@ -46,24 +51,32 @@ fn command(rt: &HostRuntime) -> io::Result<Option<Command>> {
 
 /// Answers the request lines of standard input on standard output.
 fn replay_standard_input(rt: &HostRuntime) -> Result<(), RunFault> {
-    let (Ok(mut reader), Ok(mut writer)) = (
+    let (Ok(reader), Ok(writer)) = (
         BufReader::new(rt.alloc(), rt.reader()),
         BufWriter::new(rt.alloc(), io::writer(rt)),
     ) else {
         return Err(RunFault::Want);
     };
-    replay(rt.alloc(), &mut reader, &mut writer)
+    replay(
+        rt.alloc(),
+        &mut Watched::new(reader),
+        &mut Watched::new(writer),
+    )
 }
 
 /// Takes the steps that the lines of standard input ask for, and tells them on standard output.
 fn simulate_standard_input(rt: &HostRuntime) -> Result<(), RunFault> {
-    let (Ok(mut reader), Ok(mut writer)) = (
+    let (Ok(reader), Ok(writer)) = (
         BufReader::new(rt.alloc(), rt.reader()),
         BufWriter::new(rt.alloc(), io::writer(rt)),
     ) else {
         return Err(RunFault::Want);
     };
-    simulate(rt.alloc(), &mut reader, &mut writer)
+    simulate(
+        rt.alloc(),
+        &mut Watched::new(reader),
+        &mut Watched::new(writer),
+    )
 }
 
 /// Returns what a fault is called on standard error.

@@ -78,22 +78,22 @@ fn reply_to<C: Connect>(
 /// Sends the request of each line that is read to a server, each over a connection of its own, and writes the reply lines, in the form of a
 /// replay. A watch ends where the server ends it. Each reply is flushed before the next line is waited for. The error is that a line could
 /// not be read, or its reply not be had or written, or running out of memory; it ends the run.
-pub fn relay<C: Connect, R: BufRead, W: Write>(
+pub fn relay<C: Connect, R: BufRead + Drop, W: Write + Drop>(
     alloc: Global,
     connector: &mut C,
-    reader: &mut R,
-    writer: &mut W,
+    reader: &mut Watched<R>,
+    writer: &mut Watched<W>,
 ) -> Result<(), RunFault> {
     let mut line = Vec::new(alloc);
     for _ in 0..u64::MAX {
         make_ready(&mut line);
-        match reader.read_until(b'\n', &mut line) {
+        match reader.read_through(b'\n', &mut line) {
             Ok(0) => return Ok(()),
             Ok(_) => {}
-            Err(error) => return Err(unread(&error)),
+            Err(fault) => return Err(unread(fault)),
         }
         let reply = reply_to(alloc, connector, without_newline(line.as_slice()))?;
         send(writer, reply.as_slice())?;
     }
-    Err(RunFault::Read)
+    Err(RunFault::Want)
 }

@@ -1,8 +1,10 @@
 //! Simulations of all lines that are read.
-ghost use Rattle.std.specs.Prelude.{OnOk, IfErr, IfSome};
+ghost use Rattle.std.specs.Prelude.{◌≡◌, OnOk, IfErr, IfSome, true};
+ghost use Rattle.chunked.specs.Devices.{device_of, has_failed};
 ghost use Rattle.simulations.specs.Laws.{AnswersAll, AnswersSome};
 
 use crate::simulations::Simulation;
+use chunked::Watched;
 use line_service::{RunFault, run};
 use std::alloc::Global;
 use std::io::{BufRead, Write};
@@ -13,14 +15,17 @@ use std::io::{BufRead, Write};
 /// A request for which there is no memory is answered 503, by a line that takes none, and changes nothing. Where there is none for any other
 /// step, the run ends.
 ///
-/// At an error no step after the one at which the error came is taken, and the outcomes of those before it were written whole.
-pub fn simulate<R: BufRead, W: Write>(
+/// At an error no step after the one at which the error came is taken, and the outcomes of those before it were written whole. That the reader
+/// or the writer failed is the error only where its flag is up.
+pub fn simulate<R: BufRead + Drop, W: Write + Drop>(
     alloc: Global,
-    reader: &mut R,
-    writer: &mut W,
+    reader: &mut Watched<R>,
+    writer: &mut Watched<W>,
 ) -> Result<(), RunFault>
-    ensures ok { OnOk result (IfSome (R.remaining reader.old) (AnswersAll (W.contents writer.old) (W.contents writer.new))) }
-    ensures ended { IfErr result (λ fault. IfSome (R.remaining reader.old) (AnswersSome fault (W.contents writer.old) (W.contents writer.new))) }
+    ensures ok { OnOk result (IfSome (R.remaining (device_of reader.old)) (AnswersAll (W.contents (device_of writer.old)) (W.contents (device_of writer.new)))) }
+    ensures ended { IfErr result (λ fault. IfSome (R.remaining (device_of reader.old)) (AnswersSome fault (W.contents (device_of writer.old)) (W.contents (device_of writer.new)))) }
+    ensures reader { IfErr result (λ fault. fault ≡ RunFault.Read → has_failed reader.new ≡ true) }
+    ensures writer { IfErr result (λ fault. fault ≡ RunFault.Write → has_failed writer.new ≡ true) }
 {
     let mut simulation = Simulation::new();
     run(alloc, &mut simulation, reader, writer)
