@@ -22,6 +22,7 @@ PROGRAM = "crates/kcp/out/kcp"
 FOLLOWER = "crates/watch_example/out/watch_example"
 SECONDS_FOR_NEGATIVE_TESTS = 900
 RANDOM_HEADS = 5000
+RANDOM_BYTES = 100_000
 RANDOM_SCHEDULES = 200
 RANDOM_TURNS = 100
 # What `rt ci` says of a proof, a negative test, a test or a program that is not as it has to be, and the scripts of a case.
@@ -130,6 +131,7 @@ def asked_of_program(log):
     words = {
         "conformance": ["run.py"],
         "refused growths": ["refusals/run.py"],
+        "random bytes": ["random_bytes/run.py", "--bytes", str(RANDOM_BYTES)],
         "schedules": ["simulate/run.py", "--random", str(RANDOM_SCHEDULES)],
         "a rollout": ["simulate/rollout.py"],
         "schedules of controllers": ["simulate/schedules.py", "--count", str(RANDOM_TURNS)],
