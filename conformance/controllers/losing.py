@@ -35,8 +35,9 @@ COMMANDS = {
     "adopt": asks(b"PUT ", b"/pods/"),
     "status": asks(b"PUT ", b"/status "),
 }
-# One set for each command and each way to lose it, by name: all are lost side by side, and waited for once.
-SETS = {f"{command}-{loss}": (command, loss) for command in COMMANDS for loss in LOSSES}
+# One set for each command and each way to lose it, by name, and how many of these commands of the set arrive before: all are lost side by
+# side, and waited for once.
+SETS = {f"{command}-{loss}": (command, loss, 0) for command in COMMANDS for loss in LOSSES}
 # Those of which nothing shows that the command was lost.
 SILENT = ["create-request", "delete-request"]
 
@@ -54,7 +55,7 @@ def whole_request(taken):
 
 
 class LosingProxy(CuttingProxy):
-    """Relays connections, and loses one command of each set, as its name says; and some of all replies, while it is told so."""
+    """Relays connections, and loses one command of each set, which one and how it is told; and some of all replies, while it is told so."""
 
     def __init__(self, port, seed=1, sets=()):
         self.left, self.part, self.lost = dict(sets), 0.0, 0
@@ -64,10 +65,14 @@ class LosingProxy(CuttingProxy):
         """Returns what is to be lost of a request, if something is."""
         with self.lock:
             self.connections += 1
-            for it, (command, loss) in self.left.items():
-                if COMMANDS[command](request) and it.encode() in request:
-                    del self.left[it]
-                    return loss
+            for it, (command, loss, before) in self.left.items():
+                if not (COMMANDS[command](request) and it.encode() in request):
+                    continue
+                if before:
+                    self.left[it] = command, loss, before - 1
+                    return None
+                del self.left[it]
+                return loss
             if b"watch=true" not in request.split(b"\r\n", 1)[0] and self.rolls.random() < self.part:
                 self.lost += 1
                 return REPLY
@@ -97,20 +102,20 @@ class LosingProxy(CuttingProxy):
         return close(taken)
 
 
-def declare(client, sets):
+def declare(client, sets, replicas=REPLICAS):
     """Declares what leads to each command: sets to make pods for, sets to be made smaller, and pods to be adopted."""
     for it in sets:
         if it.startswith("adopt"):
             client.create("pods", pod(f"{it}-lone", {"set": it}))
-        client.create("replicasets", replica_set(it, 1 if it.startswith("adopt") else REPLICAS))
+        client.create("replicasets", replica_set(it, 1 if it.startswith("adopt") else replicas))
 
 
-def make_smaller(client, sets):
+def make_smaller(client, sets, replicas=REPLICAS, fewer=FEWER):
     """Makes the sets smaller whose deletes are to be lost, once they have all their pods: before, no delete is commanded."""
     for it in sets:
         if it.startswith("delete"):
-            until(lambda it=it: owned(client)[it] == REPLICAS, f"{it} has not got its pods")
-            client.patch("replicasets", it, {"spec": {"replicas": FEWER}})
+            until(lambda it=it: owned(client)[it] == replicas, f"{it} has not got its pods")
+            client.patch("replicasets", it, {"spec": {"replicas": fewer}})
 
 
 def owned(client):
@@ -125,9 +130,9 @@ def missing(client, sets):
     return [it for it in sets if not declared[it]["spec"]["replicas"] == found[it] == declared[it]["status"].get("replicas")]
 
 
-def await_all(client, sets):
+def await_all(client, sets, more=EXPECTED_SECONDS):
     """Waits until all sets have what they ask for, also those of which a controller expects what never comes."""
-    until(lambda: not missing(client, sets), lambda: f"not as declared: {', '.join(missing(client, sets))}", more=EXPECTED_SECONDS)
+    until(lambda: not missing(client, sets), lambda: f"not as declared: {', '.join(missing(client, sets))}", more=more)
 
 
 def each_lost_once(program, workers, is_short):

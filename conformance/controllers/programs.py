@@ -1,5 +1,6 @@
 """Starts and ends the programs under test: `kcp all`, or `kcp serve` with `kcp control` beside it."""
 import json
+import os
 import pathlib
 import queue
 import re
@@ -45,9 +46,9 @@ class Program:
 
     ends_with_input = False
 
-    def __init__(self, words):
-        self.words = [str(word) for word in words]
-        self.started = subprocess.Popen(self.words, stdin=subprocess.PIPE, stdout=subprocess.PIPE, stderr=subprocess.PIPE)
+    def __init__(self, words, settings=None):
+        self.words, pipes = [str(word) for word in words], {"stdin": subprocess.PIPE, "stdout": subprocess.PIPE, "stderr": subprocess.PIPE}
+        self.started = subprocess.Popen(self.words, env={**os.environ, **(settings or {})}, **pipes)
         self.output, self.errors = Lines(self.started.stdout), Lines(self.started.stderr)
 
     def told(self):
@@ -128,9 +129,9 @@ def server(program, port=0):
     return Listener([program, "serve", "--port", port, "--window", WINDOW, "--threads", THREADS])
 
 
-def control(program, port, workers=WORKERS):
+def control(program, port, workers=WORKERS, settings=None):
     """Starts `kcp control` at a server."""
-    return Program([program, "control", "--server", f"127.0.0.1:{port}", "--workers", workers])
+    return Program([program, "control", "--server", f"127.0.0.1:{port}", "--workers", workers], settings)
 
 
 def lasting_port():

@@ -22,6 +22,7 @@ import time
 sys.dont_write_bytecode = True
 sys.path[:0] = [str(pathlib.Path(__file__).resolve().parent)]
 import adoptions
+import hurried
 import losing
 import rollouts
 import sets
@@ -46,6 +47,7 @@ def scenarios(asked):
         "many-sets-server-killed": lambda: sets.server_killed(program, lists, kills),
         "many-sets-connections-cut": lambda: sets.connections_cut(program, lists, cuts, asked.seed, cuts_requests=not few),
         "commands-lost": lambda: losing.lost_by(program, [1, 4], is_short=few),
+        "commands-lost-hurried": lambda: hurried.lost_by_seeds(program, asked.seed, 4 if few else 200),
     } | ({} if few else {"replies-lost": lambda: losing.replies_lost(program, asked.seed)})
 
 

@@ -17,6 +17,7 @@ import tempfile
 sys.dont_write_bytecode = True
 HERE = pathlib.Path(__file__).resolve().parent
 sys.path.insert(0, str(HERE.parent))
+import preloading
 import run as replays
 
 NO_MEMORY = (
@@ -137,13 +138,6 @@ def run_case(program, library, case):
         told, growth = told + lines, growth + 1
 
 
-def built(folder):
-    """Returns the library that refuses growths, built in a folder."""
-    library = pathlib.Path(folder) / "refusing.so"
-    subprocess.run(["cc", "-O2", "-shared", "-fPIC", "-o", library, HERE / "refusing.c"], check=True)
-    return library
-
-
 def told_of(case, future):
     """Says what came of a case, and returns whether it went well."""
     try:
@@ -165,7 +159,7 @@ def main():
     folder = HERE.parent / "cases"
     cases = [replays.Case(name, replays.read(folder, name, "replay"), replays.read(folder, name, "expect")) for name in CASES if asked.word in name]
     with tempfile.TemporaryDirectory() as room, concurrent.futures.ThreadPoolExecutor(asked.jobs) as pool:
-        library = built(room)
+        library = preloading.built(HERE / "refusing.c", room)
         futures = [(case, pool.submit(run_case, program, library, case)) for case in cases]
         went_well = [told_of(case, future) for case, future in futures]
     print(f"{sum(went_well)} passed, {len(went_well) - sum(went_well)} failed")
