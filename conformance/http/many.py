@@ -1,0 +1,305 @@
+#!/usr/bin/env python3
+"""Has one `kcp serve` hold many connections at once, slow ones among them, and checks that nobody waits for them.
+
+Each scenario starts a server of its own. Times are told, and are wrong only where they are far from what is meant, since other work may be
+done beside: `--strict` takes them as they are meant.
+Usage: many.py --program PATH [--strict] [--watches N] [WORD]      WORD: only scenarios whose name has it
+"""
+import argparse
+import contextlib
+import json
+import os
+import pathlib
+import re
+import resource
+import socket
+import statistics
+import subprocess
+import sys
+import threading
+import time
+
+sys.dont_write_bytecode = True
+HERE = pathlib.Path(__file__).resolve().parent
+sys.path.insert(0, str(HERE.parent / "controllers"))
+from programs import AllInOne, Listener
+from waiting import Limit, Wrong, check, until
+
+MAPS = "/api/v1/namespaces/default/configmaps"
+GET = f"GET {MAPS}?limit=1 HTTP/1.1\r\nHost: localhost\r\n\r\n".encode()
+WATCH = f"GET {MAPS}?watch=true&resourceVersion=1 HTTP/1.1\r\nHost: localhost\r\n\r\n".encode()
+# What is meant is multiplied by this where other work is done beside.
+LOOSE = 10
+STRICT = False
+
+
+def within(seconds, most, what):
+    """Checks that something took no longer than is meant, and returns what is told of it."""
+    check(seconds <= most * (1 if STRICT else LOOSE), f"{what} took {seconds:.3f} s, and {most:g} s are meant")
+    return f"{what} {seconds * 1000:.1f} ms"
+
+
+def connected(port):
+    return socket.create_connection(("127.0.0.1", port), timeout=Limit.seconds)
+
+
+def read_to_end(connection):
+    """Returns all that comes until the peer closes."""
+    came = b""
+    while some := connection.recv(65536):
+        came += some
+    return came
+
+
+def got(port):
+    """Asks for a list, and returns after how many seconds the reply was whole."""
+    began = time.monotonic()
+    with connected(port) as connection:
+        connection.sendall(GET)
+        came = read_to_end(connection)
+    check(came.startswith(b"HTTP/1.1 200 OK\r\n"), f"a list was answered {came[:200]!r}")
+    return time.monotonic() - began
+
+
+def created(port, name):
+    """Creates a ConfigMap."""
+    body = json.dumps({"metadata": {"name": name}}).encode()
+    with connected(port) as connection:
+        connection.sendall(f"POST {MAPS} HTTP/1.1\r\nHost: localhost\r\nContent-Type: application/json\r\nContent-Length: {len(body)}\r\n\r\n".encode() + body)
+        came = read_to_end(connection)
+    check(came.startswith(b"HTTP/1.1 201 Created\r\n"), f"a create was answered {came[:200]!r}")
+
+
+def opened_watch(port):
+    """Returns a connection over which a watch has begun."""
+    connection = connected(port)
+    connection.sendall(WATCH)
+    head = b""
+    while b"\r\n\r\n" not in head:
+        some = connection.recv(4096)
+        check(some, f"a watch was closed after {head!r}")
+        head += some
+    check(head.startswith(b"HTTP/1.1 200 OK\r\n"), f"a watch was answered {head[:200]!r}")
+    return connection
+
+
+@contextlib.contextmanager
+def serving(program, *words):
+    server = Listener([program, "serve", "--port", "0", *words])
+    try:
+        yield server
+        server.check_running()
+    finally:
+        server.kill()
+
+
+def used_by(server):
+    """Returns the processor seconds and the resident bytes of a server."""
+    fields = pathlib.Path(f"/proc/{server.started.pid}/stat").read_text().rpartition(")")[2].split()
+    resident = int(re.search(r"VmRSS:\s+(\d+) kB", pathlib.Path(f"/proc/{server.started.pid}/status").read_text())[1]) * 1024
+    return (int(fields[11]) + int(fields[12])) / os.sysconf("SC_CLK_TCK"), resident
+
+
+def open_files(server):
+    return len(os.listdir(f"/proc/{server.started.pid}/fd"))
+
+
+# ---- scenarios
+
+
+def beside_slow_peers(program, asked):
+    """200 connections that send half a head, and 100 that send a byte a second: another client's 1,000 lists."""
+    with serving(program) as server, contextlib.ExitStack() as held:
+        for _ in range(200):
+            held.enter_context(connection := connected(server.port))
+            connection.sendall(GET[:20])
+        dripping, is_over = [held.enter_context(connected(server.port)) for _ in range(100)], threading.Event()
+
+        def drip():
+            for at in range(len(GET)):
+                for connection in dripping:
+                    with contextlib.suppress(OSError):
+                        connection.sendall(GET[at : at + 1])
+                if is_over.wait(1):
+                    return
+
+        threading.Thread(target=drip, daemon=True).start()
+        began, times = time.monotonic(), [got(server.port) for _ in range(1000)]
+        is_over.set()
+        return within(time.monotonic() - began, 2, "1,000 lists") + f", the slowest {max(times) * 1000:.1f} ms"
+
+
+def all_at_once(program, asked):
+    """1,000 connections are open at once, and then each asks."""
+    with serving(program) as server, contextlib.ExitStack() as held:
+        connections = [held.enter_context(connected(server.port)) for _ in range(1000)]
+        began = time.monotonic()
+        for connection in connections:
+            connection.sendall(GET)
+        for connection in connections:
+            came = read_to_end(connection)
+            check(came.startswith(b"HTTP/1.1 200 OK\r\n"), f"a list was answered {came[:200]!r}")
+        return within(time.monotonic() - began, 2, "1,000 replies")
+
+
+def idle_watches(program, asked):
+    """Thousands of watches of which none has anything to be told, and then one event to all; then they are closed."""
+    with serving(program) as server, contextlib.ExitStack() as held:
+        before = open_files(server)
+        connections = [held.enter_context(opened_watch(server.port)) for _ in range(asked.watches)]
+        began, (used, _) = time.monotonic(), used_by(server)
+        time.sleep(5)
+        more, resident = used_by(server)
+        part = (more - used) / (time.monotonic() - began)
+        check(part <= 0.02 * (1 if STRICT else LOOSE), f"{asked.watches} idle watches take {part:.1%} of a processor")
+        check(resident <= 60e6 * (1 if STRICT else 2), f"{asked.watches} idle watches take {resident / 1e6:.0f} MB")
+        began = time.monotonic()
+        created(server.port, "a")
+        for connection in connections:
+            check(b'"type":"ADDED"' in connection.recv(65536), "a watch did not tell an event")
+        told = within(time.monotonic() - began, 0.1, f"an event to {asked.watches} watches")
+        began = time.monotonic()
+        held.close()
+        until(lambda: open_files(server) <= before + 1, "closed watches are held")
+        return f"{part:.2%} of a processor, {resident / 1e6:.0f} MB, {told}, {within(time.monotonic() - began, 1, 'closing them')}"
+
+
+def events_to_watchers(program, asked):
+    """An event to 1,000 watchers, again and again: when the last of them has it."""
+    with serving(program) as server, contextlib.ExitStack() as held:
+        connections = [held.enter_context(opened_watch(server.port)) for _ in range(min(asked.watches, 1000))]
+        times = []
+        for number in range(20):
+            began = time.monotonic()
+            created(server.port, f"map-{number}")
+            for connection in connections:
+                check(b'"type":"ADDED"' in connection.recv(65536), "a watch did not tell an event")
+            times.append(time.monotonic() - began)
+        return within(statistics.median(times), 0.03, f"the last of {len(connections)} watchers, at the median, read in Python,")
+
+
+def one_thread(program, asked):
+    """A server of one thread, and 100 watches."""
+    with serving(program, "--threads", "1") as server, contextlib.ExitStack() as held:
+        for _ in range(100):
+            held.enter_context(opened_watch(server.port))
+        return within(statistics.median(got(server.port) for _ in range(100)), 0.01, "a list beside 100 watches, at the median,")
+
+
+def heads_in_time(program, asked):
+    """A head that is not whole after ten seconds, and a request that is not after thirty, are left without a reply."""
+    with serving(program) as server, connected(server.port) as head, connected(server.port) as body:
+        began = time.monotonic()
+        head.sendall(GET[:20])
+        body.sendall(f"POST {MAPS} HTTP/1.1\r\nHost: localhost\r\nContent-Type: application/json\r\nContent-Length: 100\r\n\r\n{{".encode())
+        check(read_to_end(head) == b"", "half a head was replied to")
+        of_head = time.monotonic() - began
+        check(9 < of_head < 15, f"half a head was left after {of_head:.1f} s")
+        check(read_to_end(body) == b"", "half a request was replied to")
+        of_body = time.monotonic() - began
+        check(29 < of_body < 36, f"half a request was left after {of_body:.1f} s")
+        return f"left after {of_head:.1f} s and {of_body:.1f} s"
+
+
+def peers_that_never_read(program, asked):
+    """A watcher that reads nothing, of an object that changes until what is unwritten of it is far too much, is left; others see each event."""
+    with serving(program, "--window", "65536") as server, opened_watch(server.port) as idle, opened_watch(server.port) as reading:
+        idle.setsockopt(socket.SOL_SOCKET, socket.SO_RCVBUF, 4096)
+        before, seen, is_over = open_files(server), [0], threading.Event()
+
+        def read():
+            while not is_over.is_set() and (some := reading.recv(1 << 20)):
+                seen[0] += some.count(b'"type":"ADDED"')
+
+        threading.Thread(target=read, daemon=True).start()
+        text = "x" * 200_000
+        for number in range(80):
+            body = json.dumps({"metadata": {"name": f"map-{number}"}, "data": {"k": text}}).encode()
+            with connected(server.port) as connection:
+                connection.sendall(f"POST {MAPS} HTTP/1.1\r\nHost: localhost\r\nContent-Type: application/json\r\nContent-Length: {len(body)}\r\n\r\n".encode() + body)
+                read_to_end(connection)
+        until(lambda: open_files(server) < before, "a watcher that reads nothing is held", more=40)
+        until(lambda: seen[0] == 80, lambda: f"the other watcher saw {seen[0]} of 80 events")
+        is_over.set()
+        return "left, and the other saw 80 events"
+
+
+def ends_after_requests(program, asked):
+    """A server that ends after so many connections: watches get their last chunk."""
+    server = Listener([program, "serve", "--port", "0", "--requests", "3"])
+    try:
+        watches = [opened_watch(server.port) for _ in range(2)]
+        got(server.port)
+        began = time.monotonic()
+        for watch in watches:
+            check(read_to_end(watch).endswith(b"0\r\n\r\n"), "a watch did not get its last chunk")
+        status = server.started.wait(Limit.seconds)
+        check(status == 0, f"kcp serve ended with status {status}")
+        return within(time.monotonic() - began, 2, "ended with two watches")
+    finally:
+        server.kill()
+
+
+def ends_with_input(program, asked):
+    """A `kcp all` whose input ends, beside 100 watches."""
+    server = AllInOne([program, "all", "--port", "0"])
+    try:
+        watches = [opened_watch(server.port) for _ in range(100)]
+        began = time.monotonic()
+        server.started.stdin.close()
+        for watch in watches:
+            check(read_to_end(watch).endswith(b"0\r\n\r\n"), "a watch did not get its last chunk")
+        status = server.started.wait(Limit.seconds)
+        check(status == 0, f"kcp all ended with status {status}")
+        return within(time.monotonic() - began, 2, "ended with 100 watches")
+    finally:
+        server.kill()
+
+
+SCENARIOS = {
+    "beside-slow-peers": beside_slow_peers,
+    "all-at-once": all_at_once,
+    "idle-watches": idle_watches,
+    "events-to-watchers": events_to_watchers,
+    "one-thread": one_thread,
+    "heads-in-time": heads_in_time,
+    "peers-that-never-read": peers_that_never_read,
+    "ends-after-requests": ends_after_requests,
+    "ends-with-input": ends_with_input,
+}
+
+
+def run(name, scenario, program, asked):
+    """Runs a scenario, says what came of it, and returns whether it went well."""
+    began = time.monotonic()
+    try:
+        told = scenario(program, asked)
+    except Exception as fault:
+        print(f"FAILED {name}: {type(fault).__name__}: {fault}, {time.monotonic() - began:.1f} s", flush=True)
+        return False
+    print(f"{name}: {told}, {time.monotonic() - began:.1f} s", flush=True)
+    return True
+
+
+def main():
+    global STRICT
+    parser = argparse.ArgumentParser(description=__doc__.splitlines()[0])
+    parser.add_argument("--program", required=True)
+    parser.add_argument("--strict", action="store_true")
+    parser.add_argument("--watches", type=int, default=5000)
+    parser.add_argument("--limit", type=float, default=60)
+    parser.add_argument("word", nargs="?", default="")
+    asked = parser.parse_args()
+    STRICT, Limit.seconds = asked.strict, asked.limit
+    _, most = resource.getrlimit(resource.RLIMIT_NOFILE)
+    resource.setrlimit(resource.RLIMIT_NOFILE, (most, most))
+    # Each watch takes a descriptor here and one there.
+    asked.watches = min(asked.watches, most - 500)
+    program = str(pathlib.Path(asked.program).resolve())
+    went_well = [run(name, scenario, program, asked) for name, scenario in SCENARIOS.items() if asked.word in name]
+    print(f"{sum(went_well)} passed, {len(went_well) - sum(went_well)} failed")
+    sys.exit(0 if went_well and all(went_well) else 1)
+
+
+if __name__ == "__main__":
+    main()
