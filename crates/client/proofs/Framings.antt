@@ -10,6 +10,6 @@ alone : (vs rest : List (List ℕ)) (v : List ℕ) (n : ℕ) → vs ≡ v ∷ re
 alone vs [] v n e count one = e
 alone vs (w ∷ rest) v n e count one = absurd (omega (arith, count, one, ap length e))
 
-pub by_chunks : (fields : List Field) (v : List ℕ) (rest : List (List ℕ)) (n : ℕ) (t : Bool) → codings_in fields ≡ v ∷ rest → n ≡ length (codings_in fields) → n ≡ 1
-    → t ≡ str_eq_ignore_ascii_case v (codes "chunked") → t ≡ true → IsFramed fields framing.Chunked
-by_chunks fields v rest n t e count one same is = (v, alone (codings_in fields) rest v n e count one, sym same ∙ is)
+pub by_chunks : (most : ℕ) (fields : List Field) (v : List ℕ) (rest : List (List ℕ)) (n : ℕ) (t : Bool) → codings_in fields ≡ v ∷ rest → n ≡ length (codings_in fields) → n ≡ 1
+    → t ≡ str_eq_ignore_ascii_case v (codes "chunked") → t ≡ true → IsFramed most fields framing.Chunked
+by_chunks most fields v rest n t e count one same is = (v, alone (codings_in fields) rest v n e count one, sym same ∙ is)

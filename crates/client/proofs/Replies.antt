@@ -1,5 +1,5 @@
 -- Replies, and where there is none.
-use Rattle.std.proofs.Common.{◌≡◌, inl, inr, ◌<◌, ℕ, List, [], ◌∷◌, ◌++◌, length, Option, Some, None, refl, sym, ap, ◌∙◌, subst, arith, length-append}
+use Rattle.std.proofs.Common.{◌≡◌, inl, inr, ◌≤◌, ◌<◌, ℕ, List, [], ◌∷◌, ◌++◌, length, Option, Some, None, refl, sym, ap, ◌∙◌, subst, arith, length-append}
 use Rattle.std.specs.Io.KnownBytes.{Consumes}
 use Rattle.std.proofs.KnownBytes.{Consumes-trans}
 use Rattle.httparse.specs.Grammar.{ResponseHead, print_response, ReadsResponse, status_code}
@@ -8,9 +8,9 @@ use Rattle.chunked.specs.Bodies.{IsBodyWithin}
 use Rattle.chunked.specs.Reading.{longest_line}
 use Rattle.exchanges.specs.Answers.{Replied, Says, HasLength, IsChunked, fields_of, transfer_codings, OpensWatch}
 use Rattle.client.specs.Heads.{BeginsWithNoHead, SaysNothing, IsFramed, IsHeadOf}
-use Rattle.client.specs.Reading.{IfKnown, IsShorterThan, ReadsHead}
-use Rattle.client.specs.Bodies.{ReadsBody, HasNoBody}
-use Rattle.client.specs.Replies.{ReadsReply, SaysInChunks, SaysWhole, SaysNoReply, IsNoBody}
+use Rattle.client.specs.Reading.{IfKnown, IsShorterThan, ReadsHead, ReadsLongerHead}
+use Rattle.client.specs.Bodies.{ReadsBody, HasNoBody, HasLongBody, IsStatedWithin}
+use Rattle.client.specs.Replies.{ReadsReply, SaysInChunks, SaysWhole, SaysNoReply, IsNoBody, IsLonger}
 use Rattle.client.specs.Watches.{OpensNothing}
 use Rattle.client.proofs.WholeBodies.{body_there}
 use Rattle.client.specs.declared.framing.Framing.{Framing}
@@ -72,51 +72,65 @@ no_opening (Some xs) (Some ys) h (well, limits, read) says none = (says, λ rest
 
 -- ---- by what counts of a head
 
-abbrev pub HeadRead : Option (List ℕ) → Option (List ℕ) → ReplyHead → Type 0
-HeadRead before mid r = (h : ResponseHead) × ReadsHead before mid h × IsHeadOf h r
+abbrev pub HeadRead : ℕ → Option (List ℕ) → Option (List ℕ) → ReplyHead → Type 0
+HeadRead most before mid r = (h : ResponseHead) × ReadsHead before mid h × IsHeadOf most h r
 
-framed_as : (h : ResponseHead) (r : ReplyHead) (f : Framing) → IsHeadOf h r → r.framing ≡ f → IsFramed (fields_of h) f
-framed_as h r f of is = subst (λ g. IsFramed (fields_of h) g) is of.1
+framed_as : (most : ℕ) (h : ResponseHead) (r : ReplyHead) (f : Framing) → IsHeadOf most h r → r.framing ≡ f → IsFramed most (fields_of h) f
+framed_as most h r f of is = subst (λ g. IsFramed most (fields_of h) g) is of.1
 
-pub reply_whole : (before mid after : Option (List ℕ)) (head : ReplyHead) (n : ℕ) (r : Replied) → HeadRead before mid head → head.framing ≡ framing.Length n → Consumes mid after r.body
+-- the length that a head states is its body's
+stated : (most : ℕ) (h : ResponseHead) (r : ReplyHead) (n : ℕ) → IsHeadOf most h r → r.framing ≡ framing.Length n → HasLength h n
+stated most h r n of is = let long = framed_as most h r (framing.Length n) of is in (long.0, long.1)
+
+-- one within the limit
+pub stated_within : (most : ℕ) (before mid : Option (List ℕ)) (head : ReplyHead) (n : ℕ) → HeadRead most before mid head → head.framing ≡ framing.Length n → n ≤ most
+stated_within most before mid head n (h, reads, of) is = (framed_as most h head (framing.Length n) of is).2
+
+-- or one beyond it
+pub head_longer : (most : ℕ) (before mid : Option (List ℕ)) (head : ReplyHead) → HeadRead most before mid head → head.framing ≡ framing.TooLong → ReadsLongerHead most before mid
+head_longer most before mid head (h, reads, of) is =
+    let long = framed_as most h head framing.TooLong of is in
+    (h, long.1.0, reads, (long.0, long.1.1), long.1.2)
+
+pub reply_whole : (most : ℕ) (before mid after : Option (List ℕ)) (head : ReplyHead) (n : ℕ) (r : Replied) → HeadRead most before mid head → head.framing ≡ framing.Length n → Consumes mid after r.body
     → length r.body ≡ n → head.code ≡ r.code → ReadsReply before after r
-reply_whole before mid after head n r (h, reads, of) is body long same =
-    reply_read before mid after h r reads body (subst (λ m. HasLength h m) (sym long) (framed_as h head (framing.Length n) of is)) (of.0 ∙ same)
+reply_whole most before mid after head n r (h, reads, of) is body long same =
+    reply_read before mid after h r reads body (subst (λ m. HasLength h m) (sym long) (stated most h head n of is)) (of.0 ∙ same)
 
-pub reply_short : (before mid : Option (List ℕ)) (head : ReplyHead) (n : ℕ) → HeadRead before mid head → head.framing ≡ framing.Length n → IfKnown mid (IsShorterThan n)
+pub reply_short : (most : ℕ) (before mid : Option (List ℕ)) (head : ReplyHead) (n : ℕ) → HeadRead most before mid head → head.framing ≡ framing.Length n → IfKnown mid (IsShorterThan n)
     → IfKnown before SaysNothing
-reply_short before mid head n (h, reads, of) is short = short_says before mid h n reads (framed_as h head (framing.Length n) of is) short
+reply_short most before mid head n (h, reads, of) is short = short_says before mid h n reads (stated most h head n of is) short
 
-pub reply_in_chunks : (before mid : Option (List ℕ)) (head : ReplyHead) → HeadRead before mid head → head.framing ≡ framing.Chunked → IfKnown before SaysNothing
-reply_in_chunks before mid head (h, reads, of) is =
-    let chunked = framed_as h head framing.Chunked of is in
+pub reply_in_chunks : (most : ℕ) (before mid : Option (List ℕ)) (head : ReplyHead) → HeadRead most before mid head → head.framing ≡ framing.Chunked → IfKnown before SaysNothing
+reply_in_chunks most before mid head (h, reads, of) is =
+    let chunked = framed_as most h head framing.Chunked of is in
     unstated_says before mid h reads (λ n long. some_none chunked.0 (chunked.1) long.0)
   where
     some_none : {vs : List (List ℕ)} → (v : List ℕ) → vs ≡ v ∷ [] → vs ≡ [] → ⊥
     some_none v e none = absurd (cc)
 
-pub reply_other : (before mid : Option (List ℕ)) (head : ReplyHead) → HeadRead before mid head → head.framing ≡ framing.Other → IfKnown before SaysNothing
-reply_other before mid head (h, reads, of) is =
-    let other = framed_as h head framing.Other of is in
+pub reply_other : (most : ℕ) (before mid : Option (List ℕ)) (head : ReplyHead) → HeadRead most before mid head → head.framing ≡ framing.Other → IfKnown before SaysNothing
+reply_other most before mid head (h, reads, of) is =
+    let other = framed_as most h head framing.Other of is in
     unstated_says before mid h reads (λ n long. other.0 n long.0 long.1)
 
-pub opening_short : (before mid : Option (List ℕ)) (head : ReplyHead) (n : ℕ) → HeadRead before mid head → head.framing ≡ framing.Length n → IfKnown mid (IsShorterThan n)
+pub opening_short : (most : ℕ) (before mid : Option (List ℕ)) (head : ReplyHead) (n : ℕ) → HeadRead most before mid head → head.framing ≡ framing.Length n → IfKnown mid (IsShorterThan n)
     → IfKnown before OpensNothing
-opening_short before mid head n (h, reads, of) is short =
-    let long = framed_as h head (framing.Length n) of is in
+opening_short most before mid head n (h, reads, of) is short =
+    let long = stated most h head n of is in
     no_opening before mid h reads (short_says before mid h n reads long short) (λ chunked code. none_some chunked.0 long.0 chunked.1)
   where
     none_some : {vs : List (List ℕ)} → (v : List ℕ) → vs ≡ [] → vs ≡ v ∷ [] → ⊥
     none_some v none e = absurd (cc)
 
-pub opening_refused : (before mid : Option (List ℕ)) (head : ReplyHead) → HeadRead before mid head → head.framing ≡ framing.Chunked → (head.code ≡ 200 → ⊥) → IfKnown before OpensNothing
-opening_refused before mid head (h, reads, of) is other =
-    no_opening before mid h reads (reply_in_chunks before mid head (h, reads, of) is) (λ chunked code. other (sym of.0 ∙ code))
+pub opening_refused : (most : ℕ) (before mid : Option (List ℕ)) (head : ReplyHead) → HeadRead most before mid head → head.framing ≡ framing.Chunked → (head.code ≡ 200 → ⊥) → IfKnown before OpensNothing
+opening_refused most before mid head (h, reads, of) is other =
+    no_opening before mid h reads (reply_in_chunks most before mid head (h, reads, of) is) (λ chunked code. other (sym of.0 ∙ code))
 
-pub opening_other : (before mid : Option (List ℕ)) (head : ReplyHead) → HeadRead before mid head → head.framing ≡ framing.Other → IfKnown before OpensNothing
-opening_other before mid head (h, reads, of) is =
-    let other = framed_as h head framing.Other of is in
-    no_opening before mid h reads (reply_other before mid head (h, reads, of) is) (λ chunked code. other.1 chunked.0 chunked.1 chunked.2)
+pub opening_other : (most : ℕ) (before mid : Option (List ℕ)) (head : ReplyHead) → HeadRead most before mid head → head.framing ≡ framing.Other → IfKnown before OpensNothing
+opening_other most before mid head (h, reads, of) is =
+    let other = framed_as most h head framing.Other of is in
+    no_opening before mid h reads (reply_other most before mid head (h, reads, of) is) (λ chunked code. other.1 chunked.0 chunked.1 chunked.2)
 
 -- ---- replies, however their bodies end
 
@@ -125,20 +139,20 @@ says_by_length xs None r reads = absurd reads.1
 says_by_length xs (Some ys) r (bytes, read, (h, reads, limits, long, code)) =
     (h, ys, subst (λ b. ReadsResponse b h (r.body ++ ys)) (sym read) (ReadsResponse-append bytes h r.body ys reads), limits, long, code)
 
-whole_by : (f : Framing) (xs : List ℕ) (mid : Option (List ℕ)) (head : ReplyHead) (r : Replied) → HeadRead (Some xs) mid head → head.framing ≡ f → ReadsBody f mid r.body → head.code ≡ r.code
+whole_by : (most : ℕ) (f : Framing) (xs : List ℕ) (mid : Option (List ℕ)) (head : ReplyHead) (r : Replied) → HeadRead most (Some xs) mid head → head.framing ≡ f → ReadsBody f mid r.body → head.code ≡ r.code
     → SaysWhole xs r
-whole_by (framing.Length n) xs mid head r read is (after, body, long) same = inl (says_by_length xs after r (reply_whole (Some xs) mid after head n r read is body long same))
-whole_by framing.TooLong xs mid head r read is body same = absurd body
-whole_by framing.Chunked xs None head r (h, reads, of) is body same = absurd reads.2
-whole_by framing.Chunked xs (Some ys) head r (h, (well, limits, read), of) is (after, reaches) same =
+whole_by most (framing.Length n) xs mid head r read is (after, body, long) same = inl (says_by_length xs after r (reply_whole most (Some xs) mid after head n r read is body long same))
+whole_by most framing.TooLong xs mid head r read is body same = absurd body
+whole_by most framing.Chunked xs None head r (h, reads, of) is body same = absurd reads.2
+whole_by most framing.Chunked xs (Some ys) head r (h, (well, limits, read), of) is (after, reaches) same =
     let there = body_there ys after r.body reaches in
-    inr (h, ys, there.1, there.0, (well, read), limits, framed_as h head framing.Chunked of is, there.2, there.3, of.0 ∙ same)
-whole_by framing.Other xs mid head r read is body same = absurd body
+    inr (h, ys, there.1, there.0, (well, read), limits, framed_as most h head framing.Chunked of is, there.2, there.3, of.0 ∙ same)
+whole_by most framing.Other xs mid head r read is body same = absurd body
 
-pub whole_says : (before mid : Option (List ℕ)) (head : ReplyHead) (r : Replied) → HeadRead before mid head → ReadsBody head.framing mid r.body → head.code ≡ r.code
+pub whole_says : (most : ℕ) (before mid : Option (List ℕ)) (head : ReplyHead) (r : Replied) → HeadRead most before mid head → ReadsBody head.framing mid r.body → head.code ≡ r.code
     → IfKnown before (λ bytes. SaysWhole bytes r)
-whole_says None mid head r read body same = tt
-whole_says (Some xs) mid head r read body same = whole_by head.framing xs mid head r read refl body same
+whole_says most None mid head r read body same = tt
+whole_says most (Some xs) mid head r read body same = whole_by most head.framing xs mid head r read refl body same
 
 -- without a head
 headless : (xs : List ℕ) (r : Replied) → BeginsWithNoHead xs → SaysWhole xs r → ⊥
@@ -162,19 +176,44 @@ either xs ys h r reads one other (inr says) = unchunked xs ys h r reads other sa
 some_none : (v : List ℕ) (vs : List (List ℕ)) → vs ≡ v ∷ [] → vs ≡ [] → ⊥
 some_none v vs e none = absurd (cc)
 
-no_whole_by : (f : Framing) (xs ys : List ℕ) (head : ReplyHead) (h : ResponseHead) → ReadsHead (Some xs) (Some ys) h → IsHeadOf h head → head.framing ≡ f → HasNoBody f (Some ys) → SaysNoReply xs
-no_whole_by (framing.Length n) xs ys head h (well, limits, read) of is short = λ r.
-    let long = framed_as h head (framing.Length n) of is in
+no_whole_by : (most : ℕ) (f : Framing) (xs ys : List ℕ) (head : ReplyHead) (h : ResponseHead) → ReadsHead (Some xs) (Some ys) h → IsHeadOf most h head → head.framing ≡ f → HasNoBody f (Some ys) → SaysNoReply xs
+no_whole_by most (framing.Length n) xs ys head h (well, limits, read) of is short = λ r.
+    let long = stated most h head n of is in
     either xs ys h r (well, read) (short_body xs ys h n r (well, read) long short) (λ chunked. absurd (some_none chunked.0 (transfer_codings h) chunked.1 long.0))
-no_whole_by framing.TooLong xs ys head h reads of is none = absurd none
-no_whole_by framing.Chunked xs ys head h (well, limits, read) of is none = λ r.
-    let chunked = framed_as h head framing.Chunked of is in
+no_whole_by most framing.TooLong xs ys head h reads of is none = absurd none
+no_whole_by most framing.Chunked xs ys head h (well, limits, read) of is none = λ r.
+    let chunked = framed_as most h head framing.Chunked of is in
     either xs ys h r (well, read) (unstated xs ys h r (well, read) (λ n long. some_none chunked.0 (transfer_codings h) chunked.1 long.0)) (λ other. none)
-no_whole_by framing.Other xs ys head h (well, limits, read) of is none = λ r.
-    let other = framed_as h head framing.Other of is in
+no_whole_by most framing.Other xs ys head h (well, limits, read) of is none = λ r.
+    let other = framed_as most h head framing.Other of is in
     either xs ys h r (well, read) (unstated xs ys h r (well, read) (λ n long. other.0 n long.0 long.1)) (λ chunked. absurd (other.1 chunked.0 chunked.1 chunked.2))
 
-pub bodiless_says : (before mid : Option (List ℕ)) (head : ReplyHead) → HeadRead before mid head → HasNoBody head.framing mid → IfKnown before SaysNoReply
-bodiless_says None mid head read none = tt
-bodiless_says (Some xs) None head (h, reads, of) none = absurd reads.2
-bodiless_says (Some xs) (Some ys) head (h, reads, of) none = no_whole_by head.framing xs ys head h reads of refl none
+pub bodiless_says : (most : ℕ) (before mid : Option (List ℕ)) (head : ReplyHead) → HeadRead most before mid head → HasNoBody head.framing mid → IfKnown before SaysNoReply
+bodiless_says most None mid head read none = tt
+bodiless_says most (Some xs) None head (h, reads, of) none = absurd reads.2
+bodiless_says most (Some xs) (Some ys) head (h, reads, of) none = no_whole_by most head.framing xs ys head h reads of refl none
+
+-- with a body within the limit, as far as the head states it
+framed_within : (most : ℕ) (f : Framing) (h : ResponseHead) → IsFramed most (fields_of h) f → IsStatedWithin most f
+framed_within most (framing.Length n) h is = is.2
+framed_within most framing.TooLong h is = tt
+framed_within most framing.Chunked h is = tt
+framed_within most framing.Other h is = tt
+
+pub head_within : (most : ℕ) (before mid : Option (List ℕ)) (head : ReplyHead) → HeadRead most before mid head → IsStatedWithin most head.framing
+head_within most before mid head (h, reads, of) = framed_within most head.framing h of.1
+
+-- with a longer one
+longer_by : (most : ℕ) (f : Framing) (xs ys : List ℕ) (head : ReplyHead) (h : ResponseHead) → ReadsHead (Some xs) (Some ys) h → IsHeadOf most h head → head.framing ≡ f
+    → HasLongBody most f (Some ys) → IsLonger most xs
+longer_by most (framing.Length n) xs ys head h reads of is long = absurd long
+longer_by most framing.TooLong xs ys head h (well, limits, read) of is long =
+    let more = framed_as most h head framing.TooLong of is in
+    inl (h, ys, more.1.0, (well, read), limits, (more.0, more.1.1), more.1.2)
+longer_by most framing.Chunked xs ys head h (well, limits, read) of is long = inr (h, ys, (well, read), limits, framed_as most h head framing.Chunked of is, long)
+longer_by most framing.Other xs ys head h reads of is long = absurd long
+
+pub longer_says : (most : ℕ) (before mid : Option (List ℕ)) (head : ReplyHead) → HeadRead most before mid head → HasLongBody most head.framing mid → IfKnown before (IsLonger most)
+longer_says most None mid head read long = tt
+longer_says most (Some xs) None head (h, reads, of) long = absurd reads.2
+longer_says most (Some xs) (Some ys) head (h, reads, of) long = longer_by most head.framing xs ys head h reads of refl long

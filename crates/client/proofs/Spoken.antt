@@ -1,5 +1,5 @@
 -- What is written for a reply, read whole.
-use Rattle.std.proofs.Common.{◌≡◌, ◌<◌, ℕ, List, [], ◌∷◌, ◌++◌, length, inl, inr, sym, ap, ◌∙◌, subst, append-nil}
+use Rattle.std.proofs.Common.{◌≡◌, ◌<◌, ℕ, List, [], ◌∷◌, ◌++◌, length, Some, inl, inr, sym, ap, ◌∙◌, subst, append-nil}
 use Rattle.httparse.specs.Grammar.{ResponseHead, ReadsResponse, status_code}
 use Rattle.httparse.proofs.GrammarLemmas.{response_unique, ReadsResponse-append}
 use Rattle.chunked.specs.Bodies.{IsBodyWithin, joined}
@@ -9,8 +9,9 @@ use Rattle.connections.specs.Replies.{response_text}
 use Rattle.exchanges.specs.Answers.{Replied, Says, HasLength, IsChunked, transfer_codings}
 use Rattle.exchanges.specs.Laws.{IsReply}
 use Rattle.exchanges.proofs.Read.{one_reply, written_read, cut_lost}
-use Rattle.client.specs.Laws.{OneWholeReplyIsSaid, WrittenRepliesAreWhole, CutRepliesAreNotWhole}
-use Rattle.client.specs.Replies.{SaysInChunks, SaysWhole}
+use Rattle.client.specs.Laws.{OneWholeReplyIsSaid, WrittenRepliesAreWhole, CutRepliesAreNotWhole, LongerRepliesAreBeyond}
+use Rattle.client.specs.Heads.{StatesLonger}
+use Rattle.client.specs.Replies.{SaysInChunks, SaysWhole, IsBodyLonger}
 
 abbrev reply : ℕ → List ℕ → Replied
 reply c b = record { code = c; body = b }
@@ -26,6 +27,13 @@ not_both h k n e long chunked =
   where
     some_none : (v : List ℕ) (vs : List (List ℕ)) → vs ≡ v ∷ [] → vs ≡ [] → ⊥
     some_none v vs e none = absurd (cc)
+
+-- a head states one length
+one_length : (h k : ResponseHead) (m n : ℕ) → h ≡ k → HasLength h m → HasLength k n → m ≡ n
+one_length h k m n e long long' =
+    let same : HasLength k m = subst (λ g. HasLength g m) e long in
+    let twice : Some (Some m) ≡ Some (Some n) = sym same.1 ∙ long'.1 in
+    cc twice
 
 -- what says a reply by its length says none in chunks
 one_way : (bytes : List ℕ) (r s : Replied) → Says bytes r → SaysInChunks bytes s → ⊥
@@ -64,3 +72,23 @@ cut_by r s bytes more ok e some (inr says) =
 
 pub cut_none : CutRepliesAreNotWhole
 cut_none r bytes more ok e some = λ s says. cut_by r s bytes more ok e some says
+
+-- ---- longer than a limit
+
+stated_beyond : (most : ℕ) (bytes : List ℕ) (r : Replied) → StatesLonger most bytes → SaysWhole bytes r → most < length r.body
+stated_beyond most bytes r (h, ys, n, reads, limits, long, more) (inl (k, rest, others, limits', long', code)) =
+    let same = response_unique bytes h k ys (r.body ++ rest) reads others in
+    subst (λ m. most < m) (one_length h k n (length r.body) same.0 long long') more
+stated_beyond most bytes r (h, ys, n, reads, limits, long, more) (inr (k, body, rest, chunks, others, limits', chunked, is, all, code)) =
+    absurd (not_both h k n (response_unique bytes h k ys body reads others).0 long chunked)
+
+chunks_beyond : (most : ℕ) (bytes body : List ℕ) (h : ResponseHead) (r : Replied) → ReadsResponse bytes h body → IsChunked h → IsBodyLonger most body → SaysWhole bytes r → most < length r.body
+chunks_beyond most bytes body h r reads chunked long (inl (k, rest, others, limits, stated, code)) =
+    absurd (not_both k h (length r.body) (sym (response_unique bytes h k body (r.body ++ rest) reads others).0) stated chunked)
+chunks_beyond most bytes body h r reads chunked long (inr (k, body', rest, chunks, others, limits, chunked', is, all, code)) =
+    let same = response_unique bytes h k body body' reads others in
+    subst (λ b. most < length b) (sym all) (long chunks rest (subst (λ b. IsBodyWithin longest_line chunks b rest) (sym same.1) is))
+
+pub longer_beyond : LongerRepliesAreBeyond
+longer_beyond most bytes r (inl stated) says = stated_beyond most bytes r stated says
+longer_beyond most bytes r (inr (h, body, reads, limits, chunked, long)) says = chunks_beyond most bytes body h r reads chunked long says

@@ -1,5 +1,5 @@
 -- Bodies in chunks, piece after piece.
-use Rattle.std.proofs.Common.{◌≡◌, ◌⊎◌, inl, inr, ℕ, List, [], ◌++◌, Option, Some, None, refl, sym, ap, ◌∙◌, subst, append_assoc, append-nil, arith}
+use Rattle.std.proofs.Common.{◌≡◌, ◌⊎◌, inl, inr, ◌<◌, ℕ, List, [], ◌++◌, length, length-append, Option, Some, None, refl, sym, ap, ◌∙◌, subst, append_assoc, append-nil, arith}
 use Rattle.std.proofs.KnownBytes.{Consumes-trans}
 use Rattle.chunked.specs.Bodies.{IsBodyWithin, joined}
 use Rattle.chunked.specs.Reading.{IsLeft, Passes, Reaches, Stops, longest_line}
@@ -7,7 +7,7 @@ use Rattle.chunked.specs.declared.fault.ChunkFault.TheVariants as fault
 use Rattle.chunked.specs.declared.place.Place.{Place}
 use Rattle.chunked.specs.declared.place.Place.TheVariants as place
 use Rattle.client.specs.Reading.{IfKnown}
-use Rattle.client.specs.Replies.{IsNoBody}
+use Rattle.client.specs.Replies.{IsNoBody, IsBodyLonger}
 
 passes_more : (p q s : Place) (front back first second : List ℕ) → Passes p front first q → Passes q back second s → Passes p (front ++ back) (first ++ second) s
 passes_more p q s front back first second a b = (
@@ -62,3 +62,12 @@ body_there xs None content reaches = absurd reaches.1
 body_there xs (Some ys) content (read, consumes, passes) =
     let whole = passes.0 longest_line ys [] ys (omega (arith)) (refl, refl) in
     (whole.0, ys, subst (λ b. IsBodyWithin longest_line whole.0 b ys) (sym consumes) whole.1, sym (append-nil content) ∙ whole.2)
+
+-- what was read is longer than the limit, and so is any body that begins with it
+pub longer_there : (most : ℕ) (before after : Option (List ℕ)) (p : Place) (content : List ℕ) → Reaches place.Line before content p after → most < length content
+    → IfKnown before (IsBodyLonger most)
+longer_there most None after p content reaches long = tt
+longer_there most (Some xs) None p content reaches long = absurd reaches.1
+longer_there most (Some xs) (Some ys) p content (read, consumes, passes) long = λ chunks rest body.
+    let on = passes.1 longest_line ys (joined chunks) rest (chunks, subst (λ b. IsBodyWithin longest_line chunks b rest) consumes body, refl) in
+    omega (arith, long, ap length on.1, length-append content on.0)

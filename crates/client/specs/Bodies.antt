@@ -1,12 +1,12 @@
 -- Bodies that a client has read.
-use Rattle.std.specs.Prelude.{◌≡◌, ◌⊎◌, ℕ, List, ◌++◌, length, Option, ⊤}
+use Rattle.std.specs.Prelude.{◌≡◌, ◌⊎◌, ◌≤◌, ℕ, List, ◌++◌, length, Option, ⊤}
 use Rattle.std.specs.Io.KnownBytes.{Consumes}
 use Rattle.chunked.specs.Reading.{Reaches, Stops, place_of, left_of}
 use Rattle.chunked.specs.declared.fault.ChunkFault.TheVariants as fault
 use Rattle.chunked.specs.declared.place.Place.TheVariants as place
 use Rattle.chunked.specs.declared.reader.Reader.{Reader}
 use Rattle.client.specs.Reading.{IfKnown, IsShorterThan}
-use Rattle.client.specs.Replies.{IsNoBody}
+use Rattle.client.specs.Replies.{IsNoBody, IsBodyLonger}
 use Rattle.client.specs.declared.framing.Framing.{Framing}
 use Rattle.client.specs.declared.framing.Framing.TheVariants as framing
 
@@ -34,3 +34,17 @@ HasNoBody (framing.Length n) before = IfKnown before (IsShorterThan n)
 HasNoBody framing.TooLong before = ⊥
 HasNoBody framing.Chunked before = IfKnown before IsNoBody
 HasNoBody framing.Other before = ⊤
+
+-- a length that is stated is within this
+abbrev pub IsStatedWithin : ℕ → Framing → Type 0
+IsStatedWithin most (framing.Length n) = n ≤ most
+IsStatedWithin most framing.TooLong = ⊤
+IsStatedWithin most framing.Chunked = ⊤
+IsStatedWithin most framing.Other = ⊤
+
+-- it is longer than this, as its head states or as what came of its chunks is
+abbrev pub HasLongBody : ℕ → Framing → Option (List ℕ) → Type 0
+HasLongBody most (framing.Length n) before = ⊥
+HasLongBody most framing.TooLong before = ⊤
+HasLongBody most framing.Chunked before = IfKnown before (IsBodyLonger most)
+HasLongBody most framing.Other before = ⊥

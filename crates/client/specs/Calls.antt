@@ -1,5 +1,5 @@
 -- What becomes of a request.
-use Rattle.std.specs.Prelude.{◌≡◌, ◌⊎◌, ℕ, List, Option, true, false}
+use Rattle.std.specs.Prelude.{◌≡◌, ◌≤◌, ◌⊎◌, ℕ, List, length, Option, true, false}
 use Rattle.std.specs.Io.KnownBytes.{Appends}
 use Rattle.chunked.specs.Devices.{AppendsBeginning, device_of, has_failed}
 use Rattle.chunked.specs.declared.watched.Watched.{Watched}
@@ -21,14 +21,16 @@ IsWritten contents text old new = (has_failed new ≡ false) × Appends (content
 abbrev pub IsBegun : {W : Type 0} → (W → Option (List ℕ)) → List ℕ → Watched W → Watched W → Type 0
 IsBegun contents text old new = (has_failed new ≡ true) × AppendsBeginning (contents (device_of old)) (contents (device_of new)) text
 
--- the whole text was written, and the bytes that came then say this reply; or the reply is lost, after the whole text was written or as the writer failed
-abbrev pub IsExchanged : {W : Type 0} → (W → Option (List ℕ)) → List ℕ → Option (List ℕ) → Watched W → Watched W → Answer → Type 0
-IsExchanged contents text unread old new (answer.Replied r) = IsWritten contents text old new × IfKnown unread (λ bytes. SaysWhole bytes (replied r))
-IsExchanged contents text unread old new answer.NotSent = ⊥
-IsExchanged contents text unread old new answer.Lost = IsWritten contents text old new ⊎ IsBegun contents text old new
+-- the whole text was written, and the bytes that came then say this reply, whose body is no longer than this; or the reply is lost, after the whole text
+-- was written or as the writer failed
+abbrev pub IsExchanged : {W : Type 0} → (W → Option (List ℕ)) → List ℕ → ℕ → Option (List ℕ) → Watched W → Watched W → Answer → Type 0
+IsExchanged contents text most unread old new (answer.Replied r) =
+    IsWritten contents text old new × (length r.body.items ≤ most) × IfKnown unread (λ bytes. SaysWhole bytes (replied r))
+IsExchanged contents text most unread old new answer.NotSent = ⊥
+IsExchanged contents text most unread old new answer.Lost = IsWritten contents text old new ⊎ IsBegun contents text old new
 
 -- the same, or nothing was written
-abbrev pub IsAnswered : {W : Type 0} → (W → Option (List ℕ)) → List ℕ → Option (List ℕ) → Watched W → Watched W → Answer → Type 0
-IsAnswered contents text unread old new answer.NotSent = new ≡ old
-IsAnswered contents text unread old new (answer.Replied r) = IsExchanged contents text unread old new (answer.Replied r)
-IsAnswered contents text unread old new answer.Lost = IsExchanged contents text unread old new answer.Lost
+abbrev pub IsAnswered : {W : Type 0} → (W → Option (List ℕ)) → List ℕ → ℕ → Option (List ℕ) → Watched W → Watched W → Answer → Type 0
+IsAnswered contents text most unread old new answer.NotSent = new ≡ old
+IsAnswered contents text most unread old new (answer.Replied r) = IsExchanged contents text most unread old new (answer.Replied r)
+IsAnswered contents text most unread old new answer.Lost = IsExchanged contents text most unread old new answer.Lost

@@ -1,9 +1,9 @@
 -- What the head of a reply says, and where there is none.
-use Rattle.std.specs.Prelude.{◌≡◌, ◌<◌, ◌^◌, ℕ, List, [], ◌∷◌, codes, Option, Some, true}
+use Rattle.std.specs.Prelude.{◌≡◌, ◌≤◌, ◌<◌, ℕ, List, [], ◌∷◌, codes, Option, Some, true}
 use Rattle.std.specs.Str.{str_eq_ignore_ascii_case}
 use Rattle.httparse.specs.Grammar.{ResponseHead, ReadsResponse, status_code}
 use Rattle.connections.specs.Heads.{Field, values_of, length_in}
-use Rattle.exchanges.specs.Answers.{Replied, Says, IsWithinLimits, fields_of}
+use Rattle.exchanges.specs.Answers.{Replied, Says, IsWithinLimits, HasLength, fields_of}
 use Rattle.client.specs.declared.framing.Framing.{Framing}
 use Rattle.client.specs.declared.framing.Framing.TheVariants as framing
 use Rattle.client.specs.declared.reply_head.ReplyHead.{ReplyHead}
@@ -16,6 +16,10 @@ BeginsWithNoHead bytes = (h : ResponseHead) (rest : List ℕ) → ReadsResponse 
 abbrev pub SaysNothing : List ℕ → Type 0
 SaysNothing bytes = (r : Replied) → Says bytes r → ⊥
 
+-- the bytes begin with a head within the limits, which states a body longer than this
+abbrev pub StatesLonger : ℕ → List ℕ → Type 0
+StatesLonger most bytes = (h : ResponseHead) × (rest : List ℕ) × (n : ℕ) × ReadsResponse bytes h rest × IsWithinLimits h × HasLength h n × (most < n)
+
 -- the transfer codings, and the length, that fields state
 abbrev pub codings_in : List Field → List (List ℕ)
 codings_in fields = values_of (codes "transfer-encoding") fields
@@ -23,22 +27,22 @@ codings_in fields = values_of (codes "transfer-encoding") fields
 abbrev pub stated_in : List Field → Option (Option ℕ)
 stated_in fields = length_in (values_of (codes "content-length") fields)
 
--- a stated length says how the end of a body is known
-abbrev pub IsFramedByLength : Option (Option ℕ) → Framing → Type 0
-IsFramedByLength stated (framing.Length n) = stated ≡ Some (Some n)
-IsFramedByLength stated framing.TooLong = (n : ℕ) × (stated ≡ Some (Some n)) × (2 ^ 59 < n)
-IsFramedByLength stated framing.Chunked = ⊥
-IsFramedByLength stated framing.Other = (n : ℕ) → stated ≡ Some (Some n) → ⊥
+-- a stated length says how the end of a body is known, of which so many bytes are read at most
+abbrev pub IsFramedByLength : ℕ → Option (Option ℕ) → Framing → Type 0
+IsFramedByLength most stated (framing.Length n) = (stated ≡ Some (Some n)) × (n ≤ most)
+IsFramedByLength most stated framing.TooLong = (n : ℕ) × (stated ≡ Some (Some n)) × (most < n)
+IsFramedByLength most stated framing.Chunked = ⊥
+IsFramedByLength most stated framing.Other = (n : ℕ) → stated ≡ Some (Some n) → ⊥
 
 -- no transfer coding and a length, or the coding in chunks alone; anything else is another way
-abbrev pub IsFramed : List Field → Framing → Type 0
-IsFramed fields (framing.Length n) = (codings_in fields ≡ []) × (stated_in fields ≡ Some (Some n))
-IsFramed fields framing.TooLong = (codings_in fields ≡ []) × ((n : ℕ) × (stated_in fields ≡ Some (Some n)) × (2 ^ 59 < n))
-IsFramed fields framing.Chunked = (coding : List ℕ) × (codings_in fields ≡ coding ∷ []) × (str_eq_ignore_ascii_case coding (codes "chunked") ≡ true)
-IsFramed fields framing.Other =
+abbrev pub IsFramed : ℕ → List Field → Framing → Type 0
+IsFramed most fields (framing.Length n) = (codings_in fields ≡ []) × (stated_in fields ≡ Some (Some n)) × (n ≤ most)
+IsFramed most fields framing.TooLong = (codings_in fields ≡ []) × ((n : ℕ) × (stated_in fields ≡ Some (Some n)) × (most < n))
+IsFramed most fields framing.Chunked = (coding : List ℕ) × (codings_in fields ≡ coding ∷ []) × (str_eq_ignore_ascii_case coding (codes "chunked") ≡ true)
+IsFramed most fields framing.Other =
     ((n : ℕ) → codings_in fields ≡ [] → stated_in fields ≡ Some (Some n) → ⊥)
     × ((coding : List ℕ) → codings_in fields ≡ coding ∷ [] → str_eq_ignore_ascii_case coding (codes "chunked") ≡ true → ⊥)
 
--- what counts of a head
-abbrev pub IsHeadOf : ResponseHead → ReplyHead → Type 0
-IsHeadOf h r = (status_code h ≡ r.code) × IsFramed (fields_of h) r.framing
+-- what counts of a head, where so many bytes of a body are read at most
+abbrev pub IsHeadOf : ℕ → ResponseHead → ReplyHead → Type 0
+IsHeadOf most h r = (status_code h ≡ r.code) × IsFramed most (fields_of h) r.framing

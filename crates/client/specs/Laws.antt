@@ -3,7 +3,7 @@ use Rattle.std.specs.Prelude.{◌≡◌, ◌<◌, ℕ, List, ◌++◌, length}
 use Rattle.connections.specs.Replies.{response_text}
 use Rattle.exchanges.specs.Answers.{Replied}
 use Rattle.exchanges.specs.Laws.{IsReply}
-use Rattle.client.specs.Replies.{SaysWhole, SaysNoReply}
+use Rattle.client.specs.Replies.{SaysWhole, SaysNoReply, IsLonger}
 
 -- bytes begin with at most one whole reply, however the end of its body is known
 abbrev pub OneWholeReplyIsSaid : Type 0
@@ -18,3 +18,7 @@ WrittenRepliesAreWhole =
 -- cut anywhere, it begins with none
 abbrev pub CutRepliesAreNotWhole : Type 0
 CutRepliesAreNotWhole = (r : Replied) (bytes more : List ℕ) → IsReply r → response_text r.code r.body ≡ bytes ++ more → 0 < length more → SaysNoReply bytes
+
+-- bytes that are longer than a limit say no reply that is within it
+abbrev pub LongerRepliesAreBeyond : Type 0
+LongerRepliesAreBeyond = (most : ℕ) (bytes : List ℕ) (r : Replied) → IsLonger most bytes → SaysWhole bytes r → most < length r.body

@@ -5,7 +5,7 @@ use Rattle.httparse.specs.declared.spans.HeaderSpan.{HeaderSpan}
 use Rattle.httparse.specs.declared.spans.ResponseSpans.{ResponseSpans}
 use Rattle.httparse.specs.Grammar.{ResponseHead, IsResponseHead, print_response}
 use Rattle.httparse.specs.Spans.{IsResponseAt, IsResponseWithin}
-use Rattle.exchanges.specs.Answers.{IsWithinLimits}
+use Rattle.exchanges.specs.Answers.{IsWithinLimits, HasLength}
 use Rattle.client.specs.declared.fault.ReplyFault.{ReplyFault}
 use Rattle.client.specs.declared.fault.ReplyFault.TheVariants as fault
 
@@ -23,6 +23,7 @@ abbrev pub IsWatched : {A : Type 0} → Bool → Result A ReplyFault → Type 0
 IsWatched failed (Ok a) = failed ≡ false
 IsWatched failed (Err fault.Device) = failed ≡ true
 IsWatched failed (Err fault.NotAReply) = failed ≡ false
+IsWatched failed (Err fault.TooLong) = failed ≡ false
 IsWatched failed (Err fault.OutOfMemory) = failed ≡ false
 
 -- these are the bytes from before and what was consumed
@@ -40,3 +41,7 @@ IsFound bytes spans found = HasFound bytes spans found × ((h : ResponseHead) �
 -- this head, which is within the limits, was read, and nothing beyond it
 abbrev pub ReadsHead : Option (List ℕ) → Option (List ℕ) → ResponseHead → Type 0
 ReadsHead before after h = IsResponseHead h × IsWithinLimits h × Consumes before after (print_response h)
+
+-- the head was read, and nothing of its body, of which it states that it is longer than this
+abbrev pub ReadsLongerHead : ℕ → Option (List ℕ) → Option (List ℕ) → Type 0
+ReadsLongerHead most before after = (h : ResponseHead) × (n : ℕ) × ReadsHead before after h × HasLength h n × (most < n)

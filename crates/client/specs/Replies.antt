@@ -1,10 +1,11 @@
 -- Replies that a client has read.
-use Rattle.std.specs.Prelude.{◌≡◌, ◌⊎◌, ℕ, List, length, Option}
+use Rattle.std.specs.Prelude.{◌≡◌, ◌⊎◌, ◌<◌, ℕ, List, length, Option}
 use Rattle.std.specs.Io.KnownBytes.{Consumes}
 use Rattle.httparse.specs.Grammar.{ResponseHead, ReadsResponse, status_code}
 use Rattle.chunked.specs.Bodies.{IsBodyWithin, joined}
 use Rattle.chunked.specs.Reading.{longest_line}
 use Rattle.exchanges.specs.Answers.{Replied, Says, IsWithinLimits, HasLength, IsChunked}
+use Rattle.client.specs.Heads.{StatesLonger}
 use Rattle.client.specs.declared.reply.Reply.{Reply}
 
 -- a reply, in the words of exchanges
@@ -36,3 +37,13 @@ SaysWhole bytes r = Says bytes r ⊎ SaysInChunks bytes r
 -- they begin with none
 abbrev pub SaysNoReply : List ℕ → Type 0
 SaysNoReply bytes = (r : Replied) → SaysWhole bytes r → ⊥
+
+-- the bytes begin with no body in chunks but longer ones
+abbrev pub IsBodyLonger : ℕ → List ℕ → Type 0
+IsBodyLonger most bytes = (chunks : List (List ℕ)) (rest : List ℕ) → IsBodyWithin longest_line chunks bytes rest → most < length (joined chunks)
+
+-- the bytes begin with a head within the limits, and the body that it states, or that comes in chunks, is longer than this
+abbrev pub IsLonger : ℕ → List ℕ → Type 0
+IsLonger most bytes =
+    StatesLonger most bytes
+    ⊎ ((h : ResponseHead) × (body : List ℕ) × ReadsResponse bytes h body × IsWithinLimits h × IsChunked h × IsBodyLonger most body)

@@ -27,6 +27,7 @@ fn read_piece<R: Read + Drop>(
     ensures end { IfOk result (λ some. some ≡ false → (body.new.items ≡ body.old.items) × IsAtEnd (R.remaining (device_of reader.new))) }
     ensures watched { IsWatched (has_failed reader.new) result }
     ensures fault { IfErr result (λ f. f ≡ fault.NotAReply → ⊥) }
+    ensures room { IfErr result (λ f. f ≡ fault.TooLong → ⊥) }
 {
     let room = PIECE.min(most);
     body.reserve(room)?;
@@ -51,6 +52,7 @@ pub(crate) fn read_body<R: Read + Drop>(
     ensures read { IfOk result (λ body. Consumes (R.remaining (device_of reader.old)) (R.remaining (device_of reader.new)) body.items) }
     ensures whole { IfOk result (λ body. length body.items ≡ size) }
     ensures short { IfErr result (λ f. f ≡ fault.NotAReply → IfKnown (R.remaining (device_of reader.old)) (IsShorterThan size)) }
+    ensures room { IfErr result (λ f. f ≡ fault.TooLong → ⊥) }
     ensures watched { IsWatched (has_failed reader.new) result }
 {
     let mut body = Vec::new(alloc);

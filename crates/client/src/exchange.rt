@@ -17,32 +17,34 @@ fn send_and_read<R: Read + Drop, W: Write + Drop>(
     text: &[u8],
     reader: Watched<R>,
     writer: &mut Watched<W>,
+    most: u32,
 ) -> Answer
     requires { has_failed writer.old ≡ false }
-    ensures { IsExchanged W.contents text.now (R.remaining (device_of reader)) writer.old writer.new result }
+    ensures { IsExchanged W.contents text.now most (R.remaining (device_of reader)) writer.old writer.new result }
 {
     match writer.send(text) {
         Ok(()) => {}
         Err(_) => return Answer::Lost,
     }
-    match read_whole(alloc, reader) {
+    match read_whole(alloc, reader, most) {
         Ok(reply) => Answer::Replied(reply),
         Err(_) => Answer::Lost,
     }
 }
 
-/// Writes a request and reads its reply, whose body has a stated length or comes in chunks.
+/// Writes a request and reads its reply, whose body has a stated length or comes in chunks, of so many bytes at most.
 ///
 /// It is not sent where the stream had failed before, or memory runs out before the first byte is written: then nothing was written.
 /// It is lost where the writer fails, which has written a beginning of the request then; or all of it was written, and no whole reply
-/// comes, or memory runs out.
+/// comes, as where its body is longer, or memory runs out.
 pub fn call<R: Read + Drop, W: Write + Drop>(
     alloc: Global,
     request: Outgoing<'_>,
     reader: Watched<R>,
     writer: &mut Watched<W>,
+    most: u32,
 ) -> Answer
-    ensures answered { IsAnswered W.contents (text_of request.entry) (R.remaining (device_of reader)) writer.old writer.new result }
+    ensures answered { IsAnswered W.contents (text_of request.entry) most (R.remaining (device_of reader)) writer.old writer.new result }
     ensures reader { has_failed reader ≡ true → result ≡ NotSent }
     ensures writer { has_failed writer.old ≡ true → result ≡ NotSent }
 {
@@ -50,7 +52,7 @@ pub fn call<R: Read + Drop, W: Write + Drop>(
         return Answer::NotSent;
     }
     match text_of(alloc, request) {
-        Ok(text) => send_and_read(alloc, &text, reader, writer),
+        Ok(text) => send_and_read(alloc, &text, reader, writer, most),
         Err(_) => Answer::NotSent,
     }
 }

@@ -11,6 +11,9 @@ pub enum ReplyFault {
     /// What the peer sent is no whole reply, with a head within the limits.
     #[error("no whole reply")]
     NotAReply,
+    /// Its body is longer than the limit, as its head states or as what has come is.
+    #[error("the body is longer than the limit")]
+    TooLong,
     /// Out of memory.
     #[error("out of memory")]
     OutOfMemory,

@@ -7,15 +7,12 @@ ghost use Rattle.client.specs.Heads.{IsFramed, IsFramedByLength};
 use request_heads::body_length::{is_number, number_of};
 use request_heads::field::{Field, count, first_value};
 
-/// The greatest length of a body that is read: more than memory has room for.
-const LONGEST_BODY: usize = 576_460_752_303_423_488;
-
 /// How the end of a reply's body is known (RFC 9112, Message Body Length).
 #[derive(Debug, Clone, Copy, PartialEq, Eq)]
 pub enum Framing {
     /// By its length, in bytes.
     Length(usize),
-    /// By its length, which is more than memory has room for.
+    /// By its length, which is more than the limit.
     TooLong,
     /// By its last chunk.
     Chunked,
@@ -23,22 +20,22 @@ pub enum Framing {
     Other,
 }
 
-/// Returns how the end of a body is known whose length is this text.
-fn framing_by_length(text: &[u8]) -> Framing
-    ensures { IsFramedByLength (one_number text.now) result }
+/// Returns how the end of a body is known whose length is this text, where so many bytes are read at most.
+fn framing_by_length(text: &[u8], most: u32) -> Framing
+    ensures { IsFramedByLength most (one_number text.now) result }
 {
     if !is_number(text) {
         return Framing::Other;
     }
-    match number_of(text, LONGEST_BODY) {
+    match number_of(text, most as usize) {
         Some(length) => Framing::Length(length),
         None => Framing::TooLong,
     }
 }
 
-/// Returns how the end of a body is known by the fields of its head.
-pub fn framing_of(fields: &[Field<'_>]) -> Framing
-    ensures { IsFramed (map field_seen fields.now) result }
+/// Returns how the end of a body is known by the fields of its head, where so many bytes are read at most.
+pub fn framing_of(fields: &[Field<'_>], most: u32) -> Framing
+    ensures { IsFramed most (map field_seen fields.now) result }
 {
     match first_value(fields, b"transfer-encoding") {
         Some(coding) => {
@@ -55,7 +52,7 @@ pub fn framing_of(fields: &[Field<'_>]) -> Framing
                 if count(fields, b"content-length") != 1 {
                     Framing::Other
                 } else {
-                    framing_by_length(text)
+                    framing_by_length(text, most)
                 }
             }
             None => Framing::Other,

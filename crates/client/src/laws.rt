@@ -1,5 +1,5 @@
 //! What follows for a client and a server that speak with one another.
-ghost use Rattle.client.specs.Laws.{CutRepliesAreNotWhole, OneWholeReplyIsSaid, WrittenRepliesAreWhole};
+ghost use Rattle.client.specs.Laws.{CutRepliesAreNotWhole, LongerRepliesAreBeyond, OneWholeReplyIsSaid, WrittenRepliesAreWhole};
 
 /// The bytes of an answer begin with at most one whole reply, however the end of its body is known.
 pub fn one_whole_reply_is_said()
@@ -14,4 +14,9 @@ pub fn written_replies_are_whole()
 /// A reply that is cut anywhere is read as none.
 pub fn cut_replies_are_not_whole()
     ensures { CutRepliesAreNotWhole }
+{}
+
+/// Bytes that are refused as longer than a limit say no reply that is within it.
+pub fn longer_replies_are_beyond()
+    ensures { LongerRepliesAreBeyond }
 {}

@@ -1,7 +1,7 @@
 //! Watches, opened.
 ghost use Rattle.std.specs.Prelude.{◌≡◌, IfOk, IfErr, true, Err};
 ghost use Rattle.chunked.specs.Devices.{device_of, has_failed};
-ghost use Rattle.client.specs.Reading.{IsWatched, IfKnown};
+ghost use Rattle.client.specs.Reading.{IsWatched, IfKnown, ReadsLongerHead};
 ghost use Rattle.client.specs.Watches.{IsOpening, OpensNothing};
 ghost use Rattle.client.specs.declared.fault.ReplyFault.TheVariants as fault;
 
@@ -42,14 +42,18 @@ fn refused_with(code: u16) -> Opening
     }
 }
 
-/// Reads what a server says to who asked for a watch: the head of an open watch, and nothing beyond it; or a whole reply.
+/// Reads what a server says to who asked for a watch: the head of an open watch, and nothing beyond it; or a whole reply, with a body of so
+/// many bytes at most.
 ///
-/// The error is the reader's, where a call of it fails, or had failed before; or that what the peer sent is neither; or out of memory.
+/// The error is the reader's, where a call of it fails, or had failed before; or that what the peer sent is neither; or that the reply's body
+/// is longer, of which nothing is read then; or out of memory.
 pub fn open_watch<R: Read + Drop>(
     alloc: Global,
     reader: &mut Watched<R>,
+    most: u32,
 ) -> Result<Opening, ReplyFault>
     ensures opening { IfOk result (IsOpening (R.remaining (device_of reader.old)) (R.remaining (device_of reader.new))) }
+    ensures long { IfErr result (λ f. f ≡ fault.TooLong → ReadsLongerHead most (R.remaining (device_of reader.old)) (R.remaining (device_of reader.new))) }
     ensures none { IfErr result (λ f. f ≡ fault.NotAReply → IfKnown (R.remaining (device_of reader.old)) OpensNothing) }
     ensures watched { IsWatched (has_failed reader.new) result }
     ensures again { has_failed reader.old ≡ true → (result ≡ Err fault.Device) × (reader.new ≡ reader.old) }
@@ -57,7 +61,7 @@ pub fn open_watch<R: Read + Drop>(
     if reader.has_failed() {
         return Err(ReplyFault::Device);
     }
-    let head = match read_head(alloc, reader) {
+    let head = match read_head(alloc, reader, most) {
         Ok(head) => head,
         Err(fault) => return Err(fault),
     };
@@ -66,7 +70,7 @@ pub fn open_watch<R: Read + Drop>(
             Ok(_body) => Ok(refused_with(head.code)),
             Err(fault) => Err(fault),
         },
-        Framing::TooLong => Err(ReplyFault::OutOfMemory),
+        Framing::TooLong => Err(ReplyFault::TooLong),
         Framing::Chunked => {
             if head.code == OK {
                 Ok(Opening::Open)

@@ -61,6 +61,7 @@ pub(crate) fn find_head<R: Read + Drop>(
     requires empty { bytes.old.items ≡ [] }
     ensures found { IfOk result (IsFound bytes.new.items fields.new) }
     ensures read { OnOk result (Consumes (R.remaining (device_of reader.old)) (R.remaining (device_of reader.new)) bytes.new.items) }
+    ensures room { IfErr result (λ f. f ≡ fault.TooLong → ⊥) }
     ensures none { IfErr result (λ f. f ≡ fault.NotAReply → IfKnown (R.remaining (device_of reader.old)) BeginsWithNoHead) }
     ensures watched { IsWatched (has_failed reader.new) result }
 {

@@ -32,25 +32,28 @@ fn head_of(
     bytes: &[u8],
     found: ResponseSpans,
     spans: &[HeaderSpan],
+    most: u32,
 ) -> Result<ReplyHead, AllocError>
     requires { IsFound bytes.now spans.now found }
-    ensures { IfOk result (λ r. (h : ResponseHead) → IsResponseAt bytes.now spans.now found h → IsHeadOf h r) }
+    ensures { IfOk result (λ r. (h : ResponseHead) → IsResponseAt bytes.now spans.now found h → IsHeadOf most h r) }
 {
     let fields = fields_of(alloc, bytes, &spans[..found.headers])?;
     Ok(ReplyHead {
         code: found.code,
-        framing: framing_of(&fields),
+        framing: framing_of(&fields, most),
     })
 }
 
-/// Reads the head of a reply, and nothing beyond it, within 16,384 bytes and 64 fields. The reader is read byte by byte: give one that is
-/// buffered.
+/// Reads the head of a reply, and nothing beyond it, within 16,384 bytes and 64 fields, and says whether its body is longer than so many
+/// bytes. The reader is read byte by byte: give one that is buffered.
 pub fn read_head<R: Read + Drop>(
     alloc: Global,
     reader: &mut Watched<R>,
+    most: u32,
 ) -> Result<ReplyHead, ReplyFault>
     requires { has_failed reader.old ≡ false }
-    ensures read { IfOk result (λ r. (h : ResponseHead) × ReadsHead (R.remaining (device_of reader.old)) (R.remaining (device_of reader.new)) h × IsHeadOf h r) }
+    ensures read { IfOk result (λ r. (h : ResponseHead) × ReadsHead (R.remaining (device_of reader.old)) (R.remaining (device_of reader.new)) h × IsHeadOf most h r) }
+    ensures room { IfErr result (λ f. f ≡ fault.TooLong → ⊥) }
     ensures none { IfErr result (λ f. f ≡ fault.NotAReply → IfKnown (R.remaining (device_of reader.old)) BeginsWithNoHead) }
     ensures watched { IsWatched (has_failed reader.new) result }
 {
@@ -58,7 +61,7 @@ pub fn read_head<R: Read + Drop>(
     let mut spans = [EMPTY_HEADER_SPAN; MOST_FIELDS];
     match find_head(reader, &mut bytes, &mut spans) {
         Ok(found) => {
-            let head = head_of(alloc, &bytes, found, &spans)?;
+            let head = head_of(alloc, &bytes, found, &spans, most)?;
             Ok(head)
         }
         Err(fault) => Err(fault),

@@ -1,8 +1,8 @@
 //! Replies, read whole, however the end of their bodies is known.
-ghost use Rattle.std.specs.Prelude.{◌≡◌, IfOk, IfErr, true, false, Err};
+ghost use Rattle.std.specs.Prelude.{◌≡◌, ◌≤◌, IfOk, IfErr, vec_len, true, false, Err};
 ghost use Rattle.chunked.specs.Devices.{device_of, has_failed};
-ghost use Rattle.client.specs.Bodies.{ReadsBody, HasNoBody};
-ghost use Rattle.client.specs.Replies.{replied, SaysWhole, SaysNoReply};
+ghost use Rattle.client.specs.Bodies.{ReadsBody, HasNoBody, HasLongBody, IsStatedWithin};
+ghost use Rattle.client.specs.Replies.{replied, SaysWhole, SaysNoReply, IsLonger};
 ghost use Rattle.client.specs.Reading.{IfKnown};
 ghost use Rattle.client.specs.declared.fault.ReplyFault.TheVariants as fault;
 ghost use Rattle.client.specs.declared.framing.Framing.TheVariants as framing;
@@ -25,6 +25,8 @@ fn body_of_length<R: Read + Drop>(
 ) -> Result<Vec<u8>, ReplyFault>
     requires { has_failed reader ≡ false }
     ensures read { IfOk result (λ body. ReadsBody (framing.Length size) (R.remaining (device_of reader)) body.items) }
+    ensures whole { IfOk result (λ body. vec_len body ≡ size) }
+    ensures room { IfErr result (λ f. f ≡ fault.TooLong → ⊥) }
     ensures none { IfErr result (λ f. f ≡ fault.NotAReply → HasNoBody (framing.Length size) (R.remaining (device_of reader))) }
 {
     let mut reader = reader;
@@ -34,44 +36,62 @@ fn body_of_length<R: Read + Drop>(
     }
 }
 
-/// Reads a body in chunks.
-fn body_in_chunks<R: Read + Drop>(alloc: Global, reader: Watched<R>) -> Result<Vec<u8>, ReplyFault>
+/// Reads a body in chunks, of so many bytes at most.
+fn body_in_chunks<R: Read + Drop>(
+    alloc: Global,
+    reader: Watched<R>,
+    most: u32,
+) -> Result<Vec<u8>, ReplyFault>
     requires { has_failed reader ≡ false }
     ensures read { IfOk result (λ body. ReadsBody framing.Chunked (R.remaining (device_of reader)) body.items) }
+    ensures within { IfOk result (λ body. vec_len body ≤ most) }
+    ensures long { IfErr result (λ f. f ≡ fault.TooLong → HasLongBody most framing.Chunked (R.remaining (device_of reader))) }
     ensures none { IfErr result (λ f. f ≡ fault.NotAReply → HasNoBody framing.Chunked (R.remaining (device_of reader))) }
 {
     let mut chunks = Reader::new(reader);
-    match read_chunks(alloc, &mut chunks) {
+    match read_chunks(alloc, &mut chunks, most) {
         Ok(body) => Ok(body),
         Err(fault) => Err(fault),
     }
 }
 
-/// Reads a body whose end is known in this way.
+/// Reads a body whose end is known in this way, of so many bytes at most.
 fn body_framed<R: Read + Drop>(
     alloc: Global,
     reader: Watched<R>,
     framing: Framing,
+    most: u32,
 ) -> Result<Vec<u8>, ReplyFault>
-    requires { has_failed reader ≡ false }
+    requires sound { has_failed reader ≡ false }
+    requires stated { IsStatedWithin most framing }
     ensures read { IfOk result (λ body. ReadsBody framing (R.remaining (device_of reader)) body.items) }
+    ensures within { IfOk result (λ body. vec_len body ≤ most) }
+    ensures long { IfErr result (λ f. f ≡ fault.TooLong → HasLongBody most framing (R.remaining (device_of reader))) }
     ensures none { IfErr result (λ f. f ≡ fault.NotAReply → HasNoBody framing (R.remaining (device_of reader))) }
 {
     match framing {
         Framing::Length(size) => body_of_length(alloc, reader, size),
-        Framing::TooLong => Err(ReplyFault::OutOfMemory),
-        Framing::Chunked => body_in_chunks(alloc, reader),
+        Framing::TooLong => Err(ReplyFault::TooLong),
+        Framing::Chunked => body_in_chunks(alloc, reader, most),
         Framing::Other => Err(ReplyFault::NotAReply),
     }
 }
 
-/// Reads a reply: a head within 16,384 bytes and 64 fields, and a body of the length that it states, or in chunks. The reader is read
-/// byte by byte where the head and the lines of chunks are: give one that is buffered.
+/// Reads a reply: a head within 16,384 bytes and 64 fields, and a body of the length that it states, or in chunks, of so many bytes at
+/// most. The reader is read byte by byte where the head and the lines of chunks are: give one that is buffered. Memory is taken as
+/// bytes come, whatever the head states.
 ///
 /// The error is the reader's, where a call of it fails, or had failed before; or that what the peer sent is no whole reply, as where it
-/// ends within the body; or out of memory.
-pub fn read_whole<R: Read + Drop>(alloc: Global, reader: Watched<R>) -> Result<Reply, ReplyFault>
+/// ends within the body; or that the body is longer, of which nothing is read where its head states that, and at most a piece beyond the
+/// limit where it comes in chunks; or out of memory.
+pub fn read_whole<R: Read + Drop>(
+    alloc: Global,
+    reader: Watched<R>,
+    most: u32,
+) -> Result<Reply, ReplyFault>
     ensures says { IfOk result (λ r. IfKnown (R.remaining (device_of reader)) (λ bytes. SaysWhole bytes (replied r))) }
+    ensures within { IfOk result (λ r. vec_len r.body ≤ most) }
+    ensures long { IfErr result (λ f. f ≡ fault.TooLong → IfKnown (R.remaining (device_of reader)) (IsLonger most)) }
     ensures none { IfErr result (λ f. f ≡ fault.NotAReply → IfKnown (R.remaining (device_of reader)) SaysNoReply) }
     ensures again { has_failed reader ≡ true → result ≡ Err fault.Device }
 {
@@ -79,11 +99,11 @@ pub fn read_whole<R: Read + Drop>(alloc: Global, reader: Watched<R>) -> Result<R
     if reader.has_failed() {
         return Err(ReplyFault::Device);
     }
-    let head = match read_head(alloc, &mut reader) {
+    let head = match read_head(alloc, &mut reader, most) {
         Ok(head) => head,
         Err(fault) => return Err(fault),
     };
-    match body_framed(alloc, reader, head.framing) {
+    match body_framed(alloc, reader, head.framing, most) {
         Ok(body) => Ok(Reply {
             code: head.code,
             body,

@@ -1,6 +1,6 @@
 //! Requests written to writers that fail or are interrupted, and replies that are cut, of whose bytes no contract speaks.
 use chunked::Watched;
-use client::{Answer, Outgoing, call};
+use client::{Answer, LARGEST_BODY, Outgoing, call};
 use std::alloc::Global;
 use std::io::ErrorKind;
 use test_devices::{Sink, Source};
@@ -32,7 +32,7 @@ fn create(alloc: Global, reply: &[u8], bad: u64, kind: ErrorKind) -> (&'static s
     };
     let source = Watched::new(Source::new(reply, 3));
     let mut writer = Watched::new(sink);
-    let word = match call(alloc, request, source, &mut writer) {
+    let word = match call(alloc, request, source, &mut writer, LARGEST_BODY) {
         Answer::Replied(reply) if reply.code == 201 => "created",
         Answer::Replied(_) => "another reply",
         Answer::NotSent => "not sent",

@@ -1,6 +1,6 @@
 //! Replies over readers of whose bytes no contract speaks.
 use chunked::Watched;
-use client::{ReplyFault, read_reply, read_whole};
+use client::{LARGEST_BODY, ReplyFault, read_reply, read_whole};
 use std::alloc::Global;
 use std::io::ErrorKind;
 use test_devices::Source;
@@ -16,18 +16,22 @@ const REST: usize = 5;
 const LIST: &[u8] =
     b"HTTP/1.1 200 OK\r\nContent-Type: application/json\r\nTransfer-Encoding: chunked\r\n\r\n4\r\n{\"it\r\n9\r\nems\":[]}\n\r\n0\r\n\r\n";
 
-/// Heads that state two lengths, a length which no memory has room for, and more than comes; and the fault of each.
-const LENGTHS: [(&[u8], ReplyFault); 3] = [
+/// Heads that state two lengths, a length which no memory has room for, one beyond the limit, and more than comes; and the fault of each.
+const LENGTHS: [(&[u8], ReplyFault); 4] = [
     (
         b"HTTP/1.1 200 OK\r\nContent-Length: 1\r\nContent-Length: 1\r\n\r\na",
         ReplyFault::NotAReply,
     ),
     (
         b"HTTP/1.1 200 OK\r\nContent-Length: 99999999999999999999999999\r\n\r\na",
-        ReplyFault::OutOfMemory,
+        ReplyFault::TooLong,
     ),
     (
-        b"HTTP/1.1 200 OK\r\nContent-Length: 1099511627776\r\n\r\na",
+        b"HTTP/1.1 200 OK\r\nContent-Length: 67108865\r\n\r\na",
+        ReplyFault::TooLong,
+    ),
+    (
+        b"HTTP/1.1 200 OK\r\nContent-Length: 67108864\r\n\r\na",
         ReplyFault::NotAReply,
     ),
 ];
@@ -35,14 +39,19 @@ const LENGTHS: [(&[u8], ReplyFault); 3] = [
 /// Returns the code and the length of the body of the reply that a source gives, and how many bytes are left.
 fn reply(alloc: Global, source: Source<'_>) -> Result<(u16, usize, usize), ReplyFault> {
     let mut reader = Watched::new(source);
-    let reply = read_reply(alloc, &mut reader)?;
+    let reply = read_reply(alloc, &mut reader, LARGEST_BODY)?;
     Ok((reply.code, reply.body.len(), reader.into_inner().left.len()))
 }
 
-/// Returns the code and the length of the body of the reply that a source gives, in chunks or not.
-fn whole(alloc: Global, source: Source<'_>) -> Result<(u16, usize), ReplyFault> {
-    let reply = read_whole(alloc, Watched::new(source))?;
+/// Returns the code and the length of the body of the reply that a source gives, in chunks or not, of so many bytes at most.
+fn within(alloc: Global, source: Source<'_>, most: u32) -> Result<(u16, usize), ReplyFault> {
+    let reply = read_whole(alloc, Watched::new(source), most)?;
     Ok((reply.code, reply.body.len()))
+}
+
+/// The same with the usual limit.
+fn whole(alloc: Global, source: Source<'_>) -> Result<(u16, usize), ReplyFault> {
+    within(alloc, source, LARGEST_BODY)
 }
 
 /// Returns the first size of the pieces in which the refusal or the list is not read.
@@ -96,6 +105,27 @@ fn first_believed(alloc: Global) -> Option<usize> {
 #[test]
 fn lengths_are_not_believed(rt: HostRuntime) {
     assert_eq!(rt; first_believed(rt.alloc()), None);
+}
+
+/// Returns the first limit at which the refusal, whose body has 16 bytes, or the list, whose body has 13, is not refused or read as it has to
+/// be.
+fn first_beyond(alloc: Global) -> Option<u32> {
+    let long = Err(ReplyFault::TooLong);
+    for most in 0..20 {
+        let refusal = if most < 16 { long } else { Ok((404, 16)) };
+        let list = if most < 13 { long } else { Ok((200, 13)) };
+        let is_kept = within(alloc, Source::new(REFUSAL, 7), most) == refusal
+            && within(alloc, Source::new(LIST, 7), most) == list;
+        if !is_kept {
+            return Some(most);
+        }
+    }
+    None
+}
+
+#[test]
+fn a_longer_body_than_the_limit_is_refused(rt: HostRuntime) {
+    assert_eq!(rt; first_beyond(rt.alloc()), None);
 }
 
 /// Returns what is read of the refusal, a byte a call, from a reader that fails in this way at this call.

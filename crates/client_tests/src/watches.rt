@@ -1,6 +1,6 @@
 //! Watches over readers of whose bytes no contract speaks.
 use chunked::{Reader, Watched};
-use client::{More, Opening, ReplyFault, open_watch, read_more};
+use client::{LARGEST_BODY, More, Opening, ReplyFault, open_watch, read_more};
 use std::alloc::Global;
 use test_devices::Source;
 
@@ -19,7 +19,11 @@ const GONE: &[u8] = b"HTTP/1.1 410 Gone\r\nContent-Length: 2\r\n\r\n{}";
 
 /// Opens the watch of a source.
 fn opening(alloc: Global, text: &[u8], most: usize) -> Result<Opening, ReplyFault> {
-    open_watch(alloc, &mut Watched::new(Source::new(text, most)))
+    open_watch(
+        alloc,
+        &mut Watched::new(Source::new(text, most)),
+        LARGEST_BODY,
+    )
 }
 
 /// Opens the watch of a source, and reads it to its end or cut, or to what is none of its frames. Returns how that ended, and how much of
@@ -27,7 +31,7 @@ fn opening(alloc: Global, text: &[u8], most: usize) -> Result<Opening, ReplyFaul
 fn watched(alloc: Global, source: Source<'_>) -> (More, usize) {
     let mut reader = Watched::new(source);
     let mut left = FRAMES;
-    if open_watch(alloc, &mut reader) != Ok(Opening::Open) {
+    if open_watch(alloc, &mut reader, LARGEST_BODY) != Ok(Opening::Open) {
         return (More::Cut, left.len());
     }
     let mut watch = Reader::new(reader);
@@ -74,7 +78,7 @@ fn a_watch_that_is_cut_has_no_end(rt: HostRuntime) {
 }
 
 /// Replies to who asks for a watch, and what they come to.
-const REFUSALS: [(&[u8], Result<Opening, ReplyFault>); 4] = [
+const REFUSALS: [(&[u8], Result<Opening, ReplyFault>); 5] = [
     (GONE, Ok(Opening::Expired)),
     (
         b"HTTP/1.1 504 Gateway Timeout\r\nContent-Length: 2\r\n\r\n{}",
@@ -83,6 +87,10 @@ const REFUSALS: [(&[u8], Result<Opening, ReplyFault>); 4] = [
     (
         b"HTTP/1.1 410 Gone\r\nContent-Length: 2\r\n\r\n",
         Err(ReplyFault::NotAReply),
+    ),
+    (
+        b"HTTP/1.1 410 Gone\r\nContent-Length: 67108865\r\n\r\n{}",
+        Err(ReplyFault::TooLong),
     ),
     (b"", Err(ReplyFault::NotAReply)),
 ];

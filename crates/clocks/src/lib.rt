@@ -1,5 +1,8 @@
-//! The moment that a clock shows, to the second.
+//! The moment that a clock shows, to the second, and how long a clock went on.
 #![tactic(auto)]
+
+pub mod laws;
+pub mod stopwatch;
 
 ghost use Rattle.std.specs.Prelude.{◌≡◌, IfSome, None};
 ghost use Rattle.jiff_core.specs.Timestamp.{IsTimestampNanos, nanos_of_seconds};

@@ -7,8 +7,8 @@ use definitions::refusals::Part;
 use keys::Fault;
 use line_service::RunFault;
 use line_service::run_loop::{make_ready, send, unread, without_newline};
-use remote::Connect;
 use remote::outgoing::{media_type, method_text};
+use remote::{Connect, Limits};
 use requests::line::{Line, read_line};
 use std::alloc::{AllocError, Global};
 use std::io::{BufRead, Write};
@@ -18,8 +18,8 @@ fn want(_: AllocError) -> RunFault {
     RunFault::Want
 }
 
-/// Returns the reply lines of a request that is asked over a connection of its own. The error is that no whole reply came, or running out of
-/// memory.
+/// Returns the reply lines of a request that is asked over a connection of its own, with a body as long as one of a list. The error is that no
+/// whole reply came, or running out of memory.
 fn ask<C: Connect>(
     alloc: Global,
     connector: &mut C,
@@ -42,6 +42,7 @@ fn ask<C: Connect>(
         request,
         Watched::new(reader),
         &mut Watched::new(writer),
+        Limits::USUAL.list,
     ) {
         Answer::Replied(reply) => reply_lines(alloc, &reply).map_err(want),
         Answer::NotSent | Answer::Lost => Err(RunFault::Read),

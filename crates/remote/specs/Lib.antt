@@ -2,4 +2,5 @@
 pub mod Targets
 pub mod Outgoing
 pub mod Begun
+pub mod Asked
 pub mod Laws

@@ -1,4 +1,10 @@
 //! A server, as who asks it sees it.
+ghost use Rattle.std.specs.Prelude.{⊤};
+ghost use Rattle.client.specs.declared.answer.Answer as outcome;
+ghost use Rattle.definitions.specs.ObjectRequests as words;
+ghost use Rattle.definitions.specs.declared.kinds.Kind as kinds;
+ghost use Rattle.requests.specs.Requests.{request_of};
+
 use client::{Answer, More};
 use definitions::kinds::Kind;
 use requests::Request;
@@ -19,12 +25,21 @@ pub enum Opened {
 
 /// A server that is asked.
 pub trait Api {
+    /// What a server is after it was asked a request of one object, and what became of the request: any relation, and none where an
+    /// implementer gives none.
+    ghost answers: { Self → words.Request → outcome.Answer → Self → Type 0 } = { λ before request answer after. ⊤ };
+
+    /// The same of a list of a kind.
+    ghost lists: { Self → kinds.Kind → outcome.Answer → Self → Type 0 } = { λ before kind answer after. ⊤ };
+
     /// Asks a request of one object, and returns what became of it. It is not sent where it cannot be told over HTTP
     /// (`request_texts::can_be_told`), or memory runs out before a byte is written.
-    fn call(&mut self, alloc: Global, request: &Request) -> Answer;
+    fn call(&mut self, alloc: Global, request: &Request) -> Answer
+        ensures { answers self.old (request_of request.now) result self.new };
 
     /// Asks for a list of a kind, of all namespaces, and returns what became of it.
-    fn list(&mut self, alloc: Global, kind: Kind) -> Answer;
+    fn list(&mut self, alloc: Global, kind: Kind) -> Answer
+        ensures { lists self.old kind result self.new };
 
     /// Asks for a watch of a kind, of all namespaces, after a revision. A watch that was open is left.
     fn open_watch(&mut self, alloc: Global, kind: Kind, revision: u64) -> Opened;

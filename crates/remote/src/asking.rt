@@ -1,7 +1,12 @@
 //! A server behind connections.
+ghost use Rattle.std.specs.Prelude.{◌≡◌, [], codes};
+ghost use Rattle.exchanges.specs.Requests.{request_text};
+ghost use Rattle.client.specs.Calls.{text_of};
+
 use crate::api::{Api, Opened};
 use crate::beginning::begin_watch;
 use crate::connect::Connect;
+use crate::limits::Limits;
 use crate::outgoing::outgoing;
 use crate::targets::{list_target, watch_target};
 use chunked::{Reader, Watched};
@@ -17,10 +22,13 @@ use std::alloc::Global;
 pub struct Remote<C: Connect + Drop> {
     connector: C,
     watch: Option<Reader<C::Reader>>,
+    limits: Limits,
 }
 
 /// Returns a GET of a target. No host is named but the machine itself: who connects knows where to.
-fn get(target: &str) -> Outgoing<'_> {
+fn get(target: &str) -> Outgoing<'_>
+    ensures { text_of result ≡ request_text (codes "GET") target.now (codes "localhost") (codes "application/json") [] }
+{
     Outgoing {
         method: "GET",
         target,
@@ -31,20 +39,36 @@ fn get(target: &str) -> Outgoing<'_> {
 }
 
 impl<C: Connect + Drop> Remote<C> {
-    /// Returns a server to which this connects, with no watch.
-    pub fn new(connector: C) -> Remote<C> {
+    ghost use Rattle.std.specs.Prelude.{◌≡◌};
+    ghost use Rattle.client.specs.Calls.{text_of};
+    ghost use Rattle.remote.specs.Asked.{IsSent, limits_of};
+
+    /// Returns a server to which this connects, with no watch, and the usual limits.
+    pub fn new(connector: C) -> Remote<C>
+        ensures { limits_of result ≡ Limits.USUAL }
+    {
+        Remote::within(connector, Limits::USUAL)
+    }
+
+    /// Returns a server to which this connects, with no watch, and these limits.
+    pub fn within(connector: C, limits: Limits) -> Remote<C>
+        ensures { limits_of result ≡ limits }
+    {
         Remote {
             connector,
             watch: None,
+            limits,
         }
     }
 
-    /// Writes a request over a new connection, and returns what became of it.
-    fn send(&mut self, alloc: Global, request: Outgoing<'_>) -> Answer {
+    /// Writes a request over a new connection, and returns what became of it, with a body of so many bytes at most.
+    fn send(&mut self, alloc: Global, request: Outgoing<'_>, most: u32) -> Answer
+        ensures { IsSent C.Reader.remaining C.Writer.contents most (text_of request.entry) result }
+    {
         match self.connector.connect() {
             Ok((reader, writer)) => {
                 let mut writer = Watched::new(writer);
-                call(alloc, request, Watched::new(reader), &mut writer)
+                call(alloc, request, Watched::new(reader), &mut writer, most)
             }
             Err(_) => Answer::NotSent,
         }
@@ -58,7 +82,7 @@ impl<C: Connect + Drop> Remote<C> {
         };
         let mut reader = Watched::new(reader);
         let mut writer = Watched::new(writer);
-        let opened = begin_watch(alloc, text, &mut reader, &mut writer);
+        let opened = begin_watch(alloc, text, &mut reader, &mut writer, self.limits.object);
         if opened == Opened::Open {
             self.watch = Some(Reader::new(reader));
         }
@@ -67,19 +91,25 @@ impl<C: Connect + Drop> Remote<C> {
 }
 
 impl<C: Connect + Drop> Api for Remote<C> {
+    ghost use Rattle.remote.specs.Asked.{IsCalled, IsSent, limits_of, list_text};
+
+    ghost answers = { λ before request answer after. IsCalled C.Reader.remaining C.Writer.contents (limits_of before).object request answer };
+
+    ghost lists = { λ before kind answer after. IsSent C.Reader.remaining C.Writer.contents (limits_of before).list (list_text kind) answer };
+
     fn call(&mut self, alloc: Global, request: &Request) -> Answer {
         if !can_be_told(request) {
             return Answer::NotSent;
         }
         match request_text(alloc, request) {
-            Ok(text) => self.send(alloc, outgoing(&text)),
+            Ok(text) => self.send(alloc, outgoing(&text), self.limits.object),
             Err(_) => Answer::NotSent,
         }
     }
 
     fn list(&mut self, alloc: Global, kind: Kind) -> Answer {
         match list_target(alloc, kind) {
-            Ok(target) => self.send(alloc, get(target.as_str())),
+            Ok(target) => self.send(alloc, get(target.as_str()), self.limits.list),
             Err(_) => Answer::NotSent,
         }
     }

@@ -7,9 +7,11 @@ pub mod asking;
 pub mod beginning;
 pub mod connect;
 pub mod laws;
+pub mod limits;
 pub mod outgoing;
 pub mod targets;
 
 pub use api::{Api, Opened};
 pub use asking::Remote;
 pub use connect::Connect;
+pub use limits::Limits;

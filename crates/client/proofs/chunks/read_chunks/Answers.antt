@@ -3,7 +3,7 @@ use Rattle.chunked.specs.Reading.{Reaches, place_of, left_of}
 use Rattle.chunked.specs.declared.place.Place.{Place}
 use Rattle.chunked.specs.declared.place.Place.TheVariants as place
 use Rattle.chunked.proofs.Passing.{reaches_stay}
-use Rattle.client.proofs.WholeBodies.{reaches_more, stopped}
+use Rattle.client.proofs.WholeBodies.{reaches_more, stopped, longer_there}
 use Rattle.client.proofs.chunks.read_chunks.Goals as goal
 
 pub loop-init : goal.loop-init
@@ -37,3 +37,14 @@ loop-preserved g c =
       reaches_more first mid last place.Line (place_of c.loop.chunks) (place_of c.read_piece.new.chunks) c.loop.body.items more.0 c.read_piece.new.body.items c.loop.invariant.0 more.2 more.1,
       c.in-Ok-true.ensures.sound,
     )
+
+pub returns-in-Err-clause-long : goal.returns-in-Err-clause-long
+returns-in-Err-clause-long g c = λ is.
+    let first = left_of g.R.Read.remaining c.args.chunks.now in
+    let mid = left_of g.R.Read.remaining c.loop.chunks in
+    let last = left_of g.R.Read.remaining c.read_piece.new.chunks in
+    let long = c.in-Err.ensures.long is in
+    let more = long.0 in
+    longer_there c.args.most first last (place_of c.read_piece.new.chunks) c.read_piece.new.body.items
+    (reaches_more first mid last place.Line (place_of c.loop.chunks) (place_of c.read_piece.new.chunks) c.loop.body.items more.0 c.read_piece.new.body.items c.loop.invariant.0 more.2 more.1)
+    long.1

@@ -7,5 +7,5 @@ pub returns-in-None : goal.returns-in-None
 returns-in-None c =
     let number : is_number c.args.text.now ≡ true = search rules in
     let value : one_number c.args.text.now ≡ Some (Some (digits_value 10 c.args.text.now)) = rw number refl in
-    let more : 576460752303423488 < digits_value 10 c.args.text.now = search rules in
+    let more : c.args.most < digits_value 10 c.args.text.now = search rules in
     (digits_value 10 c.args.text.now, value, more)

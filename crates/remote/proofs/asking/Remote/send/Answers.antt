@@ -1,0 +1,9 @@
+use Rattle.chunked.specs.Devices.{device_of}
+use Rattle.client.specs.Calls.{text_of}
+use Rattle.remote.proofs.Sent.{sent_over}
+use Rattle.remote.proofs.asking.Remote.send.Goals as goal
+
+pub returns-in-Ok : goal.returns-in-Ok
+returns-in-Ok g c =
+    sent_over g.C.Reader.Read.remaining g.C.Writer.Write.contents c.args.most (text_of c.args.request) (device_of c.new.result) c.new-writer.result c.call.new.writer c.call.result
+    c.call.ensures.answered

@@ -1,0 +1,13 @@
+use Rattle.std.proofs.Common.{rules, ◌≡◌, true}
+use Rattle.client.specs.Calls.{text_of}
+use Rattle.requests.specs.Requests.{request_of}
+use Rattle.request_texts.specs.Texts.{can_be_told}
+use Rattle.remote.proofs.Sent.{called_by}
+use Rattle.remote.specs.Asked.{limits_of}
+use Rattle.remote.proofs.asking.RemoteApi.call.Goals as goal
+
+pub returns-in-Ok : goal.returns-in-Ok
+returns-in-Ok g c =
+    let told : can_be_told (request_of c.args.request.now) ≡ true = search rules in
+    called_by g.C.Reader.Read.remaining g.C.Writer.Write.contents (limits_of c.args.self.now).object (text_of c.outgoing.result) (request_of c.args.request.now) c.in-Ok.text c.send.result
+    told c.in-Ok.ensures.asks c.outgoing.ensures c.send.ensures
