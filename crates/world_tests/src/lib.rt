@@ -1,0 +1,8 @@
+//! Tests of the simulator: a random run of a cluster, each published map of which is compared with the server's list, and worked examples that a
+//! world takes at once, as lists of steps.
+#![tactic(auto)]
+
+#[cfg(test)]
+mod random_tests;
+#[cfg(test)]
+mod run_tests;

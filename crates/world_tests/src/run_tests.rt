@@ -1,0 +1,178 @@
+//! Worked examples, each taken at once as one list of steps.
+use definitions::kinds::Kind;
+use recorded_sessions::Entry;
+use std::alloc::{AllocError, Global};
+use steps::{Action, Config, Delivery, Move, PlaneStep, Step};
+use turns::Command;
+use world::World;
+
+/// A ConfigMap.
+const FIRST: &str = "POST /api/v1/namespaces/default/configmaps {\"metadata\":{\"name\":\"a\"}}";
+
+/// One with a letter of two bytes.
+const SECOND: &str =
+    "POST /api/v1/namespaces/default/configmaps {\"metadata\":{\"name\":\"b\"},\"data\":{\"k\":\"é\"}}";
+
+/// A ReplicaSet of two.
+const WEB: &str =
+    "POST /apis/apps/v1/namespaces/default/replicasets {\"metadata\":{\"name\":\"web\"},\"spec\":{\"replicas\":2,\"selector\":{\"matchLabels\":{\"app\":\"web\"}},\"template\":{\"metadata\":{\"labels\":{\"app\":\"web\"}},\"spec\":{}}}}";
+
+/// Returns the step in which the server reads a request.
+fn asks(line: &str) -> PlaneStep<'_> {
+    PlaneStep::InCluster(Step::Request(line.as_bytes()))
+}
+
+/// Returns a move of what follows a kind.
+fn moves(kind: Kind, movement: Move) -> PlaneStep<'static> {
+    PlaneStep::InCluster(Step::Moves(kind, movement))
+}
+
+/// Returns the steps in which a ConfigMap whose frame is cut within a letter comes once more, and then all is compacted.
+fn cut_letter(alloc: Global) -> Result<Vec<PlaneStep<'static>>, AllocError> {
+    let mut steps = Vec::new(alloc);
+    steps.push(asks(FIRST))?;
+    for movement in [Move::List, Move::Publish] {
+        steps.push(moves(Kind::ConfigMap, movement))?;
+    }
+    steps.push(asks(SECOND))?;
+    let cut = [Move::Watch, Move::Send(1), Move::Deliver(43), Move::Cut];
+    let again = [Move::Watch, Move::Send(1), Move::DeliverAll, Move::Publish];
+    for movement in cut.iter().chain(again.iter()) {
+        steps.push(moves(Kind::ConfigMap, *movement))?;
+    }
+    steps.push(PlaneStep::InCluster(Step::Compact(3)))?;
+    Ok(steps)
+}
+
+/// Returns the steps in which a ReplicaSet of two gets its pods.
+fn two_pods(alloc: Global) -> Result<Vec<PlaneStep<'static>>, AllocError> {
+    let mut steps = Vec::new(alloc);
+    steps.push(asks(WEB))?;
+    for kind in [
+        Kind::ConfigMap,
+        Kind::Pod,
+        Kind::ReplicaSet,
+        Kind::Deployment,
+    ] {
+        steps.push(moves(kind, Move::List))?;
+        steps.push(moves(kind, Move::Publish))?;
+    }
+    steps.push(PlaneStep::Handle(Kind::ReplicaSet))?;
+    let actions = [
+        Action::Take,
+        Action::Look(Kind::ReplicaSet),
+        Action::AskSatisfied,
+        Action::Look(Kind::Pod),
+        Action::Expect,
+        Action::Issue(Delivery::Delivered),
+        Action::Issue(Delivery::Delivered),
+        Action::Issue(Delivery::Delivered),
+        Action::Finish,
+        Action::Take,
+    ];
+    for action in actions {
+        steps.push(PlaneStep::Works(0, action))?;
+    }
+    Ok(steps)
+}
+
+/// Returns the word for a command.
+fn word_of(command: &Command) -> &'static str {
+    match command {
+        Command::Create { .. } => "create\n",
+        Command::Update { .. } => "update\n",
+        Command::UpdateStatus { .. } => "status\n",
+        Command::Delete { .. } => "delete\n",
+    }
+}
+
+/// Returns what an entry of a journal says, as a line: the name and the `resourceVersion` of the object that was put, that one was removed, or
+/// up to where was compacted.
+fn line_of(alloc: Global, entry: &Entry) -> Result<String, AllocError> {
+    match entry {
+        Entry::Compaction(revision) => format!(in alloc; "compacted {revision}\n"),
+        Entry::Write(write) => match &write.put {
+            None => format!(in alloc; "removed\n"),
+            Some(stored) => {
+                let object = stored.open(alloc)?;
+                let name = object.name().unwrap_or("");
+                let version = object.resource_version().unwrap_or("");
+                format!(in alloc; "{name} {version}\n")
+            }
+        },
+    }
+}
+
+/// Returns what has happened in a world, and what was issued: a line for each entry of the journal, and one for each command.
+fn told(alloc: Global, world: &World) -> Result<String, AllocError> {
+    let mut text = String::new(alloc);
+    for entry in world.journal() {
+        text.push_str(line_of(alloc, entry)?.as_str())?;
+    }
+    for issued in world.issued() {
+        text.push_str(word_of(&issued.command))?;
+    }
+    Ok(text)
+}
+
+/// Takes these steps at once, and returns whether all were taken.
+fn takes_all(alloc: Global, world: &mut World, steps: &[PlaneStep<'_>]) -> bool {
+    world.run(alloc, steps).is_ok()
+}
+
+/// Returns an opening world of these sizes.
+fn opened(alloc: Global, config: Config) -> Result<World, AllocError> {
+    World::open(alloc, config)
+}
+
+/// Returns what is told of a world once these steps were taken at once, or none where it stopped before.
+fn told_after(
+    alloc: Global,
+    config: Config,
+    steps: &[PlaneStep<'_>],
+) -> Result<Option<String>, AllocError> {
+    let mut world = opened(alloc, config)?;
+    if takes_all(alloc, &mut world, steps) {
+        Ok(Some(told(alloc, &world)?))
+    } else {
+        Ok(None)
+    }
+}
+
+/// Returns whether just this is told of that world.
+fn is_told(
+    alloc: Global,
+    config: Config,
+    steps: &[PlaneStep<'_>],
+    wanted: &str,
+) -> Result<bool, AllocError> {
+    match told_after(alloc, config, steps)? {
+        Some(text) => Ok(text.as_str() == wanted),
+        None => Ok(false),
+    }
+}
+
+#[test]
+fn a_cut_letter_leaves_the_journal(rt: HostRuntime) -> Result<(), AllocError> {
+    let config = Config {
+        window: 4,
+        workers: 1,
+    };
+    let steps = cut_letter(rt.alloc())?;
+    let is_told = is_told(rt.alloc(), config, steps.as_slice(), "a 2\nb 3\ncompacted 3\n")?;
+    assert!(rt; is_told);
+    Ok(())
+}
+
+#[test]
+fn two_pods_are_created(rt: HostRuntime) -> Result<(), AllocError> {
+    let config = Config {
+        window: 16,
+        workers: 2,
+    };
+    let steps = two_pods(rt.alloc())?;
+    let wanted = "web 2\nweb-bbbbf 3\nweb-bbbbg 4\nweb 5\ncreate\ncreate\nstatus\n";
+    let is_told = is_told(rt.alloc(), config, steps.as_slice(), wanted)?;
+    assert!(rt; is_told);
+    Ok(())
+}
