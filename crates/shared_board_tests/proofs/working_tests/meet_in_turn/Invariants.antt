@@ -1,9 +1,0 @@
-use Rattle.std.proofs.Common.{All}
-use Rattle.shared_board.specs.Desks.{IsPassAt}
-use Rattle.shared_board_tests.proofs.working_tests.meet_in_turn.Given as goal
-
-abbrev pub invariant-loop-next : goal.invariant-loop-next
-invariant-loop-next l = IsPassAt l.desk l.last.pass × All (λ w. IsPassAt l.desk w.pass) l.worked.items
-
-abbrev pub decreases-loop-next : goal.decreases-loop-next
-decreases-loop-next l = goal.left-loop-next l

@@ -1,5 +1,0 @@
-use Rattle.shared_desk.specs.Desks.{IsPassAt}
-use Rattle.shared_desk_tests.proofs.creating.create_all.Given as goal
-
-abbrev pub invariant-loop-turn : goal.invariant-loop-turn
-invariant-loop-turn g l = IsPassAt l.desk l.pass
