@@ -10,5 +10,5 @@ pub commit-requires : goal.commit-requires
 commit-requires c =
     let s = c.args.self.now.session in
     let l = compact c.args.revision in
-    let is : effect_of c.in_ok-prepare_compaction.field-0.effect ≡ effect_on s l = c.in_ok-prepare_compaction.ensures.effect ∙ ap (λ (z : RecordedState). effect_on z.session l) c.self.view_is in
+    let is : effect_of c.in_ok-reply.field-0.effect ≡ effect_on s l = c.in_ok-reply.ensures.effect ∙ ap (λ (z : RecordedState). effect_on z.session l) c.self.view_is in
     subst (HasRoom s) (sym is) (effects_fit s l)
