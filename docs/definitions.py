@@ -19,7 +19,7 @@ BESIDE = {
     "chunked": ["Bodies"],
     "connections": ["Heads", "Checks", "Connections", "Replies"],
     "exchanges": ["Requests", "Answers"],
-    "following": ["Followers", "Answered", "Given", "Pauses"],
+    "following": ["Followers", "Recognized", "Answered", "Given", "Pauses"],
     "client": ["Replies", "Bodies", "Calls", "Watches"],
     "server_state": ["Snapshots", "Recorded", "Servers"],
     "controllers": ["ReadFrames", "Reflectors", "WorkQueues", "Delays", "Expectations", "Informers", "Shifts", "OwnerReferences", "OwedKeys", "Hands", "Commands"],

@@ -3,14 +3,14 @@
 
 A Deployment is made, rolled, scaled and deleted by each policy, where the script marks pods ready, as a kubelet does; a ReplicaSet adopts
 and releases pods; 20 ReplicaSets are declared at once, undisturbed, while the server is killed and started again, and while a proxy cuts
-connections, and no list of pods ever shows a pod too many of a set; and each kind of command is lost once on its way, or its reply. Each
-scenario begins with nothing.
+connections, and no list of pods ever shows a pod too many of a set; each kind of command is lost once on its way, or its reply; a server is
+started anew behind a proxy, and known as another one; and what is not understood is told of. Each scenario begins with nothing.
 
 Nothing has to happen within a certain time but that of `--limit`, which is long. In short, answers and watches are cut, but no requests:
 a controller that cannot know whether a create has arrived waits 300 seconds for the pod.
 Usage: run.py --program PATH [--short] [--seed N] [--limit S] [WORD]
   --program PATH   the executable of kcp
-  --short          fewer pods, lists and kills, and no requests cut: about 25 seconds in place of twelve minutes
+  --short          fewer pods, lists and kills, and no requests cut: about 40 seconds in place of twelve minutes
   --limit S        for how many seconds is waited for what has to come, 180 if left out
   WORD             only scenarios whose name has it
 """
@@ -24,8 +24,10 @@ sys.path[:0] = [str(pathlib.Path(__file__).resolve().parent)]
 import adoptions
 import hurried
 import losing
+import restarting
 import rollouts
 import sets
+import understanding
 from waiting import DEFAULT_SECONDS, Limit
 
 
@@ -46,6 +48,8 @@ def scenarios(asked):
         "many-sets-many-workers": lambda: sets.many_workers(program),
         "many-sets-server-killed": lambda: sets.server_killed(program, lists, kills),
         "many-sets-connections-cut": lambda: sets.connections_cut(program, lists, cuts, asked.seed, cuts_requests=not few),
+        "restarted-behind-a-proxy": lambda: restarting.restarted(program, [0, 1000] if few else [0, 1, 1000]),
+        "not-understood": lambda: understanding.not_understood(program),
         "commands-lost": lambda: losing.lost_by(program, [1, 4], is_short=few),
         "commands-lost-hurried": lambda: hurried.lost_by_seeds(program, asked.seed, 4 if few else 200),
     } | ({} if few else {"replies-lost": lambda: losing.replies_lost(program, asked.seed)})

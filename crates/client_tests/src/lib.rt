@@ -5,11 +5,15 @@
 #[cfg(test)]
 mod calls;
 #[cfg(test)]
+mod doubts;
+#[cfg(test)]
 mod followers;
 #[cfg(test)]
 mod remotes;
 #[cfg(test)]
 mod replies;
+#[cfg(test)]
+mod scenes;
 #[cfg(test)]
 mod scripts;
 #[cfg(test)]

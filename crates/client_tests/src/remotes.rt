@@ -87,11 +87,14 @@ fn delete(alloc: Global, name: &str) -> Result<Request, AllocError> {
 
 /// Returns whether these requests, each over a connection of its own, are answered as they have to be.
 fn are_answered(alloc: Global) -> Result<bool, AllocError> {
-    let streams: [&[u8]; 4] = [LIST, &LIST[..LIST.len() - 1], GONE, LIST];
+    let streams: [&[u8]; 6] = [LIST, &LIST[..LIST.len() - 1], GONE, LIST, GONE, LIST];
     let mut server = remote(alloc, &streams);
     let mut same = true;
     for wanted in ["replied", "lost", "another reply"] {
         same = same && word(&server.list(alloc, Kind::Deployment)) == wanted;
+    }
+    for wanted in ["replied", "another reply"] {
+        same = same && word(&server.first_at(alloc, Kind::Pod, 7)) == wanted;
     }
     for (name, wanted) in [("a/b", "not sent"), ("b", "replied")] {
         let request = delete(alloc, name)?;

@@ -8,24 +8,46 @@ use remote::{Api, Opened};
 use requests::Request;
 use std::alloc::{AllocError, Global};
 
-/// What is answered to who asks for a watch: what becomes of it, and the pieces that it gives before it is cut.
+/// What is answered to who asks for a watch: what becomes of it, and the pieces that it gives before it is cut, or ends.
 #[derive(Clone, Copy)]
 pub struct Watch<'a> {
     pub opened: Opened,
     pub pieces: &'a [&'a str],
+    pub ends: bool,
 }
 
-/// Answers lists and watches in their order, and then no more. An empty list is lost.
+/// What is answered to who asks for the first object at a revision.
+#[derive(Clone, Copy)]
+pub struct First<'a> {
+    pub code: u16,
+    pub body: &'a str,
+}
+
+/// Returns a reply, or that it is lost where there is no memory for it, or where it has no body.
+fn replied(alloc: Global, code: u16, body: &str) -> Answer {
+    let mut bytes = Vec::new(alloc);
+    if body.is_empty() || bytes.extend_from_slice(body.as_bytes()).is_err() {
+        return Answer::Lost;
+    }
+    Answer::Replied(Reply { code, body: bytes })
+}
+
+/// Answers lists, first objects and watches in their order, and then no more. What is empty is lost.
 #[derive(Drop)]
 pub struct Script<'a> {
     pub lists: &'a [&'a str],
+    pub firsts: &'a [First<'a>],
     pub watches: &'a [Watch<'a>],
-    /// How many lists and watches were answered, and how many pieces the last watch gave.
+    /// How many lists, first objects and watches were answered, and how many pieces the last watch gave.
     pub listed: usize,
+    pub looked: usize,
     pub opened: usize,
     pub given: usize,
-    /// What was asked: 0 for a list, and the revision for a watch.
+    /// What was asked: 0 for a list, the revision for a watch, and 100 more for the first object at it.
     pub asked: Vec<u64>,
+    /// How often what came was understood, and how often not.
+    pub understood: usize,
+    pub not_understood: usize,
 }
 
 impl<'a> Script<'a> {
@@ -46,14 +68,16 @@ impl<'a> Api for Script<'a> {
             return Answer::NotSent;
         };
         self.listed = self.listed.saturating_add(1);
-        let mut bytes = Vec::new(alloc);
-        if body.is_empty() || bytes.extend_from_slice(body.as_bytes()).is_err() {
-            return Answer::Lost;
-        }
-        Answer::Replied(Reply {
-            code: 200,
-            body: bytes,
-        })
+        replied(alloc, 200, body)
+    }
+
+    fn first_at(&mut self, alloc: Global, _kind: Kind, revision: u64) -> Answer {
+        self.record(revision.saturating_add(100));
+        let Some(&first) = self.firsts.get(self.looked) else {
+            return Answer::NotSent;
+        };
+        self.looked = self.looked.saturating_add(1);
+        replied(alloc, first.code, first.body)
     }
 
     fn open_watch(&mut self, _alloc: Global, _kind: Kind, revision: u64) -> Opened {
@@ -72,12 +96,20 @@ impl<'a> Api for Script<'a> {
             return More::Cut;
         };
         let Some(&piece) = watch.pieces.get(self.given) else {
-            return More::Cut;
+            return if watch.ends { More::End } else { More::Cut };
         };
         self.given = self.given.saturating_add(1);
         let len = piece.len().min(buf.len());
         buf[..len].copy_from_slice(&piece.as_bytes()[..len]);
         More::Bytes(len)
+    }
+
+    fn note_understood(&mut self) {
+        self.understood = self.understood.saturating_add(1);
+    }
+
+    fn note_not_understood(&mut self, _bytes: &[u8]) {
+        self.not_understood = self.not_understood.saturating_add(1);
     }
 }
 
@@ -114,6 +146,8 @@ pub struct Seen {
     pub firsts: usize,
     pub revisions: Vec<u64>,
     pub objects: usize,
+    /// How often it was told of another server.
+    pub others: usize,
 }
 
 impl Sink for Seen {
@@ -134,6 +168,10 @@ impl Sink for Seen {
         self.firsts = self.firsts.saturating_add(usize::from(is_first));
         self.objects = objects.len();
         Ok(())
+    }
+
+    fn other_server(&mut self) {
+        self.others = self.others.saturating_add(1);
     }
 
     fn goes_on(&mut self) -> Onward {

@@ -1,7 +1,9 @@
 -- What a follower makes of what a server answers (client-go, tools/cache, Reflector).
-use Rattle.std.specs.Prelude.{◌≡◌, ◌⊎◌, ℕ, List, length, take, nat_eq, nat_lt, nat_le, if◌then◌else◌, Bool, false, Option, Some, None, is_none, option_and_then}
+use Rattle.std.specs.Prelude.{◌≡◌, ◌⊎◌, ℕ, List, length, take, nat_eq, nat_lt, nat_le, if◌then◌else◌, Bool, true, false, not, Option, Some, None, option_and_then}
 use Rattle.definitions.specs.declared.kinds.Kind.{Kind}
 use Rattle.controllers.specs.Reflectors.{Listed, list_of, fed}
+use Rattle.controllers.specs.declared.reflectors.End.{End}
+use Rattle.controllers.specs.declared.reflectors.End.TheVariants as end
 use Rattle.reflector.specs.declared.faults.ListFault.{ListFault}
 use Rattle.reflector.specs.declared.faults.ListFault.TheVariants as fault
 use Rattle.client.specs.declared.answer.Answer.{Answer}
@@ -11,6 +13,9 @@ use Rattle.client.specs.declared.more.More.TheVariants as more
 use Rattle.remote.specs.declared.api.Opened.{Opened}
 use Rattle.remote.specs.declared.api.Opened.TheVariants as opened
 use Rattle.following.specs.Followers.{Follower, after_bytes, after_cut, after_expiry}
+use Rattle.following.specs.Recognized.{is_refusal}
+use Rattle.following.specs.declared.tries.Piece.{Piece}
+use Rattle.following.specs.declared.tries.Piece.TheVariants as piece
 use Rattle.following.specs.declared.tries.Tried.{Tried}
 use Rattle.following.specs.declared.tries.Tried.TheVariants as tried
 use Rattle.following.specs.declared.tries.Left.{Left}
@@ -44,14 +49,46 @@ piece_in (more.Bytes n) buffer = if nat_le n (length buffer) then Some (take n b
 piece_in more.End buffer = None
 piece_in more.Cut buffer = None
 
+-- a piece that was taken in, by why the watch is over, if it is
+abbrev pub piece_of : Option End → Piece
+piece_of None = piece.GoesOn
+piece_of (Some end.Expired) = piece.Expired
+piece_of (Some end.Unreadable) = piece.Unreadable
+
 -- bytes are taken in, and the watch goes on unless they end it; or memory ran out, and the watch is cut
-abbrev pub IsPieceTaken : List ℕ → Follower → Follower → Bool → Type 0
-IsPieceTaken bytes old new goes_on =
-    ((new ≡ after_bytes bytes old) × (goes_on ≡ is_none (fed old.reflector bytes).ended))
-    ⊎ ((new ≡ after_cut old) × (goes_on ≡ false))
+abbrev pub IsPieceTaken : List ℕ → Follower → Follower → Piece → Type 0
+IsPieceTaken bytes old new p =
+    ((new ≡ after_bytes bytes old) × (p ≡ piece_of (fed old.reflector bytes).ended))
+    ⊎ ((new ≡ after_cut old) × (p ≡ piece.Dropped))
+
+-- a watch that gives no more bytes has ended, or was cut
+abbrev pub over : More → Bool → Left
+over more.End gave = left.Ended gave
+over (more.Bytes n) gave = left.Cut gave
+over more.Cut gave = left.Cut gave
 
 -- a watch that ends within a second and gave nothing is a failed try
+abbrev pub tried_if : Bool → ℕ → Tried
+tried_if gave milliseconds = if gave then tried.Done else (if nat_lt milliseconds 1000 then tried.Failed else tried.Done)
+
 abbrev pub tried_after : Left → ℕ → Tried
-tried_after (left.Over gave) milliseconds = if gave then tried.Done else (if nat_lt milliseconds 1000 then tried.Failed else tried.Done)
+tried_after (left.Ended gave) milliseconds = tried_if gave milliseconds
+tried_after (left.Cut gave) milliseconds = tried_if gave milliseconds
+tried_after left.Expired milliseconds = tried.Failed
 tried_after left.Failed milliseconds = tried.Failed
 tried_after left.Stopped milliseconds = tried.Stopped
+
+-- whether it may be another server that is asked next: a watch was cut, or what came of it could not be taken in
+abbrev pub leaves_doubt : Left → Bool
+leaves_doubt (left.Ended gave) = false
+leaves_doubt (left.Cut gave) = true
+leaves_doubt left.Expired = false
+leaves_doubt left.Failed = true
+leaves_doubt left.Stopped = false
+
+-- and whether it may be where a watch was asked for: nothing was answered, or what is refused for now
+abbrev pub is_left_open : Opened → Bool
+is_left_open opened.Open = false
+is_left_open opened.Expired = false
+is_left_open (opened.Refused code) = not (is_refusal code)
+is_left_open opened.Lost = true

@@ -1,5 +1,7 @@
 -- The definitions, in reading order.
 pub mod Followers
+pub mod Listed
+pub mod Recognized
 pub mod Answered
 pub mod Given
 pub mod Pauses

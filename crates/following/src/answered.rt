@@ -1,9 +1,11 @@
 //! What a follower makes of what a server answers.
 ghost use Rattle.std.specs.Prelude.{◌≡◌, OnOk, OnErr, IfErr, IsSome, option_map};
 ghost use Rattle.following.specs.Followers.{after_list};
-ghost use Rattle.following.specs.Answered.{listed_in, RefusesAnswer, after_opened, piece_in, IsPieceTaken};
+ghost use Rattle.following.specs.Answered.{body_in, is_left_open, listed_in, RefusesAnswer, after_opened, piece_in, IsPieceTaken};
 
 use crate::follower::Follower;
+use crate::recognizing::is_refusal;
+use crate::tries::Piece;
 use client::{Answer, More};
 use informer::Publishing;
 use reflector::ListFault;
@@ -23,6 +25,27 @@ pub(crate) fn piece_in(more: More, buffer: &[u8]) -> Option<&[u8]>
     match more {
         More::Bytes(n) => buffer.get(..n),
         More::End | More::Cut => None,
+    }
+}
+
+/// Returns the body of a reply that has the status 200.
+pub(crate) fn body_in(answer: &Answer) -> Option<&[u8]>
+    ensures { option_map (λ s. s.now) result ≡ body_in answer.now }
+{
+    match answer {
+        Answer::Replied(reply) if reply.code == OK => Some(&reply.body),
+        Answer::Replied(_) | Answer::NotSent | Answer::Lost => None,
+    }
+}
+
+/// Returns whether it may be another server that is asked next: nothing was answered, or what is refused for now.
+pub(crate) fn is_left_open(opened: Opened) -> bool
+    ensures { result ≡ is_left_open opened }
+{
+    match opened {
+        Opened::Open | Opened::Expired => false,
+        Opened::Refused(code) => !is_refusal(code),
+        Opened::Lost => true,
     }
 }
 
@@ -62,16 +85,16 @@ impl<I: Publishing> Follower<I> {
         }
     }
 
-    /// Takes in a piece of a watch, and returns whether the watch goes on: not where it has expired or cannot be read, nor where memory runs out,
-    /// by which it is cut, to be asked for again from the revision that was taken in.
-    pub(crate) fn on_piece(&mut self, alloc: Global, bytes: &[u8]) -> bool
+    /// Takes in a piece of a watch, and returns what came of it. Where memory runs out the watch is cut, to be asked for again from the revision
+    /// that was taken in.
+    pub(crate) fn on_piece(&mut self, alloc: Global, bytes: &[u8]) -> Piece
         ensures { IsPieceTaken bytes.now self.old self.new result }
     {
         match self.on_bytes(alloc, bytes) {
-            Ok(end) => end.is_none(),
+            Ok(end) => Piece::of_end(end),
             Err(_) => {
                 self.on_cut();
-                false
+                Piece::Dropped
             }
         }
     }

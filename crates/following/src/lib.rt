@@ -3,12 +3,18 @@
 #![tactic(auto)]
 
 pub(crate) mod answered;
+pub(crate) mod doubts;
+pub(crate) mod falling;
 pub mod follower;
 pub(crate) mod listing;
 pub(crate) mod owed;
 pub mod pauses;
+pub mod recognizing;
 pub mod running;
+pub(crate) mod sameness;
+pub mod shown;
 pub mod sinks;
+pub(crate) mod tails;
 pub mod timers;
 pub mod tries;
 pub(crate) mod watching;
@@ -16,6 +22,8 @@ pub(crate) mod watching;
 pub use follower::Follower;
 pub use indexer::{Indexed, Shift};
 pub use pauses::Pauses;
+pub use recognizing::{Recognized, recognize};
 pub use running::follow;
+pub use shown::shows_other_server;
 pub use sinks::{Onward, Sink};
 pub use timers::Timer;

@@ -1,10 +1,13 @@
 //! A list, asked for and taken in.
+use crate::answered::body_in;
 use crate::follower::Follower;
 use crate::owed::Owed;
 use crate::sinks::{Onward, Sink};
 use crate::tries::Tried;
+use client::Answer;
 use definitions::kinds::Kind;
 use informer::Publishing;
+use reflector::ListFault;
 use remote::Api;
 use std::alloc::{AllocError, Global};
 
@@ -43,7 +46,21 @@ pub(crate) fn list<I: Publishing, A: Api, S: Sink>(
 ) -> Tried {
     let answer = api.list(alloc, kind);
     match follower.on_answer(alloc, &answer) {
-        Ok(()) => publish(follower, owed, sink),
-        Err(_) => Tried::Failed,
+        Ok(()) => {
+            api.note_understood();
+            publish(follower, owed, sink)
+        }
+        Err(ListFault::Unreadable) => {
+            note_unreadable(api, &answer);
+            Tried::Failed
+        }
+        Err(ListFault::Want) => Tried::Failed,
+    }
+}
+
+/// Says that a body cannot be read, if one was answered.
+pub(crate) fn note_unreadable<A: Api>(api: &mut A, answer: &Answer) {
+    if let Some(body) = body_in(answer) {
+        api.note_not_understood(body);
     }
 }

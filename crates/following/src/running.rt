@@ -1,8 +1,11 @@
 //! The loop of a follower.
+use crate::answered::is_left_open;
+use crate::doubts::look;
 use crate::follower::Follower;
 use crate::listing::{list, publish};
 use crate::owed::Owed;
 use crate::pauses::Pauses;
+use crate::recognizing::Recognized;
 use crate::sinks::{Onward, Sink};
 use crate::timers::Timer;
 use crate::tries::Tried;
@@ -13,32 +16,70 @@ use informer::Publishing;
 use remote::{Api, Opened};
 use std::alloc::Global;
 
-/// Gives what is still owed and publishes what still waits, as where memory ran out, and then asks what is to be asked next.
-fn try_once<I: Publishing, A: Api, T: Timer, S: Sink>(
+/// What is known between two tries.
+#[derive(Drop)]
+struct Known {
+    owed: Owed,
+    /// Whether it may be another server that is asked next.
+    is_in_doubt: bool,
+}
+
+/// Asks for what the follower is to ask next, and takes in what comes.
+fn ask<I: Publishing, A: Api, T: Timer, S: Sink>(
     alloc: Global,
     kind: Kind,
     follower: &mut Follower<I>,
-    owed: &mut Owed,
+    known: &mut Known,
     api: &mut A,
     timer: &mut T,
     sink: &mut S,
 ) -> Tried {
-    match publish(follower, owed, sink) {
-        Tried::Done => {}
-        tried => return tried,
-    }
-    match follower.next() {
-        Ask::List => list(alloc, kind, follower, owed, api, sink),
+    let owed = &mut known.owed;
+    let (tried, is_in_doubt) = match follower.next() {
+        Ask::List => {
+            let tried = list(alloc, kind, follower, owed, api, sink);
+            (tried, follower.next() == Ask::List)
+        }
         Ask::Watch(revision) => {
             let opened = api.open_watch(alloc, kind, revision);
             follower.on_opened(opened);
             if opened == Opened::Open {
                 watch(alloc, follower, owed, api, timer, sink)
             } else {
-                Tried::Failed
+                (Tried::Failed, is_left_open(opened))
+            }
+        }
+    };
+    known.is_in_doubt = is_in_doubt;
+    tried
+}
+
+/// Gives what is still owed and publishes what still waits, as where memory ran out; looks whether the server is still the same, where it may be
+/// another one; and then asks what is to be asked next.
+fn try_once<I: Publishing, A: Api, T: Timer, S: Sink>(
+    alloc: Global,
+    kind: Kind,
+    follower: &mut Follower<I>,
+    known: &mut Known,
+    api: &mut A,
+    timer: &mut T,
+    sink: &mut S,
+) -> Tried {
+    match publish(follower, &mut known.owed, sink) {
+        Tried::Done => {}
+        tried => return tried,
+    }
+    if known.is_in_doubt {
+        match look(alloc, kind, follower, api, sink) {
+            Recognized::Same | Recognized::Unknown => {}
+            Recognized::Unanswered => return Tried::Failed,
+            Recognized::Other => {
+                known.is_in_doubt = false;
+                return Tried::Failed;
             }
         }
     }
+    ask(alloc, kind, follower, known, api, timer, sink)
 }
 
 /// Waits after a try that failed, unless the sink says that the follower stops, and returns whether it goes on.
@@ -51,7 +92,8 @@ fn pause<T: Timer, S: Sink>(pauses: &mut Pauses, timer: &mut T, sink: &mut S) ->
 }
 
 /// Keeps the copy of a follower of a kind up to date with a server until the sink or the timer stops it: asks what the follower is to ask
-/// next, publishes after each list and each piece of a watch, and gives the sink what that changes. After a try that failed it pauses. A sink
+/// next, publishes after each list and each piece of a watch, and gives the sink what that changes. After a try that failed it pauses. After one
+/// that did not end as servers end them, it looks first whether the server is still the same, and tells the sink where it is another one. A sink
 /// that does not take changes is given them again; those that it has not taken when the follower stops are not given again.
 pub fn follow<I: Publishing, A: Api, T: Timer, S: Sink>(
     alloc: Global,
@@ -61,13 +103,16 @@ pub fn follow<I: Publishing, A: Api, T: Timer, S: Sink>(
     timer: &mut T,
     sink: &mut S,
 ) {
-    let mut owed = Owed::new();
+    let mut known = Known {
+        owed: Owed::new(),
+        is_in_doubt: false,
+    };
     let mut pauses = Pauses {
         failures: 0,
         last: 0,
     };
     for _ in 0..u64::MAX {
-        match try_once(alloc, kind, follower, &mut owed, api, timer, sink) {
+        match try_once(alloc, kind, follower, &mut known, api, timer, sink) {
             Tried::Done => {}
             Tried::Failed => match pause(&mut pauses, timer, sink) {
                 Onward::GoOn => {}

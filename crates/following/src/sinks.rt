@@ -31,6 +31,9 @@ pub trait Sink {
     ) -> Result<(), AllocError>
         ensures { OnOk result (takes self.old (map shift_of shifts.now) objects.now is_first self.new) };
 
+    /// Is told that it is another server that answers now, whose objects are listed next. What was published before says nothing of them.
+    fn other_server(&mut self);
+
     /// Returns whether the follower goes on. It is asked after each list, each piece of a watch, and each try that failed.
     fn goes_on(&mut self) -> Onward;
 }

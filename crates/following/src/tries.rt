@@ -1,6 +1,8 @@
 //! What came of a try.
 ghost use Rattle.std.specs.Prelude.{◌≡◌};
-ghost use Rattle.following.specs.Answered.{tried_after};
+ghost use Rattle.following.specs.Answered.{leaves_doubt, piece_of, tried_after};
+
+use controllers::reflectors::End;
 
 /// A watch that ends within so many milliseconds and gave nothing is a failed try.
 const SHORT_MILLISECONDS: u64 = 1_000;
@@ -16,11 +18,41 @@ pub enum Tried {
     Stopped,
 }
 
+/// What came of a piece of a watch.
+#[derive(Debug, Clone, Copy, PartialEq, Eq)]
+pub enum Piece {
+    /// It was taken in, and the watch goes on.
+    GoesOn,
+    /// The watch has expired.
+    Expired,
+    /// It is not what may stand there.
+    Unreadable,
+    /// There was no memory to take it in.
+    Dropped,
+}
+
+impl Piece {
+    /// Returns what came of a piece that was taken in, by why the watch is over, if it is.
+    pub(crate) fn of_end(end: Option<End>) -> Piece
+        ensures { result ≡ piece_of end }
+    {
+        match end {
+            None => Piece::GoesOn,
+            Some(End::Expired) => Piece::Expired,
+            Some(End::Unreadable) => Piece::Unreadable,
+        }
+    }
+}
+
 /// Why a watch that was open is left.
 #[derive(Debug, Clone, Copy, PartialEq, Eq)]
 pub enum Left {
-    /// It ended or was cut, and it gave something or not.
-    Over(bool),
+    /// The server ended it, and it gave something or not.
+    Ended(bool),
+    /// It was cut, and it gave something or not.
+    Cut(bool),
+    /// It has expired.
+    Expired,
     /// What came could not be taken in or given on.
     Failed,
     /// The follower is to stop.
@@ -33,16 +65,26 @@ impl Left {
         ensures { result ≡ tried_after self milliseconds }
     {
         match self {
-            Left::Over(true) => Tried::Done,
-            Left::Over(false) => {
+            Left::Ended(true) | Left::Cut(true) => Tried::Done,
+            Left::Ended(false) | Left::Cut(false) => {
                 if milliseconds < SHORT_MILLISECONDS {
                     Tried::Failed
                 } else {
                     Tried::Done
                 }
             }
-            Left::Failed => Tried::Failed,
+            Left::Expired | Left::Failed => Tried::Failed,
             Left::Stopped => Tried::Stopped,
+        }
+    }
+
+    /// Returns whether it may be another server that is asked next: the watch did not end as servers end one.
+    pub(crate) fn leaves_doubt(self) -> bool
+        ensures { result ≡ leaves_doubt self }
+    {
+        match self {
+            Left::Cut(_) | Left::Failed => true,
+            Left::Ended(_) | Left::Expired | Left::Stopped => false,
         }
     }
 }

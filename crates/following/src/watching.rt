@@ -1,11 +1,16 @@
 //! A watch, opened and read to its end.
+ghost use Rattle.std.specs.Prelude.{◌≡◌};
+ghost use Rattle.following.specs.Answered.{over};
+
 use crate::answered::piece_in;
 use crate::follower::Follower;
 use crate::listing::publish;
 use crate::owed::Owed;
 use crate::sinks::Sink;
+use crate::tails::Tail;
 use crate::timers::Timer;
-use crate::tries::{Left, Tried};
+use crate::tries::{Left, Piece, Tried};
+use client::More;
 use informer::Publishing;
 use remote::Api;
 use std::alloc::Global;
@@ -13,19 +18,66 @@ use std::alloc::Global;
 /// How many bytes of a watch are read at once.
 const PIECE: usize = 16_384;
 
-/// Takes in bytes of a watch and publishes what they say. A watch that expired or cannot be read is a failed try, as are bytes for which
-/// memory runs out.
-fn take_in<I: Publishing, S: Sink>(
+/// Says to a server whether what it sent was understood.
+fn note<A: Api>(api: &mut A, piece: Piece, bytes: &[u8]) {
+    match piece {
+        Piece::GoesOn => api.note_understood(),
+        Piece::Unreadable => api.note_not_understood(bytes),
+        Piece::Expired | Piece::Dropped => {}
+    }
+}
+
+/// Takes in bytes of a watch, after those of a frame that is not whole, and returns what came of them. Where they name a revision below the one
+/// that was taken in last, it is another server that sends them.
+fn take_in<I: Publishing, A: Api, S: Sink>(
     alloc: Global,
     bytes: &[u8],
+    tail: &mut Tail,
+    follower: &mut Follower<I>,
+    api: &mut A,
+    sink: &mut S,
+) -> Piece {
+    let last = follower.look().revision();
+    let piece = follower.on_piece(alloc, bytes);
+    if piece == Piece::Unreadable && tail.falls(alloc, bytes, last) {
+        sink.other_server();
+        return piece;
+    }
+    note(api, piece, bytes);
+    match tail.push(bytes) {
+        Ok(()) => piece,
+        Err(_) => {
+            follower.on_cut();
+            Piece::Dropped
+        }
+    }
+}
+
+/// Publishes what bytes of a watch say, and returns why the watch is left by that, if it is: it has expired, or it cannot be read or
+/// given on.
+fn leaves<I: Publishing, S: Sink>(
+    piece: Piece,
     follower: &mut Follower<I>,
     owed: &mut Owed,
     sink: &mut S,
-) -> Tried {
-    let goes_on = follower.on_piece(alloc, bytes);
-    match publish(follower, owed, sink) {
-        Tried::Done if !goes_on => Tried::Failed,
-        tried => tried,
+) -> Option<Left> {
+    match (publish(follower, owed, sink), piece) {
+        (Tried::Stopped, _) => Some(Left::Stopped),
+        (Tried::Done, Piece::GoesOn) => None,
+        (Tried::Done, Piece::Expired) => Some(Left::Expired),
+        (Tried::Done, Piece::Unreadable | Piece::Dropped) | (Tried::Failed, _) => Some(
+            Left::Failed,
+        ),
+    }
+}
+
+/// Returns why a watch that gives no more bytes is over.
+fn over(more: More, gave: bool) -> Left
+    ensures { result ≡ over more gave }
+{
+    match more {
+        More::End => Left::Ended(gave),
+        More::Bytes(_) | More::Cut => Left::Cut(gave),
     }
 }
 
@@ -38,22 +90,24 @@ fn read<I: Publishing, A: Api, S: Sink>(
     sink: &mut S,
 ) -> Left {
     let mut buffer = [0u8; PIECE];
+    let mut tail = Tail::new(alloc);
     let mut gave = false;
     for _ in 0..u64::MAX {
         let more = api.more(&mut buffer);
         let Some(bytes) = piece_in(more, &buffer) else {
-            break;
+            return over(more, gave);
         };
-        match take_in(alloc, bytes, follower, owed, sink) {
-            Tried::Done => gave = true,
-            Tried::Failed => return Left::Failed,
-            Tried::Stopped => return Left::Stopped,
+        let piece = take_in(alloc, bytes, &mut tail, follower, api, sink);
+        if let Some(left) = leaves(piece, follower, owed, sink) {
+            return left;
         }
+        gave = true;
     }
-    Left::Over(gave)
+    Left::Ended(gave)
 }
 
-/// Reads the watch that is open to its end, and leaves it: the half frame that it may have given is dropped.
+/// Reads the watch that is open to its end, and leaves it: the half frame that it may have given is dropped. Returns what came of it, and whether
+/// it may be another server that is asked next.
 pub(crate) fn watch<I: Publishing, A: Api, T: Timer, S: Sink>(
     alloc: Global,
     follower: &mut Follower<I>,
@@ -61,9 +115,10 @@ pub(crate) fn watch<I: Publishing, A: Api, T: Timer, S: Sink>(
     api: &mut A,
     timer: &mut T,
     sink: &mut S,
-) -> Tried {
+) -> (Tried, bool) {
     let opened = timer.now();
     let left = read(alloc, follower, owed, api, sink);
     follower.on_cut();
-    left.tried_after(timer.now().saturating_sub(opened))
+    let tried = left.tried_after(timer.now().saturating_sub(opened));
+    (tried, left.leaves_doubt())
 }

@@ -3,3 +3,5 @@ pub mod Asking
 pub mod Serving
 pub mod Threads
 pub mod Troubles
+pub mod Escaped
+pub mod Heard

@@ -3,11 +3,14 @@
 
 pub mod answering;
 pub mod connecting;
+pub mod escaped;
+pub mod heard;
 pub mod kind_bells;
 pub mod other_server;
 pub mod own_server;
 mod pausing;
 pub mod reach;
+pub mod telling;
 pub mod trouble;
 
 pub use answering::{Connection, connections};

@@ -1,5 +1,6 @@
 //! A server of another process, whose end is seen.
 use crate::connecting::Connector;
+use crate::trouble::Trouble;
 use client::{Answer, More};
 use definitions::kinds::Kind;
 use remote::{Api, Opened};
@@ -30,7 +31,7 @@ impl<R: Net<Stream = TcpStream> + Eprint, A: Api + Drop> OtherServer<'_, R, A> {
     fn looked_after(&self, answer: Answer) -> Answer {
         match &answer {
             Answer::Lost => self.connector.look(),
-            Answer::Replied(reply) => self.connector.note_answered(reply.code),
+            Answer::Replied(reply) => self.connector.teller().note_answered(reply.code),
             Answer::NotSent => {}
         }
         answer
@@ -48,13 +49,18 @@ impl<R: Net<Stream = TcpStream> + Eprint, A: Api + Drop> Api for OtherServer<'_,
         self.looked_after(answer)
     }
 
+    fn first_at(&mut self, alloc: Global, kind: Kind, revision: u64) -> Answer {
+        let answer = self.api.first_at(alloc, kind, revision);
+        self.looked_after(answer)
+    }
+
     fn open_watch(&mut self, alloc: Global, kind: Kind, revision: u64) -> Opened {
         let opened = self.api.open_watch(alloc, kind, revision);
         match opened {
             Opened::Lost => self.connector.look(),
-            Opened::Refused(code) => self.connector.note_answered(code),
+            Opened::Refused(code) => self.connector.teller().note_answered(code),
             Opened::Expired => {}
-            Opened::Open => self.connector.note_answered(OK),
+            Opened::Open => self.connector.teller().note_answered(OK),
         }
         opened
     }
@@ -65,5 +71,15 @@ impl<R: Net<Stream = TcpStream> + Eprint, A: Api + Drop> Api for OtherServer<'_,
             self.connector.look();
         }
         more
+    }
+
+    fn note_understood(&mut self) {
+        self.connector.teller().note_understood();
+    }
+
+    fn note_not_understood(&mut self, bytes: &[u8]) {
+        self.connector
+            .teller()
+            .note_not_understood(Trouble::Unreadable, b"", bytes);
     }
 }

@@ -113,6 +113,10 @@ impl<R: Wait + Clock, C: Connect + Drop> Api for OwnServer<'_, R, C> {
         self.remote.list(alloc, kind)
     }
 
+    fn first_at(&mut self, alloc: Global, kind: Kind, revision: u64) -> Answer {
+        self.remote.first_at(alloc, kind, revision)
+    }
+
     fn open_watch(&mut self, alloc: Global, kind: Kind, revision: u64) -> Opened {
         self.remote.open_watch(alloc, kind, revision)
     }

@@ -1,5 +1,5 @@
 //! Whether a server is there.
-use crate::trouble::{FIRST_CODE, Trouble};
+use crate::trouble::{NO_REPLY, Trouble, UNREADABLE};
 use std::sync::atomic::{AtomicU64, Ordering};
 
 /// No connection was made yet.
@@ -66,13 +66,19 @@ impl Reach {
     /// Notes that the server can be reached, and returns whether it is news: it was said last why it could not.
     pub(crate) fn is_there_again(&self) -> bool {
         let said = self.said.load(Ordering::SeqCst);
-        said < FIRST_CODE && self.is_over(said)
+        said < UNREADABLE && self.is_over(said)
     }
 
-    /// Notes that the server answers, and returns whether it is news: it was said last that it fails.
+    /// Notes that what the server sends is understood, and returns whether it is news: it was said last that it is not.
+    pub(crate) fn is_understood_again(&self) -> bool {
+        let said = self.said.load(Ordering::SeqCst);
+        said == UNREADABLE && self.is_over(said)
+    }
+
+    /// Notes that the server answers, and returns whether it is news: it was said last that it fails, or that it sends no reply.
     pub(crate) fn answers_again(&self) -> bool {
         let said = self.said.load(Ordering::SeqCst);
-        said >= FIRST_CODE && self.is_over(said)
+        said >= NO_REPLY && self.is_over(said)
     }
 
     /// Notes that a trouble that was said is over, and returns whether one was said, and nobody has noted it before.

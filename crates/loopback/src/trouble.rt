@@ -21,6 +21,10 @@ pub enum Trouble {
     NoDescriptor,
     /// No memory is left here for one.
     NoMemory,
+    /// What it sends in the place of a list, or of frames of a watch, is none.
+    Unreadable,
+    /// What comes is no reply of HTTP.
+    NoReply,
     /// The server answers that it has failed, with this status code.
     Fails(u16),
 }
@@ -48,13 +52,18 @@ impl Trouble {
             Trouble::Unreachable => 1,
             Trouble::NoDescriptor => 2,
             Trouble::NoMemory => 3,
-            Trouble::Fails(code) => FIRST_CODE + u64::from(code),
+            Trouble::Unreadable => UNREADABLE,
+            Trouble::NoReply => NO_REPLY,
+            Trouble::Fails(code) => NO_REPLY + 1 + u64::from(code),
         }
     }
 }
 
-/// The number of an answer with the status code 0: those below are of connections that are not made.
-pub(crate) const FIRST_CODE: u64 = 4;
+/// The number of what cannot be read: those below are of connections that are not made.
+pub(crate) const UNREADABLE: u64 = 4;
+
+/// The number of what is no reply: it and those above are over at the next answer.
+pub(crate) const NO_REPLY: u64 = 5;
 
 /// Returns whether an error says that no descriptor is left.
 fn is_without_descriptor(error: &io::Error) -> bool

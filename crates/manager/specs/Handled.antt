@@ -1,10 +1,11 @@
 -- What a thread that handles changes adds to the history of the board.
-use Rattle.std.specs.Prelude.{◌≡◌, ◌⊎◌, ◌<◌, ◌≤◌, ◌++◌, ℕ, List, [], ◌∷◌, drop, Bool, Option, None}
+use Rattle.std.specs.Prelude.{◌≡◌, ◌⊎◌, ◌||◌, ◌++◌, ℕ, List, [], ◌∷◌, drop, Bool, true, false, nat_lt, Option, None}
 use Rattle.baton.specs.Marks.{StartsWith}
 use Rattle.baton.specs.declared.views.Known.{Known}
 use Rattle.control.specs.Boards.{Board}
 use Rattle.controllers.specs.OwedKeys.{keys_of}
 use Rattle.controllers.specs.Shifts.{Shift}
+use Rattle.following.specs.Recognized.{shows_other_server}
 use Rattle.listers.specs.declared.listers.Lister.{Lister}
 use Rattle.reconciling.specs.ControlPlanes.{change_of}
 use Rattle.reconciling.specs.PodObservations.{observations}
@@ -55,8 +56,12 @@ pub record Progress : Type 0 where
 abbrev pub done_with : ℕ → Progress
 done_with revision = record { handled = 0; revision = revision; looks = None }
 
--- The changes of a publish that were not handled are, and then that is done with; one that is older than the publish before changes nothing.
+-- What is published is another server's: it is older than the publish of this revision, or its changes show so.
+abbrev pub is_other : ℕ → Snapshot → List Shift → Bool
+is_other revision objects shifts = nat_lt objects.revision revision || shows_other_server shifts
+
+-- The changes of a publish that were not handled are, and then that is done with; those of another server are not.
 abbrev pub Takes : Bool → Progress → Snapshot → List Shift → Looks Lister → Known Board Step → Known Board Step → Progress → Type 0
 Takes is_first before objects shifts ls v w after =
-    ((objects.revision < before.revision) × (w ≡ v))
-    ⊎ ((before.revision ≤ objects.revision) × HandlesAll is_first before.looks ls (drop before.handled shifts) v w × (after ≡ done_with objects.revision))
+    ((is_other before.revision objects shifts ≡ true) × (w ≡ v))
+    ⊎ ((is_other before.revision objects shifts ≡ false) × HandlesAll is_first before.looks ls (drop before.handled shifts) v w × (after ≡ done_with objects.revision))

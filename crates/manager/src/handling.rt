@@ -3,7 +3,7 @@ ghost use Rattle.shared_board.specs.Desks.{IsPassAt};
 
 use crate::changes::Handling;
 use crate::looking::Listers;
-use following::{Onward, Sink};
+use following::{Onward, Sink, shows_other_server};
 use indexer::{Indexed, Shift};
 use shared_board::{ControlDesk, WorkPass};
 use std::alloc::{AllocError, Global};
@@ -35,7 +35,7 @@ impl<'a, R: Wait + Clock> Handler<'a, R> {
     ghost use Rattle.std.specs.Prelude.{◌≡◌, OnOk, OnErr, IfSome, map, drop, None};
     ghost use Rattle.indexer.specs.Shifted.{shift_of};
     ghost use Rattle.shared_board.specs.Desks.{known, IsPassAt};
-    ghost use Rattle.manager.specs.Handled.{HandlesAll, HandlesSome};
+    ghost use Rattle.manager.specs.Handled.{HandlesAll, HandlesSome, is_other};
     ghost use Rattle.manager.specs.Looked.{AreLookedAt};
 
     /// Returns what handles the changes of a kind of which nothing was published yet.
@@ -73,6 +73,13 @@ impl<'a, R: Wait + Clock> Handler<'a, R> {
             self.looks = self.listers.all_published()?;
         }
         Ok(())
+    }
+
+    /// Returns whether what is published is another server's: it is older than what was published before, or its changes show so.
+    fn is_other(&self, shifts: &[Shift], objects: &Indexed) -> bool
+        ensures { result ≡ is_other self.now.revision objects.now (map shift_of shifts.now) }
+    {
+        objects.revision() < self.revision || shows_other_server(shifts)
     }
 
     /// Handles the changes of a publish but those that were handled. The error is running out of memory, or that an informer is closed: some
@@ -118,14 +125,14 @@ impl<R: Wait + Clock> Sink for Handler<'_, R> {
         (record { handled = after.handled; revision = after.revision; looks = after.looks }) };
 
     /// Handles the changes of a publish, one after another, and then wakes the workers. Where memory runs out, those that were handled are not
-    /// handled again. A list that is older than what was published before it says that the server has lost its memory: then all is to stop.
+    /// handled again. Where the changes are another server's, none is handled, and all is to stop.
     fn changed(
         &mut self,
         shifts: &[Shift],
         objects: &Indexed,
         is_first: bool,
     ) -> Result<(), AllocError> {
-        if objects.revision() < self.revision {
+        if self.is_other(shifts, objects) {
             self.signals.note_lost();
             return Ok(());
         }
@@ -138,6 +145,11 @@ impl<R: Wait + Clock> Sink for Handler<'_, R> {
         }
         self.signals.announce_work();
         Ok(())
+    }
+
+    /// All that the controllers know is of a server that is there no more: so all is to stop.
+    fn other_server(&mut self) {
+        self.signals.note_lost();
     }
 
     fn goes_on(&mut self) -> Onward {

@@ -102,6 +102,17 @@ impl<'a, R: Wait + Clock> SharedServer<'a, R> {
         }
     }
 
+    /// Returns what is answered to who asks for so many objects of a kind; for all with 0.
+    fn listed(&mut self, alloc: Global, kind: Kind, at: At, limit: usize) -> Answer {
+        let view = View::unfiltered(alloc, kind, None);
+        let options = ListOptions {
+            at,
+            limit,
+            after: None,
+        };
+        answer_of(alloc, self.seat.list(alloc, &view, &options))
+    }
+
     /// Takes in what the watch is given next, unless watches are paused, and waits for a write where that is nothing.
     fn look(&mut self) -> Result<(), Fault> {
         let seen = self.environment.bell.count();
@@ -133,13 +144,11 @@ impl<R: Wait + Clock> Api for SharedServer<'_, R> {
     }
 
     fn list(&mut self, alloc: Global, kind: Kind) -> Answer {
-        let view = View::unfiltered(alloc, kind, None);
-        let options = ListOptions {
-            at: At::Present,
-            limit: 0,
-            after: None,
-        };
-        answer_of(alloc, self.seat.list(alloc, &view, &options))
+        self.listed(alloc, kind, At::Present, 0)
+    }
+
+    fn first_at(&mut self, alloc: Global, kind: Kind, revision: u64) -> Answer {
+        self.listed(alloc, kind, At::Exact(revision), 1)
     }
 
     fn open_watch(&mut self, alloc: Global, kind: Kind, revision: u64) -> Opened {

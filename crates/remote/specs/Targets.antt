@@ -9,3 +9,7 @@ list_target k = path_text (collection k None)
 -- after a revision, with bookmarks
 abbrev pub watch_target : Kind → ℕ → List ℕ
 watch_target k r = list_target k ++ (codes "?watch=true&allowWatchBookmarks=true&resourceVersion=" ++ decimal r)
+
+-- a page of one object, as it was at just this revision (Kubernetes API Concepts, Resource versions)
+abbrev pub first_target : Kind → ℕ → List ℕ
+first_target k r = list_target k ++ (codes "?limit=1&resourceVersion=" ++ (decimal r ++ codes "&resourceVersionMatch=Exact"))

@@ -41,9 +41,19 @@ pub trait Api {
     fn list(&mut self, alloc: Global, kind: Kind) -> Answer
         ensures { lists self.old kind result self.new };
 
+    /// Asks for the first object of a kind, of all namespaces, as it was at just this revision, and returns what became of it: a list of that
+    /// object, or of none. By it a server is known again.
+    fn first_at(&mut self, alloc: Global, kind: Kind, revision: u64) -> Answer;
+
     /// Asks for a watch of a kind, of all namespaces, after a revision. A watch that was open is left.
     fn open_watch(&mut self, alloc: Global, kind: Kind, revision: u64) -> Opened;
 
     /// Reads on in the watch that is open; it is cut where none is, or where the buffer has no room.
     fn more(&mut self, buf: &mut [u8]) -> More;
+
+    /// Is told that a list, or bytes of a watch, were read as such.
+    fn note_understood(&mut self) {}
+
+    /// Is told that what came in the place of a list, or of frames of a watch, is none.
+    fn note_not_understood(&mut self, _bytes: &[u8]) {}
 }

@@ -8,7 +8,7 @@ use crate::beginning::begin_watch;
 use crate::connect::Connect;
 use crate::limits::Limits;
 use crate::outgoing::outgoing;
-use crate::targets::{list_target, watch_target};
+use crate::targets::{first_target, list_target, watch_target};
 use chunked::{Reader, Watched};
 use client::outgoing::text_of;
 use client::{Answer, More, Outgoing, call, read_more};
@@ -110,6 +110,13 @@ impl<C: Connect + Drop> Api for Remote<C> {
     fn list(&mut self, alloc: Global, kind: Kind) -> Answer {
         match list_target(alloc, kind) {
             Ok(target) => self.send(alloc, get(target.as_str()), self.limits.list),
+            Err(_) => Answer::NotSent,
+        }
+    }
+
+    fn first_at(&mut self, alloc: Global, kind: Kind, revision: u64) -> Answer {
+        match first_target(alloc, kind, revision) {
+            Ok(target) => self.send(alloc, get(target.as_str()), self.limits.object),
             Err(_) => Answer::NotSent,
         }
     }

@@ -1,7 +1,7 @@
 //! Targets of requests.
 ghost use Rattle.std.specs.Prelude.{◌≡◌, ◌++◌, IfOk, string_bytes};
 ghost use Rattle.definitions.specs.Targets.{prefix};
-ghost use Rattle.remote.specs.Targets.{list_target, watch_target};
+ghost use Rattle.remote.specs.Targets.{first_target, list_target, watch_target};
 
 use definitions::kinds::{Group, Kind};
 use std::alloc::{AllocError, Global};
@@ -35,5 +35,18 @@ pub fn watch_target(alloc: Global, kind: Kind, revision: u64) -> Result<String, 
     let mut text = list_target(alloc, kind)?;
     text.push_str("?watch=true&allowWatchBookmarks=true&resourceVersion=")?;
     text.push_str(digits.as_str())?;
+    Ok(text)
+}
+
+/// Returns the target of the first object of a kind, of all namespaces, as it was at just this revision (Kubernetes API Concepts, Resource
+/// versions, Semantics for get and list).
+pub fn first_target(alloc: Global, kind: Kind, revision: u64) -> Result<String, AllocError>
+    ensures { IfOk result (λ t. string_bytes t ≡ first_target kind revision) }
+{
+    let number = revision.to_string(alloc)?;
+    let mut text = list_target(alloc, kind)?;
+    text.push_str("?limit=1&resourceVersion=")?;
+    text.push_str(number.as_str())?;
+    text.push_str("&resourceVersionMatch=Exact")?;
     Ok(text)
 }

@@ -123,6 +123,9 @@ impl<W: Write> Sink for Printer<W> {
         Ok(())
     }
 
+    /// Nothing was made of what was published, so that what is listed next is as good.
+    fn other_server(&mut self) {}
+
     fn goes_on(&mut self) -> Onward {
         if self.is_over || self.has_failed {
             Onward::Stop

@@ -1,0 +1,72 @@
+"""A server of which nothing is understood, or which fails, and what standard error says of it, once each."""
+import contextlib
+import json
+import socket
+import time
+
+from clients import Client
+from cutting import CuttingProxy
+from objects import replica_set, staying
+from programs import Ending, control, server
+from waiting import check, until
+
+REPLICAS = 2
+# Followers ask again after 0.8 seconds and more, all at once: what one was answered all were by then.
+ALL_ANSWERED_SECONDS = 0.3
+GARBAGE = b"\x00\x1b[31mno reply\xff\r\n"
+NODES = json.dumps({"kind": "NodeList", "apiVersion": "v1", "metadata": {"resourceVersion": "7", "continue": "x" * 100}, "items": []}).encode()
+SHOWN = 100
+
+
+def reply(status, body):
+    """Returns a reply of HTTP."""
+    return f"HTTP/1.1 {status}\r\nContent-Type: application/json\r\nContent-Length: {len(body)}\r\nConnection: close\r\n\r\n".encode() + body
+
+
+class Pretender(CuttingProxy):
+    """Answers each request with the same bytes, and relays connections once it is told to."""
+
+    def __init__(self, port):
+        self.answer_all = GARBAGE
+        super().__init__(port, seed=1, cuts_requests=False)
+        self.is_quiet = True
+
+    def relay(self, taken):
+        """Answers one request, or relays its connection."""
+        if self.answer_all is None:
+            return super().relay(taken)
+        with contextlib.suppress(OSError), taken:
+            if taken.recv(65536):
+                taken.sendall(self.answer_all)
+                taken.shutdown(socket.SHUT_WR)
+        return None
+
+
+def check_told(controlling, port, texts):
+    """Checks that the next lines of standard error say just this of a server, in any order: several followers speak."""
+    expected = sorted(f"kcp: the server at 127.0.0.1:{port} {it}\n".encode() for it in texts)
+    lines = sorted(controlling.next_line(controlling.errors) for _ in texts)
+    check(lines == expected, f"standard error has {lines!r}, not {expected!r}")
+
+
+def not_understood(program):
+    """What comes is no HTTP, then a failure, then a list of something else, and then it is a server's."""
+    serving = server(program)
+    pretender = Pretender(serving.port)
+    with Ending(serving, control(program, pretender.port)) as running:
+        controlling = running.programs[1]
+        for answer, texts in (
+            (GARBAGE, ["is not understood: \\x00\\x1b[31mno reply\\xff\\x0d\\x0a"]),
+            (reply("503 Service Unavailable", b"{}"), ["answers 503"]),
+            (reply("200 OK", NODES), ["answers again", f"is not understood: {NODES.decode()[:SHOWN]}"]),
+            (None, ["is understood again"]),
+        ):
+            pretender.answer_all = answer
+            check_told(controlling, pretender.port, texts)
+            time.sleep(ALL_ANSWERED_SECONDS)
+        client = Client(serving.port)
+        client.create("replicasets", replica_set("web", REPLICAS))
+        until(lambda: len(staying(client.present("pods"))) == REPLICAS, "the set has not got its pods")
+        check(controlling.errors.waiting.empty(), f"standard error says more: {controlling.errors.last!r}")
+        pretender.close()
+        return "garbage, a failure and another kind are told of once each, and that all is well again"

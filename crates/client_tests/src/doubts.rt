@@ -1,0 +1,208 @@
+//! How a follower knows a server again, after a watch that was cut.
+use crate::scenes::{
+    EMPTY, EXPIRED, LATER, LIST, SAME, SAME_LATER, Scene, UNTIL_NINE, first_unlike,
+};
+use crate::scripts::{First, Watch};
+use remote::Opened;
+
+/// The first object at revision 5, created at another moment; written at another revision; and none.
+const CREATED_ANEW: First<'static> = First {
+    code: 200,
+    body: "{\"kind\":\"ConfigMapList\",\"apiVersion\":\"v1\",\"metadata\":{\"resourceVersion\":\"5\"},\"items\":[{\"metadata\":{\"name\":\"a\",\"namespace\":\"b\",\"uid\":\"c\",\"creationTimestamp\":\"2026-01-01T00:00:00Z\",\"resourceVersion\":\"4\"}}]}",
+};
+
+const WRITTEN_LATER: First<'static> = First {
+    code: 200,
+    body: "{\"kind\":\"ConfigMapList\",\"apiVersion\":\"v1\",\"metadata\":{\"resourceVersion\":\"5\"},\"items\":[{\"metadata\":{\"name\":\"a\",\"namespace\":\"b\",\"uid\":\"c\",\"resourceVersion\":\"5\"}}]}",
+};
+
+const NONE: First<'static> = First {
+    code: 200,
+    body: "{\"kind\":\"ConfigMapList\",\"apiVersion\":\"v1\",\"metadata\":{\"resourceVersion\":\"5\"},\"items\":[]}",
+};
+
+/// What says nothing of it: an answer that is lost, refusals for now, a failure, and what is no list.
+const LOST: First<'static> = First {
+    code: 200,
+    body: "",
+};
+
+const BUSY: First<'static> = First {
+    code: 429,
+    body: "{}",
+};
+
+const FAILED: First<'static> = First {
+    code: 500,
+    body: "{}",
+};
+
+const NO_LIST: First<'static> = First {
+    code: 200,
+    body: "[]",
+};
+
+/// What says that the revision is not known there.
+const GONE: First<'static> = First {
+    code: 410,
+    body: "{}",
+};
+
+const FORBIDDEN: First<'static> = First {
+    code: 403,
+    body: "{}",
+};
+
+const TOO_NEW: First<'static> = First {
+    code: 504,
+    body: "{}",
+};
+
+/// Watches that expire, and that name a revision below the last one.
+const EXPIRES: Watch<'static> = Watch {
+    opened: Opened::Open,
+    pieces: &[EXPIRED],
+    ends: false,
+};
+
+const FALLS: Watch<'static> = Watch {
+    opened: Opened::Open,
+    pieces: &[
+        "{\"type\":\"BOOKMARK\",\"object\":{\"kind\":\"ConfigMap\",\"apiVersion\":\"v1\",",
+        "\"metadata\":{\"resourceVersion\":\"4\"}}}\n",
+    ],
+    ends: false,
+};
+
+const SCENES: [Scene; 10] = [
+    // another first object, or none, is another server's
+    Scene {
+        lists: &[LIST, LATER],
+        firsts: &[CREATED_ANEW],
+        watches: &[EMPTY],
+        refusals: 0,
+        most: usize::MAX,
+        asked: &[0, 5, 105, 0],
+        published: &[5, 9],
+        pauses: &[800, 1_600],
+        counts: (2, 1, 0),
+        told: (0, 1),
+    },
+    Scene {
+        lists: &[LIST, LATER],
+        firsts: &[WRITTEN_LATER],
+        watches: &[EMPTY],
+        refusals: 0,
+        most: usize::MAX,
+        asked: &[0, 5, 105, 0],
+        published: &[5, 9],
+        pauses: &[800, 1_600],
+        counts: (2, 1, 0),
+        told: (0, 1),
+    },
+    Scene {
+        lists: &[LIST, LATER],
+        firsts: &[NONE],
+        watches: &[EMPTY],
+        refusals: 0,
+        most: usize::MAX,
+        asked: &[0, 5, 105, 0],
+        published: &[5, 9],
+        pauses: &[800, 1_600],
+        counts: (2, 1, 0),
+        told: (0, 1),
+    },
+    // where the revision is not known there, a list is asked for
+    Scene {
+        lists: &[LIST, LATER],
+        firsts: &[GONE],
+        watches: &[EMPTY],
+        refusals: 0,
+        most: usize::MAX,
+        asked: &[0, 5, 105, 0],
+        published: &[5, 9],
+        pauses: &[800],
+        counts: (2, 1, 0),
+        told: (0, 0),
+    },
+    Scene {
+        lists: &[LIST, LATER],
+        firsts: &[FORBIDDEN],
+        watches: &[EMPTY],
+        refusals: 0,
+        most: usize::MAX,
+        asked: &[0, 5, 105, 0],
+        published: &[5, 9],
+        pauses: &[800],
+        counts: (2, 1, 0),
+        told: (0, 0),
+    },
+    Scene {
+        lists: &[LIST, LATER],
+        firsts: &[TOO_NEW],
+        watches: &[EMPTY],
+        refusals: 0,
+        most: usize::MAX,
+        asked: &[0, 5, 105, 0],
+        published: &[5, 9],
+        pauses: &[800],
+        counts: (2, 1, 0),
+        told: (0, 0),
+    },
+    Scene {
+        lists: &[LIST, LATER],
+        firsts: &[SAME_LATER],
+        watches: &[EMPTY],
+        refusals: 0,
+        most: usize::MAX,
+        asked: &[0, 5, 105, 0],
+        published: &[5, 9],
+        pauses: &[800],
+        counts: (2, 1, 0),
+        told: (0, 0),
+    },
+    // it is asked again until it is said
+    Scene {
+        lists: &[LIST],
+        firsts: &[LOST, BUSY, FAILED, NO_LIST, SAME],
+        watches: &[EMPTY, UNTIL_NINE],
+        refusals: 0,
+        most: usize::MAX,
+        asked: &[0, 5, 105, 105, 105, 105, 105, 5],
+        published: &[5, 9],
+        pauses: &[800, 1_600, 3_200, 6_400, 12_800],
+        counts: (1, 1, 1),
+        told: (1, 0),
+    },
+    // also after a list that was lost
+    Scene {
+        lists: &[LIST, "", LATER],
+        firsts: &[SAME],
+        watches: &[EXPIRES],
+        refusals: 0,
+        most: usize::MAX,
+        asked: &[0, 5, 0, 105, 0],
+        published: &[5, 9],
+        pauses: &[800, 1_600],
+        counts: (2, 1, 0),
+        told: (0, 0),
+    },
+    // a revision below the last one is another server's
+    Scene {
+        lists: &[LIST, LATER],
+        firsts: &[SAME],
+        watches: &[FALLS],
+        refusals: 0,
+        most: usize::MAX,
+        asked: &[0, 5, 105, 0],
+        published: &[5, 9],
+        pauses: &[800],
+        counts: (2, 1, 0),
+        told: (0, 1),
+    },
+];
+
+#[test]
+fn servers_are_known_again(rt: HostRuntime) {
+    assert_eq!(rt; first_unlike(rt.alloc(), &SCENES), None);
+}

@@ -1,0 +1,13 @@
+-- The list that a delta is.
+use Rattle.std.specs.Prelude.{Option, Some, None}
+use Rattle.controllers.specs.Reflectors as reflectors
+use Rattle.controllers.specs.Reflectors.{Delta, replace}
+use Rattle.following.specs.declared.recognizing.Listed.{Listed}
+
+abbrev pub listed_of : Listed → reflectors.Listed
+listed_of l = record { revision = l.revision; objects = l.objects.items }
+
+-- the list in whose place all was put, if that was done
+abbrev pub listed_in : Delta → Option reflectors.Listed
+listed_in (replace r os) = Some (record { revision = r; objects = os })
+listed_in d = None

@@ -1,0 +1,97 @@
+//! Whether what is published shows another server.
+ghost use Rattle.std.specs.Prelude.{◌≡◌, Some, map, option_map};
+ghost use Rattle.keys.specs.Keys.{key_of};
+ghost use Rattle.indexer.specs.Shifted.{shift_of};
+ghost use Rattle.following.specs.Recognized.{has_moved, is_created_again, is_elsewhere, is_same_name, shows_other_in, shows_other_server, uid_in, uid_left};
+
+use crate::sameness::{creation, is_same_text};
+use indexer::Shift;
+use keys::Key;
+use reflector::SharedObject;
+
+/// Returns whether an object has the uid of another one, and was created at another moment.
+fn is_created_again(old: &Option<SharedObject>, new: &Option<SharedObject>) -> bool
+    ensures { result ≡ is_created_again (option_map (λ o. o.value) old.now) (option_map (λ o. o.value) new.now) }
+{
+    match (old, new) {
+        (Some(old), Some(new)) => {
+            let (old, new) = (old.object(), new.object());
+            is_same_text(old.uid(), new.uid()) && !is_same_text(creation(old), creation(new))
+        }
+        _ => false,
+    }
+}
+
+/// Returns the uid of an object that is there.
+fn uid_in(object: &Option<SharedObject>) -> Option<&str>
+    ensures { option_map (λ s. s.now) result ≡ uid_in (option_map (λ o. o.value) object.now) }
+{
+    match object {
+        Some(object) => object.object().uid(),
+        None => None,
+    }
+}
+
+/// Returns the uid that a change leaves no longer where it was.
+fn uid_left(shift: &Shift) -> Option<&str>
+    ensures { option_map (λ s. s.now) result ≡ uid_left (shift_of shift.now) }
+{
+    let old = uid_in(&shift.old);
+    if is_same_text(old, uid_in(&shift.new)) {
+        None
+    } else {
+        old
+    }
+}
+
+/// Returns whether two keys have one namespace and one name.
+fn is_same_name(one: &Key, other: &Key) -> bool
+    ensures { result ≡ is_same_name (key_of one.now) (key_of other.now) }
+{
+    one.namespace.as_str() == other.namespace.as_str() && one.name.as_str() == other.name.as_str()
+}
+
+/// Returns whether a change puts this uid where another name is.
+fn is_elsewhere(uid: &str, key: &Key, shift: &Shift) -> bool
+    ensures { result ≡ is_elsewhere uid.now (key_of key.now) (shift_of shift.now) }
+{
+    is_same_text(Some(uid), uid_in(&shift.new)) && !is_same_name(key, &shift.key)
+}
+
+/// Returns whether one of the changes puts this uid where another name is.
+fn has_moved(uid: &str, key: &Key, shifts: &[Shift]) -> bool
+    ensures { result ≡ has_moved (Some uid.now) (key_of key.now) (map shift_of shifts.now) }
+{
+    for shift in shifts {
+        if is_elsewhere(uid, key, shift) {
+            return true;
+        }
+    }
+    false
+}
+
+/// Returns whether a change shows another server, beside the other changes of its publish.
+fn shows_other_in(shifts: &[Shift], shift: &Shift) -> bool
+    ensures { result ≡ shows_other_in (map shift_of shifts.now) (shift_of shift.now) }
+{
+    if is_created_again(&shift.old, &shift.new) {
+        return true;
+    }
+    match uid_left(shift) {
+        Some(uid) => has_moved(uid, &shift.key, shifts),
+        None => false,
+    }
+}
+
+/// Returns whether the changes of a publish show that another server gave what is now there: an object has the uid that it had, and was created
+/// at another moment; or the uid of an object that is gone is that of one of another name. It takes no memory.
+pub fn shows_other_server(shifts: &[Shift]) -> bool
+    ensures { result ≡ shows_other_server (map shift_of shifts.now) }
+{
+    for shift in shifts {
+        if shows_other_in(shifts, shift) {
+            return true;
+        }
+    }
+    false
+}

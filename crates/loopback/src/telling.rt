@@ -1,0 +1,108 @@
+//! What is said of a server on standard error.
+use crate::escaped::escaped;
+use crate::reach::Reach;
+use crate::trouble::Trouble;
+use std::alloc::{AllocError, Global};
+
+/// The first status code by which a server says that it has failed.
+const FIRST_FAILURE: u16 = 500;
+
+/// How many bytes are shown of what is not understood.
+const MOST_SHOWN: usize = 100;
+
+/// Says on standard error what keeps a server from answering, once, and that it is over, once.
+#[derive(Drop)]
+pub struct Teller<'a, R> {
+    rt: &'a R,
+    alloc: Global,
+    port: u16,
+    reach: &'a Reach,
+}
+
+/// Returns the first of some bytes, and then others, as a terminal may be shown them.
+fn first_shown(alloc: Global, begun: &[u8], bytes: &[u8]) -> Result<String, AllocError> {
+    let more = bytes
+        .get(..MOST_SHOWN.saturating_sub(begun.len()))
+        .unwrap_or(bytes);
+    let mut text = escaped(alloc, begun)?;
+    text.push_str(escaped(alloc, more)?.as_str())?;
+    Ok(text)
+}
+
+impl<'a, R> Teller<'a, R> {
+    /// Returns what speaks of the server of a port.
+    pub(crate) fn new(rt: &'a R, alloc: Global, port: u16, reach: &'a Reach) -> Teller<'a, R> {
+        Teller {
+            rt,
+            alloc,
+            port,
+            reach,
+        }
+    }
+}
+
+impl<R: Eprint> Teller<'_, R> {
+    /// Says something of the server on standard error.
+    fn say(&self, words: &str) {
+        let _ = eprintln!(self.rt; "kcp: the server at 127.0.0.1:{} {words}", self.port);
+    }
+
+    /// Notes a trouble with the server, and says it if it is news.
+    pub(crate) fn note(&self, trouble: Trouble) {
+        if !self.reach.is_news(trouble) {
+            return;
+        }
+        match trouble {
+            Trouble::Unreachable => self.say("cannot be reached"),
+            Trouble::NoDescriptor => {
+                self.say("cannot be reached, as this program has no descriptor left")
+            }
+            Trouble::NoMemory => self.say("cannot be reached, as this program has no memory left"),
+            Trouble::Unreadable | Trouble::NoReply => self.say("is not understood"),
+            Trouble::Fails(code) => {
+                let _ = eprintln!(self.rt;
+                    "kcp: the server at 127.0.0.1:{} answers {code}",
+                    self.port
+                );
+            }
+        }
+    }
+
+    /// Notes that what came is not understood, and says how it begins if that is news: with some bytes, and then others.
+    pub(crate) fn note_not_understood(&self, trouble: Trouble, begun: &[u8], bytes: &[u8]) {
+        match first_shown(self.alloc, begun, bytes) {
+            Ok(text) => {
+                if self.reach.is_news(trouble) {
+                    let _ = eprintln!(self.rt;
+                        "kcp: the server at 127.0.0.1:{} is not understood: {text}",
+                        self.port
+                    );
+                }
+            }
+            Err(_) => self.note(trouble),
+        }
+    }
+
+    /// Notes that there is a connection, and what reads it.
+    pub(crate) fn note_ready(&self) {
+        if self.reach.is_there_again() {
+            self.say("is there again");
+        }
+    }
+
+    /// Notes a status code that the server answered with: from 500 on it says that the server has failed (RFC 9110, Server Error 5xx).
+    pub(crate) fn note_answered(&self, code: u16) {
+        if code >= FIRST_FAILURE {
+            self.note(Trouble::Fails(code));
+        } else if self.reach.answers_again() {
+            self.say("answers again");
+        }
+    }
+
+    /// Notes that what the server sent was read as what it is to be.
+    pub(crate) fn note_understood(&self) {
+        if self.reach.is_understood_again() {
+            self.say("is understood again");
+        }
+    }
+}
