@@ -16,7 +16,7 @@ const TICK_MILLISECONDS: u64 = 5;
 /// How many milliseconds lie between two looks for expectations that aged out: each goes over all that is expected.
 const LOOK_MILLISECONDS: u64 = 1_000;
 
-/// What lets time pass at the board: no more than passes on the clock. It also wakes the keys of ReplicaSets that wait for what is never
+/// What lets time pass at the board: no more than passes on the clock, of which a fall is no time (`clocks::Stopwatch`). It also wakes the keys of ReplicaSets that wait for what is never
 /// seen, as a pod whose create was lost on the way: nothing else adds them when their expectations age out.
 #[derive(Drop)]
 pub struct Ticker<'a, R> {
@@ -24,7 +24,7 @@ pub struct Ticker<'a, R> {
     desk: &'a ControlDesk,
     pass: WorkPass,
     signals: &'a Signals,
-    /// So many milliseconds of the clock were let pass.
+    /// So many milliseconds were let pass: it is this moment at the board.
     passed: u64,
     /// Until this moment of the board, those whose expectations aged out are woken.
     woken: u64,
@@ -60,8 +60,8 @@ impl<'a, R: Wait + Clock> Ticker<'a, R> {
         }
     }
 
-    /// Lets so many milliseconds pass as a moment of the clock is later than all before it: none where the clock fell back. The error is
-    /// running out of memory: then none pass, and they do at the next tick.
+    /// Lets so many milliseconds pass as the clock went on since the tick before, by how long it went on in all. The error is running out of
+    /// memory: then none pass, and they do at the next tick.
     fn tick(&mut self, moment: u64) -> Result<(), AllocError>
         ensures ok { OnOk result (IsCall (known self.old.pass)
             (steps.changing (steps.tick (moment - self.old.passed))) Nothing (known self.new.pass)) }
@@ -118,7 +118,7 @@ impl<'a, R: Wait + Clock> Ticker<'a, R> {
 
     /// Lets time pass as the clock shows it, until all is to stop.
     pub fn run(&mut self) {
-        let wall = Wall::new(self.rt, &self.signals.stop);
+        let mut wall = Wall::new(self.rt, &self.signals.stop);
         for _ in self.rt.forever() {
             if self.signals.stop.rest(self.rt, TICK_MILLISECONDS) {
                 return;
