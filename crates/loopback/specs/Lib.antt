@@ -5,3 +5,4 @@ pub mod Threads
 pub mod Troubles
 pub mod Escaped
 pub mod Heard
+pub mod Others

@@ -1,4 +1,7 @@
 //! A server of another process, whose end is seen.
+ghost use Rattle.std.specs.Prelude.{◌≡◌};
+ghost use Rattle.loopback.specs.Others.{api_of};
+
 use crate::connecting::Connector;
 use crate::trouble::Trouble;
 use client::{Answer, More};
@@ -28,7 +31,9 @@ impl<'a, R, A: Api + Drop> OtherServer<'a, R, A> {
 
 impl<R: Net<Stream = TcpStream> + Eprint, A: Api + Drop> OtherServer<'_, R, A> {
     /// Returns an answer, after a look at the server where it broke off, and a note of the code that it was answered with.
-    fn looked_after(&self, answer: Answer) -> Answer {
+    fn looked_after(&self, answer: Answer) -> Answer
+        ensures { result ≡ answer }
+    {
         match &answer {
             Answer::Lost => self.connector.look(),
             Answer::Replied(reply) => self.connector.teller().note_answered(reply.code),
@@ -39,6 +44,10 @@ impl<R: Net<Stream = TcpStream> + Eprint, A: Api + Drop> OtherServer<'_, R, A> {
 }
 
 impl<R: Net<Stream = TcpStream> + Eprint, A: Api + Drop> Api for OtherServer<'_, R, A> {
+    ghost answers = { λ before request answer after. A.answers (api_of before) request answer (api_of after) };
+
+    ghost lists = { λ before kind answer after. A.lists (api_of before) kind answer (api_of after) };
+
     fn call(&mut self, alloc: Global, request: &Request) -> Answer {
         let answer = self.api.call(alloc, request);
         self.looked_after(answer)

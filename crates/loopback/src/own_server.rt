@@ -105,6 +105,8 @@ impl<'a, R: Wait + Clock, C: Connect + Drop> OwnServer<'a, R, C> {
 }
 
 impl<R: Wait + Clock, C: Connect + Drop> Api for OwnServer<'_, R, C> {
+    ghost answers = { λ before request answer after. Asks (seat_at before) request answer (seat_at after) };
+
     fn call(&mut self, alloc: Global, request: &Request) -> Answer {
         self.ask(alloc, request)
     }

@@ -159,7 +159,12 @@ fn a_cut_letter_leaves_the_journal(rt: HostRuntime) -> Result<(), AllocError> {
         workers: 1,
     };
     let steps = cut_letter(rt.alloc())?;
-    let is_told = is_told(rt.alloc(), config, steps.as_slice(), "a 2\nb 3\ncompacted 3\n")?;
+    let is_told = is_told(
+        rt.alloc(),
+        config,
+        steps.as_slice(),
+        "a 2\nb 3\ncompacted 3\n",
+    )?;
     assert!(rt; is_told);
     Ok(())
 }
