@@ -42,7 +42,7 @@ pub standing_answered : (w : ClusterState) (t : List ℕ) (s : SessionState) (j 
 unfolding step
 standing_answered w t s j after added is = subst Stands (λ i. record w { session = sym after i; journal = sym added i }) (stood w (request t) is)
 
-pub standing_compacted : (w : ClusterState) (r : ℕ) (s : SessionState) (j : History) → s ≡ state_after w.session (lines.compact r) → j ≡ w.journal → Stands w
+pub standing_compacted : (w : ClusterState) (r : ℕ) (s : SessionState) (j : History) → s ≡ state_after w.session (lines.compact r) → j ≡ journal_after w.session w.journal (lines.compact r) → Stands w
     → Stands (record w { session = s; journal = j })
 unfolding step
 standing_compacted w r s j after same is = subst Stands (λ i. record w { session = sym after i; journal = sym same i }) (stood w (compact r) is)

@@ -5,7 +5,7 @@ use Rattle.std.proofs.Math.Seq.{take-length}
 use Rattle.serde_json.specs.Data.{Data}
 use Rattle.definitions.specs.declared.kinds.Kind.{Kind}
 use Rattle.definitions.specs.History as history
-use Rattle.definitions.specs.History.{History, write, writes, present, state, list, unfiltered, viewed, after_all, last_of}
+use Rattle.definitions.specs.History.{History, write, present, state, list, unfiltered}
 use Rattle.definitions.specs.Keys.{Key}
 use Rattle.definitions.specs.Metadata.{version}
 use Rattle.definitions.specs.ObjectRequests.{Request}
@@ -25,7 +25,8 @@ use Rattle.steps.specs.Steps.{step_of}
 use Rattle.steps.specs.declared.steps.Step.{Step}
 use Rattle.cluster.specs.declared.stopped.Stopped.{Stopped}
 use Rattle.cluster.specs.Headline.{ShowsLists, RevisionsRise, ReplacesNamedVersion, ReplacesNamedVersions}
-use Rattle.recorded_sessions.specs.RecordedStates.{write_in, journal_after}
+use Rattle.recorded_sessions.specs.RecordedStates.{entry_in, with_entry, journal_after}
+use Rattle.recorded_sessions.proofs.RecordedWrites.{made}
 use Rattle.cluster.specs.Standing.{StandsFor, Stands}
 use Rattle.cluster.specs.ClusterStates.{ClusterState, published, step, run}
 use Rattle.cluster.proofs.Taking.{run_last}
@@ -38,13 +39,13 @@ lists_by : (w : ClusterState) (c : Cluster) (k : Kind) → StandsFor w c → (le
 lists_by w c k is shows =
     let same : published k w ≡ (clusters.follower k c).informer.published = ap (λ (f : Follower). f.informer.published) (same_follower w c is k) in
     ap (λ (p : Snapshot). p.members) same ∙ shows
-    ∙ ap₂ (λ r ws. viewed (unfiltered k None) (after_all [] (take (r - 1) ws))) (sym (ap (λ (p : Snapshot). p.revision) same)) (sym is.journal)
+    ∙ ap₂ (λ r h. list h (unfiltered k None) r) (sym (ap (λ (p : Snapshot). p.revision) same)) (sym is.journal)
 
 past_by : (w : ClusterState) (c : Cluster) (k : Kind) → StandsFor w c → (clusters.follower k c).informer.published.revision ≤ present (clusters.history c)
     → (published k w).revision ≤ present w.journal
 past_by w c k is past =
     subst (λ (f : Follower). f.informer.published.revision ≤ present w.journal) (sym (same_follower w c is k))
-    (subst (λ (ws : List history.Write). (clusters.follower k c).informer.published.revision ≤ length ws + 1) (sym is.journal) past)
+    (subst (λ h. (clusters.follower k c).informer.published.revision ≤ present h) (sym is.journal) past)
 
 pub shown : (w : ClusterState) → Stands w → ShowsLists w
 unfolding Stands
@@ -88,16 +89,6 @@ rise_taken (suc n) w (s ∷ ss) k none is =
 
 -- ---- named versions
 
-names_by : (h g : History) (k : Key) (named : List ℕ) (q : Request) → writes h ≡ writes g → NamesVersion h k named q → NamesVersion g k named q
-names_by h g k named q same (update d o read names) = update d o read names
-names_by h g k named q same (status d o read names) = status d o read names
-names_by h g k named q same (patch d existing o there read names) =
-    patch d existing o (sym (ap (λ ws. last_of None k (take (length ws + 1 - 1) ws)) same) ∙ there) read names
-names_by h g k named q same (delete o names) = delete o names
-
-state_by : (h g : History) (k : Key) (existing : Data) → writes h ≡ writes g → state h (present h) k ≡ Some existing → state g (present g) k ≡ Some existing
-state_by h g k existing same there = sym (ap (λ ws. last_of None k (take (length ws + 1 - 1) ws)) same) ∙ there
-
 -- what a step that asks a request adds to the journal
 nothing_added : (h : History) (w : history.Write) → h ≡ h ++ write w ∷ [] → ⊥
 nothing_added h w is = let long = ap length is in omega (arith, long, length-append h (write w ∷ []))
@@ -109,13 +100,8 @@ written_is : (h : History) (e : Option history.Write) (w : history.Write) → wi
 written_is h None w is = absurd (nothing_added h w is)
 written_is h (Some x) w is = same_last x w (append_cancel_left h (write x ∷ []) (write w ∷ []) is)
 
-in_of : (e : Option history.Write) → write_in (of_write e) ≡ e
-in_of None = refl
-in_of (Some w) = refl
-
-asked_effect : (w : ClusterState) (t : List ℕ) (q : Request) → Asks t q → write_in (effect_on w.session (line_of t)) ≡ write_of (accepted w.session q)
-asked_effect w t q a =
-    ap (λ l. write_in (effect_on w.session l)) a.3 ∙ ap (λ r. write_in (of_write (written_by (reply_for w.session r)))) a.4 ∙ in_of (write_of (accepted w.session q))
+asked_effect : (w : ClusterState) (t : List ℕ) (q : Request) → Asks t q → effect_on w.session (line_of t) ≡ of_write (write_of (accepted w.session q))
+asked_effect w t q a = ap (effect_on w.session) a.3 ∙ ap (λ r. of_write (written_by (reply_for w.session r))) a.4
 
 abbrev pub Replaced : History → Key → List ℕ → history.Write → Type 0
 Replaced h k named w = (existing : Data) × (w.key ≡ k) × (state h (present h) k ≡ Some existing) × (version existing ≡ Some named)
@@ -128,14 +114,14 @@ request_replaced w q k named x (c, is, followed) names adds =
     let h = clusters.history c in
     let o = accept q h c.session.moment in
     let wrote : write_of o ≡ Some x = written_is w.journal (write_of o) x (ap (λ a. with_write w.journal (write_of a)) (sym (same_outcome w.session c.session is.session q)) ∙ adds) in
-    let by_law : ReplacesVersion k named h o = replaces h k named q c.session.moment (names_by w.journal h k named q is.journal names) in
+    let by_law : ReplacesVersion k named h o = replaces h k named q c.session.moment (subst (λ j. NamesVersion j k named q) is.journal names) in
     let there : Replaced h k named x = subst (λ e. IfSome e (Replaced h k named)) wrote by_law in
-    (there.0, there.1, state_by h w.journal k there.0 (sym is.journal) there.2, there.3)
+    subst (λ j. Replaced j k named x) (sym is.journal) there
 
 -- a line that asks one
 pub replaced : (w : ClusterState) (t : List ℕ) (q : Request) (k : Key) (named : List ℕ) (x : history.Write) → Stands w → Asks t q → NamesVersion w.journal k named q
     → journal_after w.session w.journal (line_of t) ≡ w.journal ++ write x ∷ [] → Replaced w.journal k named x
-replaced w t q k named x is a names adds = request_replaced w q k named x is names (sym (ap (with_write w.journal) (asked_effect w t q a)) ∙ adds)
+replaced w t q k named x is a names adds = request_replaced w q k named x is names (sym (ap (λ e. with_entry w.journal (entry_in e)) (asked_effect w t q a) ∙ made w.journal (write_of (accepted w.session q))) ∙ adds)
 
 pub replaced_after : {X E : Type 0} (w v : ClusterState) (s : ClusterStep) (r : Result X E) → Stands w → OnOk r (v ≡ (step w s).cluster) → OnErr r (v ≡ w)
     → ReplacesNamedVersion s w.journal v.journal

@@ -1,14 +1,13 @@
 -- A request that workers make, answered and written: what the cluster stands for goes on.
 use Rattle.std.proofs.Common.{◌≡◌, refl, sym, ap, subst, ◌∙◌, ℕ, List, [], ◌∷◌, ◌++◌, Option, Some, None, IfSome, Result, Ok, Err, OnOk, OnErr, false}
 use Rattle.definitions.specs.declared.kinds.Kind.{Kind}
-use Rattle.definitions.specs.History.{History, Write, write, writes}
+use Rattle.definitions.specs.History.{History, Write}
 use Rattle.definitions.specs.ObjectRequests.{Request}
 use Rattle.definitions.specs.Reached.{CanBeRead, asks}
 use Rattle.definitions.specs.Verbs.{Answer, accept, answered, history_after, overflows, with_write, write_of}
 use Rattle.answer_laws.specs.AnswerLaws.{IsOfObject, IsReadBack}
 use Rattle.answer_laws.proofs.ReadBacks.{answers_back}
 use Rattle.laws.proofs.Limits.{room}
-use Rattle.laws.proofs.Past.{writes-append}
 use Rattle.laws.proofs.Runs.{Begins, nothing, begins-write}
 use Rattle.laws.proofs.ServerHistories.{accepted_holds}
 use Rattle.server_state.specs.Servers.{Server, IsServerAfter, after_writing}
@@ -44,10 +43,6 @@ same_server : (s : SessionState) (o : Option Write) → changed_by s (of_write o
 same_server s None = refl
 same_server s (Some w) = refl
 
-same_writes : (j h : History) (o : Option Write) → writes j ≡ writes h → writes (with_write j o) ≡ writes (with_write h o)
-same_writes j h None same = same
-same_writes j h (Some w) same = writes-append j (write w ∷ []) ∙ ap (λ ws. ws ++ w ∷ []) same ∙ sym (writes-append h (write w ∷ []))
-
 pub stands_after : (w : ClusterState) (c : Cluster) (q : Request) (o : Option Write) → write_of (accepted w.session q) ≡ o → StandsFor w c → StandsFor (written o w) (after q c)
 stands_after w c q o writes_this is =
     let same : accepted w.session q ≡ accept q (history c) c.session.moment = same_outcome w.session c.session is.session q in
@@ -56,7 +51,7 @@ stands_after w c q o writes_this is =
     subst (λ z. IsServerAfter c.session.window (after_writing w.session.server z) (after q c).session.history) (sym this) (accepted_holds c.session.window w.session.server (history c) q c.session.moment is.session.0).1 in
     record {
       session = subst (λ (s : SessionState). sessions.Follows s (after q c).session) (sym (same_server w.session o)) (server, is.session.1);
-      journal = same_writes w.journal (history c) o is.journal ∙ ap (λ z. writes (with_write (history c) z)) this;
+      journal = ap (λ j. with_write j o) is.journal ∙ ap (with_write (history c)) this;
       config_maps = is.config_maps;
       pods = is.pods;
       replica_sets = is.replica_sets;

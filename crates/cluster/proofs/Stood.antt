@@ -14,7 +14,7 @@ use Rattle.simulation_laws.proofs.Runs.{keeps, runs_followed}
 use Rattle.simulation_laws.proofs.Serving.{servers_serve}
 use Rattle.cluster.specs.Standing.{StandsFor, Stands}
 use Rattle.cluster.specs.ClusterStates.{ClusterState, opened, answered_line, follower, with_follower, step, run}
-use Rattle.recorded_sessions.proofs.RecordedWrites.{line_recorded, compacted}
+use Rattle.recorded_sessions.proofs.RecordedWrites.{line_recorded}
 
 -- ---- one step
 
@@ -56,7 +56,7 @@ unfolding step
 after_compaction w c r is =
     record {
       session = follows_line w.session c.session is.session (lines.compact r);
-      journal = compacted w.journal c.session r is.journal;
+      journal = line_recorded w.journal w.session c.session (lines.compact r) is.session is.journal;
       config_maps = is.config_maps;
       pods = is.pods;
       replica_sets = is.replica_sets;

@@ -17,7 +17,7 @@ use Rattle.simulation.specs.Followers.{Follower}
 use Rattle.simulation.specs.Moves.{Moved, Outcome, replied, restarted, answers_by, move_by}
 use Rattle.recorded_sessions.specs.RecordedStates.{journal_after}
 
--- a session, all that it wrote, the oldest first, and what follows each kind
+-- a session, all that has happened at it, the oldest first, and what follows each kind
 pub record ClusterState : Type 0 where
   pub session : SessionState
   pub journal : History
@@ -76,18 +76,14 @@ pub record Stepped : Type 0 where
 abbrev pub moved_in : Kind → ClusterState → Moved → Stepped
 moved_in k w m = record { cluster = with_follower k m.follower w; outcome = m.outcome }
 
--- a line is answered, and what it writes is written
+-- a line is answered, and what it changes is changed
 abbrev pub answered_line : ClusterState → lines.Line → Stepped
 answered_line w l =
     record { cluster = record w { session = state_after w.session l; journal = journal_after w.session w.journal l }; outcome = replied (reply_to w.session l) }
 
--- what happened up to a revision is compacted, which writes nothing
-abbrev pub compacted_to : ClusterState → ℕ → Stepped
-compacted_to w r = record { cluster = record w { session = state_after w.session (lines.compact r) }; outcome = replied (reply_to w.session (lines.compact r)) }
-
 unfoldable pub step : ClusterState → ClusterStep → Stepped
 step w (request t) = answered_line w (line_of t)
-step w (compact r) = compacted_to w r
+step w (compact r) = answered_line w (lines.compact r)
 step w (moves k m) = moved_in k w (move_by k (answers_by k w.session.server) (follower k w) m)
 step w restart = record { cluster = with_new_followers w.session w.journal; outcome = restarted }
 

@@ -1,4 +1,4 @@
--- What holds of every cluster, by the journal of all writes.
+-- What holds of every cluster, by the journal of all that has happened at it.
 use Rattle.std.specs.Prelude.{◌≡◌, ◌≤◌, ℕ, List, [], ◌∷◌, ◌++◌, Some, None}
 use Rattle.serde_json.specs.Data.{Data}
 use Rattle.definitions.specs.declared.kinds.Kind.{Kind}

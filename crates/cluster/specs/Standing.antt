@@ -1,16 +1,14 @@
 -- What a stored cluster stands for.
 use Rattle.std.specs.Prelude.{◌≡◌}
-use Rattle.definitions.specs.History.{writes}
 use Rattle.session.specs.Laws as sessions
 use Rattle.simulation.specs.Clusters.{Cluster, history}
 use Rattle.simulation_laws.specs.ClusterLaws.{IsFollowed}
 use Rattle.cluster.specs.ClusterStates.{ClusterState}
 
--- its server stands for all that has happened in the cluster, of which its journal has the writes, and what follows each kind is the
--- same
+-- its server stands for all that has happened in the cluster, which its journal has, and what follows each kind is the same
 pub record StandsFor (w : ClusterState) (c : Cluster) : Type 0 where
   pub session : sessions.Follows w.session c.session
-  pub journal : writes w.journal ≡ writes (history c)
+  pub journal : w.journal ≡ history c
   pub config_maps : w.config_maps ≡ c.config_maps
   pub pods : w.pods ≡ c.pods
   pub replica_sets : w.replica_sets ≡ c.replica_sets

@@ -3,13 +3,12 @@ use crate::stopped::Stopped;
 use definitions::kinds::Kind;
 use followers::{ClusterOutcome, Follower};
 use indexer::Indexed;
-use recorded_sessions::RecordedSession;
-use revisions::Journal;
+use recorded_sessions::{Entry, RecordedSession};
 use std::alloc::{AllocError, Global};
 use std::marker::Model;
 use steps::{Move, Step};
 
-/// A server with the journal of all writes, and what follows each kind of it.
+/// A server with the journal of all that has happened at it, and what follows each kind of it.
 #[derive(Drop)]
 pub struct Cluster {
     pub(crate) recorded: RecordedSession,
@@ -48,12 +47,13 @@ impl Model for Cluster {
 
 impl Cluster {
     ghost use Rattle.std.specs.Prelude.{◌≡◌, ◌<◌, IfOk, IfErr, OnOk, OnErr, [], ◌∷◌, length, map, take};
-    ghost use Rattle.line_protocol.specs.Lines.{line_of};
+    ghost use Rattle.line_protocol.specs.Lines.{line_of, compact};
+    ghost use Rattle.recorded_sessions.specs.Entries.{entry_of};
     ghost use Rattle.simulation.specs.Moves.{answers_by, move_by};
     ghost use Rattle.followers.specs.Outcomes.{outcome_of};
     ghost use Rattle.steps.specs.Steps.{move_of, step_of};
     ghost use Rattle.cluster.specs.Headline.{ShowsLists, RevisionsRise, ReplacesNamedVersion, ReplacesNamedVersions};
-    ghost use Rattle.cluster.specs.ClusterStates.{opened, published, moved_in, answered_line, compacted_to, with_new_followers, follower, step, run};
+    ghost use Rattle.cluster.specs.ClusterStates.{opened, published, moved_in, answered_line, with_new_followers, follower, step, run};
 
     /// Returns the opening cluster: nothing is there, and the server's windows have this size. The error is running out of memory.
     pub fn open(alloc: Global, window: usize) -> Result<Cluster, AllocError>
@@ -68,9 +68,9 @@ impl Cluster {
         })
     }
 
-    /// Returns the journal of all writes, which the server itself does not keep.
-    pub fn journal(&self) -> &Journal
-        ensures { result.now ≡ self.now.journal }
+    /// Returns the journal, which the server itself does not keep: the writes and the compactions, the oldest first. It takes no memory.
+    pub fn journal(&self) -> &[Entry]
+        ensures { map entry_of result.now ≡ self.now.journal }
     {
         self.recorded.journal()
     }
@@ -106,8 +106,8 @@ impl Cluster {
 
     /// Compacts up to a revision. The error is running out of memory, and changes nothing.
     fn compact(&mut self, alloc: Global, revision: u64) -> Result<ClusterOutcome, AllocError>
-        ensures after { OnOk result (self.new ≡ (compacted_to self.old revision).cluster) }
-        ensures outcome { IfOk result (λ o. outcome_of o ≡ (compacted_to self.old revision).outcome) }
+        ensures after { OnOk result (self.new ≡ (answered_line self.old (compact revision)).cluster) }
+        ensures outcome { IfOk result (λ o. outcome_of o ≡ (answered_line self.old (compact revision)).outcome) }
         ensures err { OnErr result (self.new ≡ self.old) }
     {
         let reply = self.recorded.compact(alloc, revision)?;

@@ -1,1 +1,2 @@
 pub mod RecordedStates
+pub mod Entries

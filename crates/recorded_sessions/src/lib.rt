@@ -1,6 +1,9 @@
-//! Sessions whose writes are recorded: what a simulated cluster has for a server, with the journal of all that it wrote.
+//! Sessions of which all that happens is recorded: what a simulated cluster has for a server, with the journal of its writes and
+//! compactions.
 #![tactic(auto)]
 
+pub mod entries;
 pub mod recorded;
 
+pub use entries::Entry;
 pub use recorded::RecordedSession;

@@ -1,54 +1,53 @@
-//! Sessions whose writes are recorded.
-ghost use Rattle.std.specs.Prelude.{◌≡◌, IfOk};
-ghost use Rattle.meta.specs.Writes.{write_of};
-
+//! Sessions of which all that happens is recorded.
+use crate::entries::{Entry, happening};
 use desk::Server;
 use keys::Fault;
 use meta::Write;
 use reply::Reply;
 use requests::Request;
-use revisions::Journal;
 use session::{Effect, Prepared, Session};
 use std::alloc::{AllocError, Global};
 use std::marker::Model;
 
-/// A session, and the journal of all that it wrote.
+/// A session, and the journal of all that has happened at it.
 #[derive(Drop)]
 pub struct RecordedSession {
     session: Session,
-    journal: Journal,
+    journal: Vec<Entry>,
 }
 
 impl Model for RecordedSession {
+    ghost use Rattle.std.specs.Prelude.{map};
+    ghost use Rattle.recorded_sessions.specs.Entries.{entry_of};
     ghost use Rattle.recorded_sessions.specs.RecordedStates.{RecordedState, coded_recorded};
 
     ghost Value = { RecordedState };
 
     ghost coded = { coded_recorded };
 
-    ghost view = { λ s. record { session = s.session; journal = s.journal } };
+    ghost view = { λ s. record { session = s.session; journal = map entry_of s.journal.items } };
 }
 
 impl RecordedSession {
-    ghost use Rattle.std.specs.Prelude.{◌≡◌, IfOk, OnOk, OnErr, Some, false, option_map};
+    ghost use Rattle.std.specs.Prelude.{◌≡◌, IfOk, OnOk, OnErr, map, option_map};
     ghost use Rattle.answers.specs.Serves.{Serves};
-    ghost use Rattle.definitions.specs.Verbs.{with_write, overflows};
+    ghost use Rattle.definitions.specs.Verbs.{with_write};
     ghost use Rattle.meta.specs.Writes.{write_of};
     ghost use Rattle.line_protocol.specs.Lines as lines;
     ghost use Rattle.line_protocol.specs.Lines.{line_of};
     ghost use Rattle.session.specs.Effects.{effect_of};
-    ghost use Rattle.session.specs.SessionStates as sessions;
     ghost use Rattle.session.specs.SessionStates.{HasRoom, accepted, changed_by, of_write, reply_to, state_after};
     ghost use Rattle.requests.specs.Requests.{request_of};
-    ghost use Rattle.recorded_sessions.specs.RecordedStates.{begun, write_in, journal_after};
+    ghost use Rattle.recorded_sessions.specs.Entries.{entry_of};
+    ghost use Rattle.recorded_sessions.specs.RecordedStates.{begun, entry_in, with_entry, journal_after};
 
-    /// Returns a session that has written nothing, whose windows have this size. The error is running out of memory.
+    /// Returns a session at which nothing has happened, whose windows have this size. The error is running out of memory.
     pub fn new(alloc: Global, window: usize) -> Result<RecordedSession, AllocError>
         ensures { IfOk result (λ s. s ≡ begun window) }
     {
         Ok(RecordedSession {
             session: Session::new(alloc, window)?,
-            journal: Journal::new(alloc),
+            journal: Vec::new(alloc),
         })
     }
 
@@ -59,45 +58,33 @@ impl RecordedSession {
         self.session.server()
     }
 
-    /// Returns the journal.
-    pub fn journal(&self) -> &Journal
-        ensures { result.now ≡ self.now.journal }
+    /// Returns the journal: the writes and the compactions, the oldest first. It takes no memory.
+    pub fn journal(&self) -> &[Entry]
+        ensures { map entry_of result.now ≡ self.now.journal }
     {
-        &self.journal
+        self.journal.as_slice()
     }
 
-    /// Makes a write for which there is room, and adds a copy to the journal. An error, running out of memory, changes nothing.
-    fn write(&mut self, write: Write) -> Result<(), AllocError>
-        requires { overflows self.old.session.server.snapshot.members self.old.session.server.snapshot.revision (write_of write) ≡ false }
-        ensures session { OnOk result (self.new.session ≡ changed_by self.old.session (sessions.write (write_of write))) }
-        ensures journal { OnOk result (self.new.journal ≡ with_write self.old.journal (Some (write_of write))) }
+    /// Changes what an effect changes, for which there is room, and records what happens by it. An error, running out of memory, changes
+    /// nothing.
+    fn commit(&mut self, effect: Effect) -> Result<(), AllocError>
+        requires { HasRoom self.old.session (effect_of effect) }
+        ensures session { OnOk result (self.new.session ≡ changed_by self.old.session (effect_of effect)) }
+        ensures journal { OnOk result (self.new.journal ≡ with_entry self.old.journal (entry_in (effect_of effect))) }
         ensures err { OnErr result (self.new ≡ self.old) }
     {
-        self.journal.push(copy_of(&write)?)?;
-        if self.session.commit(Effect::Write(write)).is_err() {
-            self.journal.undo();
+        let Some(entry) = happening(&effect)? else {
+            return self.session.commit(effect);
+        };
+        self.journal.push(entry)?;
+        if self.session.commit(effect).is_err() {
+            drop(self.journal.pop());
             return Err(AllocError);
         }
         Ok(())
     }
 
-    /// Changes what an effect changes, for which there is room; the journal records what it writes. An error, running out of memory,
-    /// changes nothing.
-    fn commit(&mut self, effect: Effect) -> Result<(), AllocError>
-        requires { HasRoom self.old.session (effect_of effect) }
-        ensures session { OnOk result (self.new.session ≡ changed_by self.old.session (effect_of effect)) }
-        ensures journal { OnOk result (self.new.journal ≡ with_write self.old.journal (write_in (effect_of effect))) }
-        ensures err { OnErr result (self.new ≡ self.old) }
-    {
-        match effect {
-            Effect::Write(write) => self.write(write),
-            Effect::Nothing => Ok(()),
-            Effect::Moment(moment) => self.session.commit(Effect::Moment(moment)),
-            Effect::Compaction(revision) => self.session.commit(Effect::Compaction(revision)),
-        }
-    }
-
-    /// Returns the reply to a line, after which what it writes is written and recorded. An error, running out of memory, changes
+    /// Returns the reply to a line, after which what it changes is changed and recorded. An error, running out of memory, changes
     /// nothing.
     pub fn serve_text(&mut self, alloc: Global, text: &[u8]) -> Result<Vec<u8>, AllocError>
         ensures text { IfOk result (λ l. l.items ≡ reply_to self.old.session (line_of text.now)) }
@@ -126,31 +113,20 @@ impl RecordedSession {
     {
         match write {
             None => Ok(()),
-            Some(write) => self.write(write),
+            Some(write) => self.commit(Effect::Write(write)),
         }
     }
 
-    /// Returns the reply to a compaction, which writes nothing. An error, running out of memory, changes nothing.
+    /// Returns the reply to a compaction, after which it is made and recorded, unless it is refused. An error, running out of memory,
+    /// changes nothing.
     pub fn compact(&mut self, alloc: Global, revision: u64) -> Result<Vec<u8>, AllocError>
         ensures text { IfOk result (λ l. l.items ≡ reply_to self.old.session (lines.compact revision)) }
         ensures session { OnOk result (self.new.session ≡ state_after self.old.session (lines.compact revision)) }
-        ensures journal { self.new.journal ≡ self.old.journal }
+        ensures journal { OnOk result (self.new.journal ≡ journal_after self.old.session self.old.journal (lines.compact revision)) }
         ensures err { OnErr result (self.new ≡ self.old) }
     {
-        self.session.compact(alloc, revision)
-    }
-}
-
-/// Returns a copy of a write, which shares the object's text.
-fn copy_of(write: &Write) -> Result<Write, AllocError>
-    ensures { IfOk result (λ copy. write_of copy ≡ write_of write.now) }
-{
-    let key = write.key.try_copy()?;
-    match &write.put {
-        None => Ok(Write { key, put: None }),
-        Some(object) => Ok(Write {
-            key,
-            put: Some(object.try_copy()?),
-        }),
+        let Prepared { reply, effect } = self.session.prepare_compaction(alloc, revision)?;
+        self.commit(effect)?;
+        Ok(reply)
     }
 }

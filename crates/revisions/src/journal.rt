@@ -1,9 +1,8 @@
 //! A journal.
 use crate::changes::changes_between;
-use crate::past::{put_in, state_at};
+use crate::past::state_at;
 use events::Event;
 use meta::lent_members::Member;
-use meta::stored::StoredObject;
 use meta::writes::Write;
 use selector::View;
 use std::alloc::{AllocError, Global};
@@ -23,13 +22,13 @@ impl Model for Journal {
 
     ghost coded = { coded_history };
 
-    ghost use Rattle.revisions.specs.Journals.{history_of, put_at};
+    ghost use Rattle.revisions.specs.Journals.{history_of};
 
     ghost view = { λ j. history_of j.writes.items };
 }
 
 impl Journal {
-    ghost use Rattle.std.specs.Prelude.{◌≡◌, ◌++◌, ◌∷◌, [], ◌+◌, IfOk, OnOk, OnErr, length, map, option_map, take, ◌-◌};
+    ghost use Rattle.std.specs.Prelude.{◌≡◌, ◌++◌, ◌∷◌, [], IfOk, OnOk, OnErr, length, map};
     ghost use Rattle.meta.specs.Members.{member_of};
     ghost use Rattle.meta.specs.Writes.{write_of};
     ghost use Rattle.selector.specs.Views.{view_of};
@@ -37,7 +36,6 @@ impl Journal {
     ghost use Rattle.definitions.specs.History.{writes, list};
     ghost use Rattle.definitions.specs.Events.{events};
     ghost use Rattle.revisions.specs.Events.{event_seen};
-    ghost use Rattle.revisions.specs.Journals.{put_at};
 
     /// Returns a journal of no writes.
     pub fn new(alloc: Global) -> Journal
@@ -62,20 +60,6 @@ impl Journal {
     {
         self.writes.push(write)?;
         Ok(())
-    }
-
-    /// Removes the newest write. It takes no memory.
-    pub fn undo(&mut self)
-        ensures { self.new ≡ take (length self.old - 1) self.old }
-    {
-        drop(self.writes.pop());
-    }
-
-    /// Returns the object that the write at a place put, the first place being 0. It takes no memory.
-    pub fn put_at(&self, place: usize) -> Option<&StoredObject>
-        ensures { option_map (λ o. o.now.value) result ≡ put_at self.now place }
-    {
-        put_in(self.writes.as_slice(), place)
     }
 
     /// Returns the objects of a view as they were at a revision, each with its key, in the order of the keys. The error is

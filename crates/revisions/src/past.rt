@@ -3,7 +3,7 @@ ghost use Rattle.std.specs.Prelude.{◌≡◌, IfOk, OnOk, ◌-◌, take, option
 ghost use Rattle.keys.specs.Keys.{key_of};
 ghost use Rattle.meta.specs.Writes.{write_of};
 ghost use Rattle.definitions.specs.History.{entries_at, after, put_or_remove};
-ghost use Rattle.revisions.specs.Journals.{history_of, put_at};
+ghost use Rattle.revisions.specs.Journals.{history_of};
 ghost use Rattle.revisions.specs.Seen.{seen};
 
 use keys::Key;
@@ -66,15 +66,5 @@ pub(crate) fn up_to(writes: &[Write], revision: u64) -> &[Write]
         &writes[..count]
     } else {
         writes
-    }
-}
-
-/// Returns the object that the write at a place put.
-pub(crate) fn put_in(writes: &[Write], place: usize) -> Option<&StoredObject>
-    ensures { option_map (λ o. o.now.value) result ≡ put_at (history_of writes.now) place }
-{
-    match writes.get(place) {
-        Some(write) => write.put.as_ref(),
-        None => None,
     }
 }

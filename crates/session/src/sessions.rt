@@ -59,7 +59,7 @@ impl Session {
     ghost use Rattle.selector.specs.Views.{view_of};
     ghost use Rattle.line_protocol.specs.Lines.{line_of};
     ghost use Rattle.session.specs.Effects.{effect_of};
-    ghost use Rattle.session.specs.SessionStates.{begun, accepted, reply_for, reply_to, state_after, compact_text, server_or, of_write, written_by, of_compaction, effect_on, changed_by, HasRoom};
+    ghost use Rattle.session.specs.SessionStates.{begun, accepted, reply_for, reply_to, state_after, compact_text, of_write, written_by, of_compaction, effect_on, changed_by, HasRoom};
     ghost use Rattle.requests.specs.Requests.{request_of};
 
     /// Returns a session over a server where nothing is there, at the start of 2026, that keeps the last `window` changes of
@@ -168,8 +168,9 @@ impl Session {
         }
     }
 
-    /// Returns the reply line to a compaction, which is refused above the present revision. The error is running out of memory.
-    fn prepare_compaction(&self, alloc: Global, revision: u64) -> Result<Prepared, AllocError>
+    /// Returns the reply line to a compaction, which is refused above the present revision, and what changes by it. Nothing changes yet,
+    /// as with `prepare`. The error is running out of memory.
+    pub fn prepare_compaction(&self, alloc: Global, revision: u64) -> Result<Prepared, AllocError>
         ensures reply { IfOk result (λ p. p.reply.items ≡ compact_text (compact_by self.now.server revision)) }
         ensures effect { IfOk result (λ p. effect_of p.effect ≡ of_compaction revision (compact_by self.now.server revision)) }
     {
@@ -244,18 +245,6 @@ impl Session {
                 Ok(())
             }
         }
-    }
-
-    /// Returns the reply line to a compaction. An error, running out of memory, changes nothing.
-    pub fn compact(&mut self, alloc: Global, revision: u64) -> Result<Vec<u8>, AllocError>
-        ensures text { IfOk result (λ l. l.items ≡ compact_text (compact_by self.old.server revision)) }
-        ensures server { OnOk result (self.new.server ≡ server_or self.old.server (compact_by self.old.server revision)) }
-        ensures moment { self.new.moment ≡ self.old.moment }
-        ensures err { OnErr result (self.new ≡ self.old) }
-    {
-        let Prepared { reply, effect } = self.prepare_compaction(alloc, revision)?;
-        self.commit(effect)?;
-        Ok(reply)
     }
 
     /// Returns the reply to a line, which is not skipped where it is empty, after which what it writes is written. An error,

@@ -2,8 +2,6 @@
 use Rattle.std.proofs.Common.{◌≡◌, ◌≤◌, ◌+◌, ◌-◌, sym, subst, List, [], take, length, None, Some, Result, Ok, Err, OnOk, OnErr, IfErr, map, ◌<◌, slice_get}
 use Rattle.std.specs.List.{AllByRecursion}
 use Rattle.definitions.specs.declared.kinds.Kind.{Kind}
-use Rattle.definitions.specs.History.{History, writes, viewed, after_all, last_of}
-use Rattle.laws.specs.SentLaws.{whole}
 use Rattle.server_state.specs.Snapshots.{Snapshot}
 use Rattle.controllers.specs.Commands.{Command}
 use Rattle.controllers.specs.Hands.{Read}
@@ -31,15 +29,6 @@ use Rattle.world.proofs.Stood.{stood, run_stood, run_traced}
 use Rattle.world.specs.Headline.{Headline, TurnsAreUnderWay}
 use Rattle.world.specs.Standing.{StandsFor, Stands}
 use Rattle.world.specs.WorldStates.{WorldState, step, run}
-
--- ---- what the journal says, which has the same writes
-
-listed_by : (h g : History) (k : Kind) (s : Snapshot) → writes h ≡ writes g → IsServerList h k s → IsServerList g k s
-listed_by h g k s same is = subst (λ ws. (s.members ≡ viewed (whole k) (after_all [] (take (s.revision - 1) ws))) × (s.revision ≤ length ws + 1)) same is
-
-there_by : (h g : History) (r : Read) → writes h ≡ writes g → WasThere h r → WasThere g r
-there_by h g r same was =
-    let then = subst (λ ws. (was.0 ≤ length ws + 1) × (r.found ≡ last_of None r.key (take (was.0 - 1) ws))) same (was.1, was.2) in (was.0, then.0, then.1)
 
 -- ---- commands
 
@@ -96,9 +85,9 @@ looks_in w is =
     let p = plane t in
     let h = clusters.history p.cluster in
     let j = w.stored.cluster.journal in
-    let same : writes h ≡ writes j = sym is.cluster.journal in
-    let looks : (k : Kind) (s : Snapshot) → WasPublished o t.steps k s → IsServerList j k s = λ k s x. listed_by h j k s same (look_listed t.window t.workers t.steps k s x) in
-    let reads : (r : Read) → WasThere h r → WasThere j r = λ r x. there_by h j r same x in
+    let same : h ≡ j = sym is.cluster.journal in
+    let looks : (k : Kind) (s : Snapshot) → WasPublished o t.steps k s → IsServerList j k s = λ k s x. subst (λ g. IsServerList g k s) same (look_listed t.window t.workers t.steps k s x) in
+    let reads : (r : Read) → WasThere h r → WasThere j r = λ r x. subst (λ g. WasThere g r) same x in
     subst (λ (m : Manager). AllByRecursion (λ (i : Issued). IsNext (IsServerList j) (WasThere j) i.turn i.command) m.issued) (sym is.manager)
     (all_map (λ (i : Issued). IsNext (WasPublished o t.steps) (WasThere h) i.turn i.command) (λ (i : Issued). IsNext (IsServerList j) (WasThere j) i.turn i.command)
     (λ i n. next_so (WasPublished o t.steps) (IsServerList j) (WasThere h) (WasThere j) looks reads i.turn i.command n) p.manager.issued (issued_next t.window t.workers t.steps))
@@ -107,6 +96,7 @@ pub headline : (w : WorldState) → Stands w → Headline w
 headline w is =
     record {
       stands = plane_stands w is;
+      happened = (plane_stands w is).cluster.journal;
       lists = shown w.stored.cluster (cluster_stands w is);
       hands = apart_in w is;
       issued = issued_in w is;

@@ -129,6 +129,8 @@ pub record NeverOvershoots (t : Taken) : Type 0 where
 pub record Headline (w : WorldState) : Type 0 where
   -- what is stored stands for the control plane that was opened, after the steps that were taken
   pub stands : StandsFor w (plane w.trace)
+  -- its journal is what has happened: each write and each compaction of all these steps
+  pub happened : w.stored.cluster.journal ≡ history_after w.trace w.trace.steps
   -- what each informer has published is the server's list at the revision that is published with it, which has happened
   pub lists : ShowsLists w.stored.cluster
   -- no key is in two workers' hands
@@ -137,7 +139,7 @@ pub record Headline (w : WorldState) : Type 0 where
   -- published since the last restart, and each live read of which is what was there at one revision; and so is each turn in hand now
   pub issued : AllByRecursion (WasIssued (opening w.trace) w.trace.steps) w.stored.manager.issued
   pub turns : TurnsAreUnderWay w.trace (λ n u. slice_get w.stored.manager.turns n ≡ Some (Some u))
-  -- so each look was the server's list at its revision, by the journal of all writes
+  -- so each look was the server's list at its revision, by the journal
   pub looks : AllByRecursion (λ (i : Issued). IsNext (IsServerList w.stored.cluster.journal) (WasThere w.stored.cluster.journal) i.turn i.command) w.stored.manager.issued
   -- each accepted write that names a version replaced exactly that version
   pub replaces : ReplacesNamedVersions w.trace

@@ -14,7 +14,7 @@ use followers::Notification;
 use informer::keys_of;
 use managers::{Manager, ToldOutcome, WorkOutcome};
 use pod_observations::{object_in, observations};
-use revisions::Journal;
+use recorded_sessions::Entry;
 use std::alloc::{AllocError, Global};
 use std::marker::Model;
 use std::sync::Arc;
@@ -77,6 +77,7 @@ impl StoredWorld {
     ghost use Rattle.steps.specs.Actions.{action_of};
     ghost use Rattle.steps.specs.PlaneSteps.{plane_step_of};
     ghost use Rattle.steps.specs.Steps.{step_of};
+    ghost use Rattle.recorded_sessions.specs.Entries.{entry_of};
     ghost use Rattle.worker_slots.specs.Seen.{issued_of};
     ghost use Rattle.world.specs.Outcomes.{outcome_of};
     ghost use Rattle.world.specs.StoredStates.{opened, step, step_cluster, handle_in, after_action, tick_in};
@@ -180,9 +181,9 @@ impl StoredWorld {
         self.manager.issued()
     }
 
-    /// Returns the journal of all writes.
-    pub(crate) fn journal(&self) -> &Journal
-        ensures { result.now ≡ self.now.cluster.journal }
+    /// Returns the journal of all that has happened.
+    pub(crate) fn journal(&self) -> &[Entry]
+        ensures { map entry_of result.now ≡ self.now.cluster.journal }
     {
         self.cluster.journal()
     }

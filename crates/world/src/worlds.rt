@@ -2,7 +2,7 @@
 use crate::outcomes::Outcome;
 use crate::stored_worlds::StoredWorld;
 use cluster::Stopped;
-use revisions::Journal;
+use recorded_sessions::Entry;
 use std::alloc::{AllocError, Global};
 use std::marker::Model;
 use std::sync::Arc;
@@ -34,6 +34,7 @@ impl World {
     ghost use Rattle.std.specs.Prelude.{◌≡◌, ◌<◌, IfOk, IfErr, OnOk, OnErr, length, map, take};
     ghost use Rattle.std.specs.Arc.{arc_value};
     ghost use Rattle.reconciling.specs.ControlPlanes as planes;
+    ghost use Rattle.recorded_sessions.specs.Entries.{entry_of};
     ghost use Rattle.steps.specs.PlaneSteps.{plane_step_of};
     ghost use Rattle.traces.specs.Taken.{plane, followed, followed_by_all};
     ghost use Rattle.worker_slots.specs.Seen.{issued_of};
@@ -138,9 +139,10 @@ impl World {
         self.stored.issued()
     }
 
-    /// Returns the journal of all writes, the oldest first. It takes no memory.
-    pub fn journal(&self) -> &Journal
-        ensures journal { result.now ≡ self.now.stored.cluster.journal }
+    /// Returns the journal of all that has happened since the world was opened: the writes and the compactions, the oldest first. It takes
+    /// no memory.
+    pub fn journal(&self) -> &[Entry]
+        ensures journal { map entry_of result.now ≡ self.now.stored.cluster.journal }
         ensures headline { Headline self.now }
     {
         let _stored = &self.stored;

@@ -1,0 +1,14 @@
+use Rattle.std.proofs.Common.{◌≡◌, ◌∙◌, ap, sym, subst}
+use Rattle.line_protocol.specs.Lines.{compact}
+use Rattle.session.specs.Effects.{effect_of}
+use Rattle.session.specs.SessionStates.{changed_by, effect_on, HasRoom}
+use Rattle.session.proofs.Changes.{effects_change, effects_fit}
+use Rattle.recorded_sessions.specs.RecordedStates.{RecordedState}
+use Rattle.recorded_sessions.proofs.recorded.RecordedSession.compact.Goals as goal
+
+pub commit-requires : goal.commit-requires
+commit-requires c =
+    let s = c.args.self.now.session in
+    let l = compact c.args.revision in
+    let is : effect_of c.in_ok-prepare_compaction.field-0.effect ≡ effect_on s l = c.in_ok-prepare_compaction.ensures.effect ∙ ap (λ (z : RecordedState). effect_on z.session l) c.self.view_is in
+    subst (HasRoom s) (sym is) (effects_fit s l)
