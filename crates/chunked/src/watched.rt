@@ -1,7 +1,8 @@
 //! Readers and writers that are watched for failures.
-ghost use Rattle.std.specs.Prelude.{◌≡◌, ◌≢◌, ◌≤◌, ◌<◌, [], ◌∷◌, IfOk, OnOk, IfErr, OnErr, MatchOption, length, take, true, false};
+ghost use Rattle.std.specs.Prelude.{◌≡◌, ◌≢◌, ◌≤◌, ◌<◌, ◌+◌, [], ◌∷◌, ◌++◌, IfOk, OnOk, IfErr, OnErr, IfSome, MatchOption, length, take, true, false, Err, vec_len};
 ghost use Rattle.std.specs.IoError.{error_kind};
 ghost use Rattle.std.specs.Io.{ReadsAtMost, WritesAtMost};
+ghost use Rattle.std.specs.Io.BufRead.{take_through, DropsThrough};
 ghost use Rattle.std.specs.Io.KnownBytes.{Appends, Keeps, Consumes, IsAtEnd, ReadConsumes, WriteAppends};
 ghost use Rattle.chunked.specs.Devices.{AppendsBeginning, device_of, has_failed};
 ghost use Rattle.chunked.specs.Writing.{WritesInPlace};
@@ -9,7 +10,7 @@ ghost use Rattle.chunked.specs.declared.fault.ChunkFault.TheVariants as fault;
 
 use crate::fault::ChunkFault;
 use std::io;
-use std::io::{ErrorKind, Read, Write};
+use std::io::{BufRead, ErrorKind, Read, Write};
 
 /// A reader or a writer, and the flag whether a call of it has failed. The flag rises just there: an error that says that the
 /// call was interrupted asks for the call again, and is no failure; a write that takes nothing of a text that is not empty is
@@ -245,5 +246,34 @@ impl<R: Read + Drop> Watched<R> {
         let mut one = [0u8; 1];
         let n = self.receive(&mut one)?;
         if n == 0 { Ok(None) } else { Ok(Some(one[0])) }
+    }
+}
+
+impl<R: BufRead + Drop> Watched<R> {
+    /// Reads through the next of a byte onto what the buffer holds, or to the end where none comes, and returns how many bytes came: none
+    /// only at the end. The error is the device's, or out of memory; some bytes may have come onto the buffer then.
+    pub fn read_through(&mut self, byte: u8, buf: &mut Vec<u8>) -> Result<usize, ChunkFault>
+        ensures count { IfOk result (λ n. vec_len buf.new ≡ vec_len buf.old + n) }
+        ensures bytes { OnOk result (IfSome (R.remaining (device_of self.old)) (λ xs. buf.new.items ≡ buf.old.items ++ take_through byte xs)) }
+        ensures rest { OnOk result (DropsThrough (R.remaining (device_of self.old)) (R.remaining (device_of self.new)) byte) }
+        ensures end { IfOk result (λ n. n ≡ 0 → IsAtEnd (R.remaining (device_of self.old))) }
+        ensures sound { OnOk result (has_failed self.new ≡ false) }
+        ensures failed { IfErr result (λ f. f ≢ fault.Want → (f ≡ fault.Device) × (has_failed self.new ≡ true)) }
+        ensures want { IfErr result (λ f. f ≡ fault.Want → has_failed self.new ≡ false) }
+        ensures again { has_failed self.old ≡ true → (result ≡ Err fault.Device) × (self.new ≡ self.old) }
+    {
+        if self.failed {
+            return Err(ChunkFault::Device);
+        }
+        match self.device.read_until(byte, buf) {
+            Ok(n) => Ok(n),
+            Err(error) => {
+                if error.kind() == ErrorKind::OutOfMemory {
+                    return Err(ChunkFault::Want);
+                }
+                self.failed = true;
+                Err(ChunkFault::Device)
+            }
+        }
     }
 }

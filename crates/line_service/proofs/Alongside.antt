@@ -1,7 +1,8 @@
 -- Two services of which one goes along with the other: what is true of a run of the first is true of a run of the second.
 use Rattle.std.proofs.Common.{◌≡◌, ℕ, List, [], ◌∷◌, ◌++◌, Bool, true, false, Option, Some, None, IfSome, Result, Ok, Err, OnOk, IfErr, refl, sym, ap₂, subst, ◌∙◌}
 use Rattle.std.specs.Io.KnownBytes.{Appends}
-use Rattle.line_service.specs.Replies.{replies, after, AppendsBeginning, IsCutAtLast, EndsEarly, Read, reply_or_refusal, next_or_same, AnswersAll, AnswersSome}
+use Rattle.chunked.specs.Devices.{AppendsBeginning}
+use Rattle.line_service.specs.Replies.{replies, after, IsCutAtLast, EndsEarly, Read, reply_or_refusal, next_or_same, AnswersAll, AnswersSome}
 use Rattle.line_service.specs.declared.fault.RunFault.{RunFault}
 
 module _ {S T L : Type 0} (reply : S → L → List ℕ) (next : S → L → S) (reply' : T → L → List ℕ) (next' : T → L → T) (R : S → T → Type 0)

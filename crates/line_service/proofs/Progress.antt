@@ -5,7 +5,8 @@ use Rattle.std.specs.List.{AllByRecursion}
 use Rattle.std.specs.Option.{IsSomeAnd}
 use Rattle.std.specs.Io.KnownBytes.{Appends, Keeps}
 use Rattle.std.specs.Io.BufRead.{take_through, drop_through, strip_last, DropsThrough}
-use Rattle.line_service.specs.Replies.{lines_of, replies, after, AppendsBeginning, Read, none_refused, MayBe, AreRead, reply_or_refusal, next_or_same, AnswersAll, AnswersSome}
+use Rattle.chunked.specs.Devices.{AppendsBeginning}
+use Rattle.line_service.specs.Replies.{lines_of, replies, after, Read, none_refused, MayBe, AreRead, reply_or_refusal, next_or_same, AnswersAll, AnswersSome}
 use Rattle.line_service.specs.declared.fault.RunFault.{RunFault}
 use Rattle.line_service.specs.declared.fault.RunFault.TheVariants as fault
 use Rattle.line_service.proofs.Cutting.{first_read}

@@ -2,6 +2,7 @@
 use Rattle.std.specs.Prelude.{◌≡◌, ◌≢◌, ℕ, ◌==◌, List, [], ◌∷◌, ◌++◌, Bool, true, false, Option, is_some, unwrap_or, map, if◌then◌else◌}
 use Rattle.std.specs.Io.KnownBytes.{Appends}
 use Rattle.std.specs.List.{onto_first, AllByRecursion}
+use Rattle.chunked.specs.Devices.{AppendsBeginning}
 use Rattle.line_service.specs.declared.fault.RunFault.{RunFault}
 use Rattle.line_service.specs.declared.fault.RunFault.TheVariants as fault
 
@@ -21,10 +22,6 @@ replies reply next s (line ∷ lines) = reply s line ++ replies reply next (next
 abbrev pub after : {S L : Type 0} → (S → L → S) → S → List L → S
 after next s [] = s
 after next s (line ∷ lines) = after next (next s line) lines
-
--- a beginning of the text was appended
-abbrev pub AppendsBeginning : Option (List ℕ) → Option (List ℕ) → List ℕ → Type 0
-AppendsBeginning old new text = (written : List ℕ) × (left : List ℕ) × Appends old new written × (written ++ left ≡ text)
 
 -- the replies to all but the last of these lines were written whole, and a beginning of the last one's
 abbrev pub IsCutAtLast : {S L : Type 0} → (S → L → List ℕ) → (S → L → S) → S → Option (List ℕ) → Option (List ℕ) → List L → Type 0

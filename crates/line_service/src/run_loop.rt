@@ -1,16 +1,17 @@
 //! The loop that runs a service.
-ghost use Rattle.std.specs.Prelude.{◌≡◌, ◌≢◌, ◌≤◌, [], OnOk, OnErr, IfErr, IfSome, vec_capacity};
+ghost use Rattle.std.specs.Prelude.{◌≡◌, ◌≢◌, ◌≤◌, [], OnOk, OnErr, IfErr, IfSome, vec_capacity, true};
 ghost use Rattle.std.specs.Io.KnownBytes.{Appends};
 ghost use Rattle.std.specs.Io.BufRead.{strip_last};
-ghost use Rattle.std.specs.IoError.{error_kind};
-ghost use Rattle.line_service.specs.Replies.{AnswersAll, AnswersSome, AppendsBeginning};
+ghost use Rattle.chunked.specs.Devices.{AppendsBeginning, device_of, has_failed};
+ghost use Rattle.chunked.specs.declared.fault.ChunkFault.TheVariants as chunk;
+ghost use Rattle.line_service.specs.Replies.{AnswersAll, AnswersSome};
 
 use crate::answer::take;
 use crate::fault::RunFault;
 use crate::service::LineService;
+use chunked::{ChunkFault, Watched};
 use std::alloc::Global;
-use std::io;
-use std::io::{BufRead, ErrorKind, Write};
+use std::io::{BufRead, Write};
 
 /// The bytes of memory that a line's buffer may keep for the next line.
 const KEPT_CAPACITY: usize = 1 << 20;
@@ -28,15 +29,14 @@ pub fn without_newline(line: &[u8]) -> &[u8]
 }
 
 /// Returns why a line was not read: there was no memory for it, or the reader failed.
-pub fn unread(error: &io::Error) -> RunFault
-    ensures want { error_kind error.now ≡ ErrorKind.OutOfMemory → result ≡ RunFault.Want }
-    ensures read { error_kind error.now ≢ ErrorKind.OutOfMemory → result ≡ RunFault.Read }
+pub fn unread(fault: ChunkFault) -> RunFault
+    ensures want { fault ≡ chunk.Want → result ≡ RunFault.Want }
+    ensures read { fault ≢ chunk.Want → result ≡ RunFault.Read }
     ensures reader { result ≢ RunFault.Write }
 {
-    if error.kind() == ErrorKind::OutOfMemory {
-        RunFault::Want
-    } else {
-        RunFault::Read
+    match fault {
+        ChunkFault::Want => RunFault::Want,
+        ChunkFault::Device | ChunkFault::Malformed | ChunkFault::Truncated => RunFault::Read,
     }
 }
 
@@ -51,41 +51,18 @@ pub fn make_ready(line: &mut Vec<u8>)
     }
 }
 
-/// Writes all of the text; where the writer fails, a beginning of it was written.
-fn write_text<W: Write>(writer: &mut W, text: &[u8]) -> Result<(), RunFault>
-    ensures ok { OnOk result (Appends (W.contents writer.old) (W.contents writer.new) text.now) }
-    ensures err { OnErr result (AppendsBeginning (W.contents writer.old) (W.contents writer.new) text.now) }
-    ensures fault { IfErr result (λ fault. fault ≡ RunFault.Write) }
-{
-    let mut rest = text;
-    for _ in 0..u64::MAX {
-        if rest.is_empty() {
-            return Ok(());
-        }
-        match writer.write(rest) {
-            Ok(0) => return Err(RunFault::Write),
-            Ok(n) => rest = rest.split_at(n).1,
-            Err(e) => {
-                if e.kind() != ErrorKind::Interrupted {
-                    return Err(RunFault::Write);
-                }
-            }
-        }
-    }
-    Err(RunFault::Write)
-}
-
-/// Writes a reply and flushes the writer. An empty reply writes nothing and flushes nothing.
-pub fn send<W: Write>(writer: &mut W, reply: &[u8]) -> Result<(), RunFault>
-    ensures ok { OnOk result (Appends (W.contents writer.old) (W.contents writer.new) reply.now) }
-    ensures err { OnErr result (AppendsBeginning (W.contents writer.old) (W.contents writer.new) reply.now) }
+/// Writes a reply and flushes the writer; where the writer fails, or had failed before, a beginning of the reply was written. An empty reply
+/// writes nothing and flushes nothing.
+pub fn send<W: Write + Drop>(writer: &mut Watched<W>, reply: &[u8]) -> Result<(), RunFault>
+    ensures ok { OnOk result (Appends (W.contents (device_of writer.old)) (W.contents (device_of writer.new)) reply.now) }
+    ensures err { OnErr result (AppendsBeginning (W.contents (device_of writer.old)) (W.contents (device_of writer.new)) reply.now) }
+    ensures failed { OnErr result (has_failed writer.new ≡ true) }
     ensures fault { IfErr result (λ fault. fault ≡ RunFault.Write) }
 {
     if reply.is_empty() {
         return Ok(());
     }
-    write_text(writer, reply)?;
-    match writer.flush() {
+    match writer.send(reply) {
         Ok(()) => Ok(()),
         Err(_) => Err(RunFault::Write),
     }
@@ -99,24 +76,27 @@ pub fn send<W: Write>(writer: &mut W, reply: &[u8]) -> Result<(), RunFault>
 ///
 /// At an error a beginning of all the replies was written. The service has answered some of the lines, from the first
 /// on, and no others; their replies were written whole, unless it was the writer that failed: then those of all but the
-/// last were.
-pub fn run<S: LineService, R: BufRead, W: Write>(
+/// last were. That the reader or the writer failed is the error only where the flag of that one is up. More lines than can be counted,
+/// 2^64, are taken for want of memory.
+pub fn run<S: LineService, R: BufRead + Drop, W: Write + Drop>(
     alloc: Global,
     service: &mut S,
-    reader: &mut R,
-    writer: &mut W,
+    reader: &mut Watched<R>,
+    writer: &mut Watched<W>,
 ) -> Result<(), RunFault>
-    ensures ok { OnOk result (IfSome (R.remaining reader.old)
-        (AnswersAll S.reply S.next S.refusal service.old service.new (W.contents writer.old) (W.contents writer.new))) }
-    ensures ended { IfErr result (λ fault. IfSome (R.remaining reader.old)
-        (AnswersSome S.reply S.next S.refusal fault service.old service.new (W.contents writer.old) (W.contents writer.new))) }
+    ensures ok { OnOk result (IfSome (R.remaining (device_of reader.old))
+        (AnswersAll S.reply S.next S.refusal service.old service.new (W.contents (device_of writer.old)) (W.contents (device_of writer.new)))) }
+    ensures ended { IfErr result (λ fault. IfSome (R.remaining (device_of reader.old))
+        (AnswersSome S.reply S.next S.refusal fault service.old service.new (W.contents (device_of writer.old)) (W.contents (device_of writer.new)))) }
+    ensures reader { IfErr result (λ fault. fault ≡ RunFault.Read → has_failed reader.new ≡ true) }
+    ensures writer { IfErr result (λ fault. fault ≡ RunFault.Write → has_failed writer.new ≡ true) }
 {
     let mut line = Vec::new(alloc);
     for _ in 0..u64::MAX {
         make_ready(&mut line);
-        let count = match reader.read_until(b'\n', &mut line) {
+        let count = match reader.read_through(b'\n', &mut line) {
             Ok(n) => n,
-            Err(error) => return Err(unread(&error)),
+            Err(fault) => return Err(unread(fault)),
         };
         if count == 0 {
             return Ok(());
@@ -124,5 +104,5 @@ pub fn run<S: LineService, R: BufRead, W: Write>(
         let answer = take(alloc, service, without_newline(line.as_slice()))?;
         send(writer, answer.text())?;
     }
-    Err(RunFault::Read)
+    Err(RunFault::Want)
 }
