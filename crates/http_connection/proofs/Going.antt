@@ -1,0 +1,130 @@
+-- A watch after a look.
+use Rattle.std.proofs.Common.{◌≡◌, ◌≤◌, ◌<◌, ℕ, List, [], ◌∷◌, ◌++◌, Bool, Option, Some, None, Result, Ok, Err, inl, inr, refl, sym, ap, subst, ◌∙◌, append_assoc}
+use Rattle.definitions.specs.ListQueries.{ListOptions}
+use Rattle.definitions.specs.History.{View}
+use Rattle.definitions.specs.ObjectRequests.{Request}
+use Rattle.definitions.specs.Refusals.{Refusal}
+use Rattle.definitions.specs.Verbs.{Outcome}
+use Rattle.definitions.specs.Versions.{Listed, Watched}
+use Rattle.definitions.specs.WatchReplies.{told_lines}
+use Rattle.chunked.specs.Bodies.{last_chunk}
+use Rattle.selector.specs.Views.{view_of}
+use Rattle.watch_service.specs.Looked.{StandsAt}
+use Rattle.watch_service.specs.Watches.{Look, most_changes, most_idle, idle_after, look_frames, opening_text}
+use Rattle.watch_service.specs.declared.standing.Standing.{Standing}
+use Rattle.http_connection.specs.declared.phase.Phase.{Phase}
+use Rattle.http_connection.specs.declared.phase.Phase.TheVariants as phase
+use Rattle.http_connection.specs.declared.watching.Watching.{Watching}
+use Rattle.http_connection.specs.Watches.{revision_after, idles_after, unwritten}
+use Rattle.http_connection.specs.Phases.{IsWatch, Stands}
+use Rattle.http_connection.specs.Looking.{Adds, Shows, LooksFrom}
+use Rattle.http_connection.proofs.Looks.{looks_more, frames_more, lasts_more, ends_refused, ends_idle, revision_more, idles_more}
+use Rattle.http_connection.proofs.Standing.{watch_closes}
+
+module _ {S : Type 0} (calls : S → Request → List ℕ → Outcome → S → Type 0) (lists : S → View → ListOptions → Outcome → S → Type 0)
+    (begins : S → View → Result Listed Refusal → S → Type 0) (watches : S → View → ℕ → ℕ → Look → S → Type 0) where
+  -- the text of a watch, and the frames of one look more
+  one_more : (v : View) (b : Bool) (opening text more : List ℕ) (at : ℕ) (r : ℕ) (looks : List Look) (w : Look) → text ≡ opening ++ look_frames v.kind b at looks
+      → more ≡ look_frames v.kind b r (w ∷ []) → r ≡ revision_after at looks → text ++ more ≡ opening ++ look_frames v.kind b at (looks ++ w ∷ [])
+  one_more v b opening text more at r looks w is frames revision =
+      let some = look_frames v.kind b at looks in
+      ap (λ t. t ++ more) is ∙ append_assoc opening some more
+      ∙ ap (λ t. opening ++ (some ++ t)) (frames ∙ ap (λ x. look_frames v.kind b x (w ∷ [])) revision)
+      ∙ ap (λ t. opening ++ t) (sym (frames_more v.kind b at looks w))
+
+  -- after a look that was given something
+  goes_on : (read text more : List ℕ) (v : View) (b : Bool) (at next : Standing) (w : Watched) (s t : S) → IsWatch calls lists begins watches read v b (Some at) text → at.idle < most_idle
+      → watches s v at.revision most_changes (Ok w) t → more ≡ look_frames v.kind b at.revision (Ok w ∷ []) → StandsAt b at (Ok w) (Ok (Some next))
+      → IsWatch calls lists begins watches read v b (Some next) (text ++ more)
+  goes_on read text more v b at next w s t (options, asks, marks, (o, looks, (opens, made), (lasts, revision, idle), is)) short given frames stands =
+      let here = subst (λ r. watches s v r most_changes (Ok w) t) revision given in
+      let now : next.idle ≡ idles_after b o.stands o.idle (looks ++ Ok w ∷ []) =
+      stands.1 ∙ ap (λ i. idle_after i (told_lines b at.revision w)) idle ∙ ap (λ r. idle_after (idles_after b o.stands o.idle looks) (told_lines b r w)) revision
+      ∙ sym (idles_more b o.stands o.idle looks w) in (
+        options,
+        asks,
+        marks,
+        (
+          o,
+          looks ++ Ok w ∷ [],
+          (opens, looks_more watches v o.stands looks (Ok w) made (s, t, here)),
+          (lasts_more b o.stands o.idle looks w lasts (subst (λ i. i < most_idle) idle short), stands.0 ∙ sym (revision_more o.stands looks w), now),
+          one_more v b (opening_text v.kind o) text more o.stands at.revision looks (Ok w) is frames revision,
+        ),
+      )
+
+  -- after one that was refused
+  is_over : (read text more : List ℕ) (v : View) (b : Bool) (at : Standing) (f : Refusal) (s t : S) → IsWatch calls lists begins watches read v b (Some at) text → at.idle < most_idle
+      → watches s v at.revision most_changes (Err f) t → more ≡ look_frames v.kind b at.revision (Err f ∷ []) → IsWatch calls lists begins watches read v b None (text ++ (more ++ last_chunk))
+  is_over read text more v b at f s t (options, asks, marks, (o, looks, (opens, made), (lasts, revision, idle), is)) short given frames =
+      let here = subst (λ r. watches s v r most_changes (Err f) t) revision given in
+      let whole = one_more v b (opening_text v.kind o) text more o.stands at.revision looks (Err f) is frames revision in (
+        options,
+        asks,
+        marks,
+        (
+          o,
+          looks ++ Err f ∷ [],
+          (opens, looks_more watches v o.stands looks (Err f) made (s, t, here)),
+          ends_refused b o.stands o.idle looks f lasts (subst (λ i. i < most_idle) idle short),
+          sym (append_assoc text more last_chunk) ∙ ap (λ x. x ++ last_chunk) whole ∙ append_assoc (opening_text v.kind o) (look_frames v.kind b o.stands (looks ++ Err f ∷ [])) last_chunk,
+        ),
+      )
+
+  -- after as many looks in a row without a line as end it
+  idles_out : (read text : List ℕ) (v : View) (b : Bool) (at : Standing) → IsWatch calls lists begins watches read v b (Some at) text → most_idle ≤ at.idle
+      → IsWatch calls lists begins watches read v b None (text ++ last_chunk)
+  idles_out read text v b at (options, asks, marks, (o, looks, given, (lasts, revision, idle), is)) over = (
+    options,
+    asks,
+    marks,
+    (
+      o,
+      looks,
+      given,
+      ends_idle b o.stands o.idle looks lasts (subst (λ i. most_idle ≤ i) idle over),
+      ap (λ x. x ++ last_chunk) is ∙ append_assoc (opening_text v.kind o) (look_frames v.kind b o.stands looks) last_chunk,
+    ),
+  )
+
+  -- ---- where its connection stands then
+
+  adds_stand : (w : Watching) (more : List ℕ) (at : Option Standing) (result : Phase) (read written : List ℕ)
+      → IsWatch calls lists begins watches read (view_of w.view) w.bookmarks at ((written ++ unwritten w) ++ more) → Adds w more at result
+      → Stands calls lists begins watches result read written
+  adds_stand w more at (phase.Watching u) read written watch ((view, bookmarks, opened), is, out, bounded) =
+      let all : written ++ unwritten u ≡ (written ++ unwritten w) ++ more = ap (λ t. written ++ t) out ∙ sym (append_assoc written (unwritten w) more) in
+      let now = subst (λ x. IsWatch calls lists begins watches read (view_of x) u.bookmarks u.at (written ++ unwritten u)) (sym view)
+      (subst (λ b. IsWatch calls lists begins watches read (view_of w.view) b u.at (written ++ unwritten u)) (sym bookmarks)
+      (subst (λ a. IsWatch calls lists begins watches read (view_of w.view) w.bookmarks a (written ++ unwritten u)) (sym is)
+      (subst (IsWatch calls lists begins watches read (view_of w.view) w.bookmarks at) (sym all) watch))) in
+      (now, bounded)
+  adds_stand w more at (phase.Closing s) read written watch by =
+      watch_closes calls lists begins watches read written (unwritten w ++ more) ((written ++ unwritten w) ++ more) (view_of w.view) w.bookmarks at s watch
+      (sym (append_assoc written (unwritten w) more))
+  adds_stand w more at (phase.Reading a) read written watch never = absurd never
+  adds_stand w more at (phase.Asked a) read written watch never = absurd never
+  adds_stand w more at phase.Answering read written watch never = absurd never
+  adds_stand w more at (phase.Replying r) read written watch never = absurd never
+
+  module _ (w : Watching) (s t : S) (result : Phase) (read written : List ℕ) (stands : Stands calls lists begins watches (phase.Watching w) read written) where
+    before : (at : Standing) → w.at ≡ Some at → IsWatch calls lists begins watches read (view_of w.view) w.bookmarks (Some at) (written ++ unwritten w)
+    before at here = subst (λ a. IsWatch calls lists begins watches read (view_of w.view) w.bookmarks a (written ++ unwritten w)) here stands.0
+
+    shows_stand : (at : Standing) → w.at ≡ Some at → at.idle < most_idle → (look : Look) → watches s (view_of w.view) at.revision most_changes look t → Shows w at look result
+        → Stands calls lists begins watches result read written
+    shows_stand at here short (Ok x) given (next, stood, adds) =
+        let frames = look_frames (view_of w.view).kind w.bookmarks at.revision (Ok x ∷ []) in
+        adds_stand w frames (Some next) result read written
+        (goes_on read (written ++ unwritten w) frames (view_of w.view) w.bookmarks at next x s t (before at here) short given refl stood) adds
+    shows_stand at here short (Err f) given adds =
+        let frames = look_frames (view_of w.view).kind w.bookmarks at.revision (Err f ∷ []) in
+        adds_stand w (frames ++ last_chunk) None result read written
+        (is_over read (written ++ unwritten w) frames (view_of w.view) w.bookmarks at f s t (before at here) short given refl) adds
+
+    -- where the connection of a watch stands once it was given a look
+    pub look_stands : (at : Option Standing) → w.at ≡ at → LooksFrom watches w s t at result → Stands calls lists begins watches result read written
+    look_stands None here (same, is) = subst (λ p. Stands calls lists begins watches p read written) (sym is) stands
+    look_stands (Some at) here (inl (over, same, adds)) =
+        adds_stand w last_chunk None result read written (idles_out read (written ++ unwritten w) (view_of w.view) w.bookmarks at (before at here) over) adds
+    look_stands (Some at) here (inr (short, (look, given, shows))) = shows_stand at here short look given shows

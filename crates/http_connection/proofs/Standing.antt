@@ -1,0 +1,171 @@
+-- Where a connection stands after a step.
+use Rattle.std.proofs.Common.{◌≡◌, ℕ, List, [], ◌++◌, take, drop, Bool, Option, Some, Result, Ok, inl, inr, refl, sym, ap, subst, ◌∙◌, append_assoc, append-nil, length, length-append, arith}
+use Rattle.std.proofs.lemmas.List.{take-append-drop, append_cancel_left}
+use Rattle.std.proofs.KnownBytes.{Consumes-nil, Appends-nil}
+use Rattle.std.specs.Io.KnownBytes.{Appends}
+use Rattle.definitions.specs.ListQueries.{ListOptions}
+use Rattle.definitions.specs.History.{View}
+use Rattle.definitions.specs.ObjectRequests.{Request}
+use Rattle.definitions.specs.Refusals.{Refusal}
+use Rattle.definitions.specs.Targets as targets
+use Rattle.definitions.specs.Verbs.{Outcome}
+use Rattle.definitions.specs.Versions.{Listed}
+use Rattle.connections.specs.Connections.{Asks}
+use Rattle.selector.specs.Views.{view_of}
+use Rattle.watch_service.specs.Watches.{Look, Opens, opening_text}
+use Rattle.watch_service.specs.declared.standing.Standing.{Standing}
+use Rattle.api.specs.Responding.{text_of, Replies, OpensWatch, Responds}
+use Rattle.api.specs.declared.response.OpenWatch.{OpenWatch}
+use Rattle.api.specs.declared.response.Response.{Response}
+use Rattle.api.specs.declared.response.Response.TheVariants as response
+use Rattle.api.specs.declared.served.Served.{Served}
+use Rattle.api.specs.declared.served.Served.TheVariants as served
+use Rattle.http_connection.specs.declared.arriving.Arriving.{Arriving}
+use Rattle.http_connection.specs.declared.phase.Phase.{Phase}
+use Rattle.http_connection.specs.declared.phase.Phase.TheVariants as phase
+use Rattle.http_connection.specs.declared.replying.Replying.{Replying}
+use Rattle.http_connection.specs.declared.watching.Watching.{Watching}
+use Rattle.http_connection.specs.Arriving.{IsArriving, Arrives, ReadsOn}
+use Rattle.http_connection.specs.Phases.{IsServedBy, IsReply, IsWatch, IsToBeWritten, Stands, Turns}
+use Rattle.http_connection.specs.Sending.{RepliesOn, WatchesOn}
+use Rattle.http_connection.specs.Watches.{unwritten, IsBounded}
+
+not_asked : (s : Served) → s ≡ served.NotAsked → s ≡ served.Asked → ⊥
+not_asked s a b = cc
+
+-- what was not written of bytes is what is left of them
+left_of : (bytes put : List ℕ) (taken n : ℕ) → take taken bytes ++ put ≡ take n bytes → put ++ drop n bytes ≡ drop taken bytes
+left_of bytes put taken n is =
+    append_cancel_left (take taken bytes) (put ++ drop n bytes) (drop taken bytes)
+    (sym (append_assoc (take taken bytes) put (drop n bytes)) ∙ ap (λ t. t ++ drop n bytes) is ∙ take-append-drop n bytes ∙ sym (take-append-drop taken bytes))
+
+module _ {S : Type 0} (calls : S → Request → List ℕ → Outcome → S → Type 0) (lists : S → View → ListOptions → Outcome → S → Type 0)
+    (begins : S → View → Result Listed Refusal → S → Type 0) (watches : S → View → ℕ → ℕ → Look → S → Type 0) where
+  abbrev AtPhase : Phase → List ℕ → List ℕ → Type 0
+  AtPhase = Stands calls lists begins watches
+
+  -- ---- requests
+
+  -- what was read, and nothing written
+  pub arrives_stand : (read : List ℕ) (p : Phase) → Arrives read p → AtPhase p read []
+  arrives_stand read (phase.Reading a) is = (is, refl)
+  arrives_stand read (phase.Asked a) is = (is, refl)
+  arrives_stand read phase.Answering is = absurd is
+  arrives_stand read (phase.Replying r) (refuses, none, not) =
+      (inl refuses, ap (λ n. take n (text_of r.text)) (sym none), λ asked. absurd (not_asked r.served not asked))
+  arrives_stand read (phase.Watching w) is = absurd is
+  arrives_stand read (phase.Closing s) is = (([], [], inl refl, refl), λ asked. absurd (not_asked s is asked))
+
+  -- a reply to what was asked
+  reply_stands : (a : targets.Asked) (moment : List ℕ) (s t : S) (read : List ℕ) (r : Replying) → Asks read (Some (Ok a)) → Replies calls lists begins watches moment s t (Ok a) (text_of r.text)
+      → r.taken ≡ 0 → AtPhase (phase.Replying r) read []
+  reply_stands a moment s t read r asks replies none = (inr (a, asks, (moment, s, t, replies)), ap (λ n. take n (text_of r.text)) (sym none), λ asked. (a, asks))
+
+  -- a watch that has opened
+  opens_stand : (a : targets.Asked) (moment : List ℕ) (s t : S) (read : List ℕ) (w : OpenWatch) (u : Watching) → Asks read (Some (Ok a)) → OpensWatch calls lists begins watches moment s t (Ok a) w
+      → u.view ≡ w.view → u.bookmarks ≡ w.bookmarks → u.at ≡ Some w.opened.at → u.out.items ≡ w.opened.text.items → u.taken ≡ 0 → u.opened ≡ length u.out.items
+      → AtPhase (phase.Watching u) read []
+  opens_stand (targets.request q) moment s t read w u asks opens view marks at out none size = absurd opens
+  opens_stand (targets.list v options) moment s t read w u asks opens view marks at out none size = absurd opens
+  opens_stand (targets.watch v options) moment s t read w u asks (view, bookmarks, (o, opens, stands, idle, text)) same_view same_bookmarks same_at same_out none size =
+      let seen : v ≡ view_of u.view = sym view ∙ ap view_of (sym same_view) in
+      let marks : options.bookmarks ≡ u.bookmarks = sym bookmarks ∙ sym same_bookmarks in
+      let given = subst (λ x. Opens begins watches x u.bookmarks s options.from (Ok o) t) seen (subst (λ b. Opens begins watches v b s options.from (Ok o) t) marks opens) in
+      let whole : unwritten u ≡ u.out.items = ap (λ n. drop n u.out.items) none in
+      let out : unwritten u ≡ opening_text (view_of u.view).kind o ++ [] =
+      whole ∙ same_out ∙ text ∙ ap (λ x. opening_text x.kind o) seen ∙ sym (append-nil (opening_text (view_of u.view).kind o)) in
+      let watch = subst (λ at. IsWatch calls lists begins watches read (view_of u.view) u.bookmarks at (unwritten u)) (sym same_at)
+      (options, subst (λ x. Asks read (Some (Ok (targets.watch x options)))) seen asks, sym marks, (o, [], ((s, t, given), tt), (tt, stands, idle), out)) in
+      let bounded : IsBounded u = omega (arith, ap length whole, size) in
+      (watch, bounded)
+
+  -- what is to be written for what was asked
+  pub answer_stands : (a : targets.Asked) (moment : List ℕ) (s t : S) (read : List ℕ) (x : Response) (p : Phase) → Asks read (Some (Ok a)) → Responds calls lists begins watches moment s t (Some (Ok a)) x
+      → IsToBeWritten x p → AtPhase p read []
+  answer_stands a moment s t read response.Nothing p asks responds is = absurd responds
+  answer_stands a moment s t read (response.Reply x) p asks responds (r, is, text, none, came) =
+      subst (λ q. AtPhase q read []) (sym is)
+      (reply_stands a moment s t read r asks (subst (λ y. Replies calls lists begins watches moment s t (Ok a) (text_of y)) (sym text) responds) none)
+  answer_stands a moment s t read (response.Watch x) p asks responds (w, is, view, bookmarks, at, out, none, size) =
+      subst (λ q. AtPhase q read []) (sym is) (opens_stand a moment s t read x w asks responds view bookmarks at (ap (λ v. v.items) out) none size)
+
+  -- ---- what is written
+
+  pub replies_stand : (before after : Option (List ℕ)) (r : Replying) (result : Phase) (read written : List ℕ) → RepliesOn before after r result → AtPhase (phase.Replying r) read written
+      → (put : List ℕ) × Appends before after put × AtPhase result read (written ++ put)
+  replies_stand before after r (phase.Replying q) read written (n, (put, appends, is), (same, to, by)) (reply, so_far, came) =
+      let text = text_of r.text in (
+        put,
+        appends,
+        (
+          subst (IsReply calls lists begins watches read) (sym same) reply,
+          ap (λ t. t ++ put) so_far ∙ is ∙ ap (λ m. take m text) (sym to) ∙ ap (take q.taken) (sym same),
+          subst (IsServedBy read) (sym by) came,
+        ),
+      )
+  replies_stand before after r (phase.Closing s) read written (n, (put, appends, is), by) (reply, so_far, came) =
+      let text = text_of r.text in (
+        put,
+        appends,
+        (
+          (text, drop n text, inr (inl reply), ap (λ t. (t ++ put) ++ drop n text) so_far ∙ ap (λ t. t ++ drop n text) is ∙ take-append-drop n text),
+          subst (IsServedBy read) (sym by) came,
+        ),
+      )
+  replies_stand before after r (phase.Reading a) read written (n, sent, never) stands = absurd never
+  replies_stand before after r (phase.Asked a) read written (n, sent, never) stands = absurd never
+  replies_stand before after r phase.Answering read written (n, sent, never) stands = absurd never
+  replies_stand before after r (phase.Watching w) read written (n, sent, never) stands = absurd never
+
+  -- a watch that is left
+  pub watch_closes : (read written left text : List ℕ) (v : View) (bookmarks : Bool) (at : Option Standing) (s : Served) → IsWatch calls lists begins watches read v bookmarks at text
+      → written ++ left ≡ text → AtPhase (phase.Closing s) read written
+  watch_closes read written left text v bookmarks at s watch is = ((text, left, inr (inr (v, bookmarks, at, watch)), is), λ asked. (targets.watch v watch.0, watch.1))
+
+  pub watches_stand : (before after : Option (List ℕ)) (w : Watching) (result : Phase) (read written : List ℕ) → WatchesOn before after w result → AtPhase (phase.Watching w) read written
+      → (put : List ℕ) × Appends before after put × AtPhase result read (written ++ put)
+  watches_stand before after w (phase.Watching u) read written (n, (put, appends, is), ((view, bookmarks, opened), at, out)) (stands, bounded) =
+      let left = left_of w.out.items put w.taken n is in
+      let all : (written ++ put) ++ unwritten u ≡ written ++ unwritten w =
+      append_assoc written put (unwritten u) ∙ ap (λ t. written ++ (put ++ t)) out ∙ ap (λ t. written ++ t) left in
+      let less : IsBounded u = omega (arith, bounded, opened, ap length out, ap length left, length-append put (drop n w.out.items)) in
+      (put, appends, (moved w u ((written ++ put) ++ unwritten u) (written ++ unwritten w) view bookmarks at all stands, less))
+    where
+      moved : (w u : Watching) (new old : List ℕ) → u.view ≡ w.view → u.bookmarks ≡ w.bookmarks → u.at ≡ w.at → new ≡ old
+          → IsWatch calls lists begins watches read (view_of w.view) w.bookmarks w.at old → IsWatch calls lists begins watches read (view_of u.view) u.bookmarks u.at new
+      moved w u new old view bookmarks at same watch =
+          subst (λ x. IsWatch calls lists begins watches read (view_of x) u.bookmarks u.at new) (sym view)
+          (subst (λ b. IsWatch calls lists begins watches read (view_of w.view) b u.at new) (sym bookmarks)
+          (subst (λ a. IsWatch calls lists begins watches read (view_of w.view) w.bookmarks a new) (sym at)
+          (subst (IsWatch calls lists begins watches read (view_of w.view) w.bookmarks w.at) (sym same) watch)))
+  watches_stand before after w (phase.Closing s) read written (n, (put, appends, is), by) (stands, bounded) =
+      let all : (written ++ put) ++ drop n w.out.items ≡ written ++ unwritten w =
+      append_assoc written put (drop n w.out.items) ∙ ap (λ t. written ++ t) (left_of w.out.items put w.taken n is) in
+      (put, appends, watch_closes read (written ++ put) (drop n w.out.items) (written ++ unwritten w) (view_of w.view) w.bookmarks w.at s stands all)
+  watches_stand before after w (phase.Reading a) read written (n, sent, never) stands = absurd never
+  watches_stand before after w (phase.Asked a) read written (n, sent, never) stands = absurd never
+  watches_stand before after w phase.Answering read written (n, sent, never) stands = absurd never
+  watches_stand before after w (phase.Replying r) read written (n, sent, never) stands = absurd never
+
+  -- ---- turns
+
+  -- nothing is read
+  pub nothing_read : (unread held holds : Option (List ℕ)) (before after : Phase)
+      → ((read written : List ℕ) → AtPhase before read written → (put : List ℕ) × Appends held holds put × AtPhase after read (written ++ put))
+      → Turns calls lists begins watches unread unread held holds before after
+  nothing_read unread held holds before after goes read written stands =
+      let w = goes read written stands in
+      ([], w.0, Consumes-nil unread, w.1, subst (λ r. AtPhase after r (written ++ w.0)) (sym (append-nil read)) w.2)
+
+  -- nothing happens
+  pub nothing_done : (unread held : Option (List ℕ)) (p : Phase) → Turns calls lists begins watches unread unread held held p p
+  nothing_done unread held p =
+      nothing_read unread held held p p (λ read written stands. ([], Appends-nil held, subst (AtPhase p read) (sym (append-nil written)) stands))
+
+  -- a request is read, and what comes of it is written as far as it goes
+  pub request_read : (unread left held holds : Option (List ℕ)) (a : Arriving) (mid after : Phase) → ((read : List ℕ) → IsArriving a read → ReadsOn unread left read mid)
+      → ((read : List ℕ) → AtPhase mid read [] → (put : List ℕ) × Appends held holds put × AtPhase after read put) → Turns calls lists begins watches unread left held holds (phase.Reading a) after
+  request_read unread left held holds a mid after reads writes read written (arriving, none) =
+      let r = reads read arriving in
+      let w = writes (read ++ r.0) (arrives_stand (read ++ r.0) mid r.2) in
+      (r.0, w.0, r.1, w.1, subst (λ x. AtPhase after (read ++ r.0) (x ++ w.0)) (sym none) w.2)

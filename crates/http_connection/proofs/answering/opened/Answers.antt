@@ -1,0 +1,8 @@
+use Rattle.std.proofs.Common.{rules, Some, refl}
+use Rattle.http_connection.specs.declared.watching.Watching.{Watching}
+use Rattle.http_connection.proofs.answering.opened.Goals as goal
+
+pub returns : goal.returns
+returns c =
+    let w : Watching = record { view = c.args.watch.view; bookmarks = c.args.watch.bookmarks; at = Some c.args.watch.opened.at; opened = c.len.result; out = c.args.watch.opened.text; taken = 0 } in
+    (w, refl, refl, refl, refl, refl, refl, search rules)

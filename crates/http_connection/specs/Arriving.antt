@@ -1,0 +1,56 @@
+-- A request that is not whole.
+use Rattle.std.specs.Prelude.{◌≡◌, ◌<◌, ◌==◌, ◌⊎◌, ℕ, List, ◌++◌, length, Option, Some, Ok, Err, false}
+use Rattle.std.specs.List.{list_any}
+use Rattle.std.specs.Io.KnownBytes.{Consumes}
+use Rattle.httparse.specs.Ascii.{line_feed}
+use Rattle.httparse.specs.Grammar.{HasNoRequest}
+use Rattle.definitions.specs.Refusals.{Refusal, no_memory}
+use Rattle.definitions.specs.Replies.{outcome}
+use Rattle.definitions.specs.Verbs.{refused}
+use Rattle.asked.specs.Asked.{asked_seen}
+use Rattle.connections.specs.Connections.{longest_head, IsHalfAHead, Asks}
+use Rattle.connections.specs.Replies.{reply_text}
+use Rattle.received.specs.Arriving.{WaitsFor}
+use Rattle.api.specs.Responding.{text_of, IsReplyTo}
+use Rattle.api.specs.declared.served.Served.TheVariants as served
+use Rattle.http_connection.specs.declared.arriving.Arriving.{Arriving}
+use Rattle.http_connection.specs.declared.arriving.Awaited.{Awaited}
+use Rattle.http_connection.specs.declared.arriving.Awaited.TheVariants as awaited
+use Rattle.http_connection.specs.declared.phase.Phase.{Phase}
+use Rattle.http_connection.specs.declared.phase.Phase.TheVariants as phase
+
+-- no line ends in these bytes
+abbrev pub HasNoLineEnd : List ℕ → Type 0
+HasNoLineEnd bytes = list_any (λ b. b == line_feed) bytes ≡ false
+
+-- no head ends in these bytes, which are fewer than one may have; but for a piece of a line at their end they are a part of one
+abbrev pub IsInHead : List ℕ → Type 0
+IsInHead bytes =
+    (length bytes < longest_head) × HasNoRequest bytes
+    × ((front : List ℕ) × (line : List ℕ) × (bytes ≡ front ++ line) × IsHalfAHead front × HasNoLineEnd line)
+
+-- these bytes are no whole request, nor are they with more, before what is awaited has come
+abbrev pub Awaits : Awaited → List ℕ → Type 0
+Awaits awaited.LineEnd bytes = IsInHead bytes
+Awaits (awaited.Bytes n) bytes = WaitsFor bytes n
+
+-- these bytes were read, which are no whole request
+abbrev pub IsArriving : Arriving → List ℕ → Type 0
+IsArriving a read = (a.bytes.items ≡ read) × Awaits a.awaited read
+
+-- a connection of which these bytes were read, and nothing was done for it, is to be written that: a refusal, or that memory ran out
+abbrev pub IsRefusal : List ℕ → List ℕ → Type 0
+IsRefusal read text = (text ≡ reply_text (outcome (refused no_memory))) ⊎ ((f : Refusal) × Asks read (Some (Err f)) × IsReplyTo (refused f) text)
+
+-- where a connection stands of which these bytes were read, and nothing was written or done
+abbrev pub Arrives : List ℕ → Phase → Type 0
+Arrives read (phase.Reading a) = IsArriving a read
+Arrives read (phase.Asked a) = Asks read (Some (Ok (asked_seen a)))
+Arrives read phase.Answering = ⊥
+Arrives read (phase.Replying r) = IsRefusal read (text_of r.text) × (r.taken ≡ 0) × (r.served ≡ served.NotAsked)
+Arrives read (phase.Watching w) = ⊥
+Arrives read (phase.Closing s) = s ≡ served.NotAsked
+
+-- some more was read of a connection of which nothing was written
+abbrev pub ReadsOn : Option (List ℕ) → Option (List ℕ) → List ℕ → Phase → Type 0
+ReadsOn before after read phase = (more : List ℕ) × Consumes before after more × Arrives (read ++ more) phase

@@ -1,0 +1,67 @@
+-- A watch that goes on as its bytes are taken, with others served between its looks.
+use Rattle.std.specs.Prelude.{◌≡◌, ◌≤◌, ◌<◌, ◌+◌, ℕ, List, [], ◌∷◌, ◌++◌, length, drop, Bool, Option, Some, None, Result, Ok, Err, ⊤}
+use Rattle.definitions.specs.declared.kinds.Kind.{Kind}
+use Rattle.definitions.specs.History.{View}
+use Rattle.definitions.specs.Refusals.{Refusal}
+use Rattle.definitions.specs.Versions.{Listed}
+use Rattle.definitions.specs.WatchReplies.{told_lines}
+use Rattle.watch_service.specs.declared.standing.Standing.{Standing}
+use Rattle.watch_service.specs.Watches.{Look, Opening, Opens, Ends, most_changes, most_idle, stands_after, idle_after, look_frames, ended_frames, opening_text}
+use Rattle.http_connection.specs.declared.watching.Watching.{Watching}
+
+module _ {S : Type 0} (watches : S → View → ℕ → ℕ → Look → S → Type 0) (v : View) where
+  -- these looks were made, each from where the watch stands after the one before it; others may have been served between them
+  abbrev pub AreLooks : ℕ → List Look → Type 0
+  AreLooks at [] = ⊤
+  AreLooks at (w ∷ looks) = ((s : S) × (t : S) × watches s v at most_changes w t) × AreLooks (stands_after at w) looks
+
+module _ {S : Type 0} (begins : S → View → Result Listed Refusal → S → Type 0) (watches : S → View → ℕ → ℕ → Look → S → Type 0) where
+  -- a watch of a view, from a revision or from what is there, opened so and was given these looks
+  abbrev pub IsGiven : View → Bool → Option ℕ → Opening → List Look → Type 0
+  IsGiven v bookmarks from o looks = ((s : S) × (t : S) × Opens begins watches v bookmarks s from (Ok o) t) × AreLooks watches v o.stands looks
+
+-- ---- where it stands
+
+-- none of these looks ends a watch
+abbrev pub Lasts : Bool → ℕ → ℕ → List Look → Type 0
+Lasts bookmarks at idle [] = ⊤
+Lasts bookmarks at idle (Ok w ∷ looks) = (idle < most_idle) × Lasts bookmarks w.stands (idle_after idle (told_lines bookmarks at w)) looks
+Lasts bookmarks at idle (Err f ∷ looks) = ⊥
+
+-- the revision at which a watch stands after looks
+abbrev pub revision_after : ℕ → List Look → ℕ
+revision_after at [] = at
+revision_after at (w ∷ looks) = revision_after (stands_after at w) looks
+
+-- how many looks in a row have given no line after looks
+abbrev pub idles_after : Bool → ℕ → ℕ → List Look → ℕ
+idles_after bookmarks at idle [] = idle
+idles_after bookmarks at idle (Ok w ∷ looks) = idles_after bookmarks w.stands (idle_after idle (told_lines bookmarks at w)) looks
+idles_after bookmarks at idle (Err f ∷ looks) = idles_after bookmarks at idle looks
+
+-- after these looks a watch stands here; nowhere where they end it
+abbrev pub StandsAfter : Bool → Opening → List Look → Option Standing → Type 0
+StandsAfter bookmarks o looks (Some at) =
+    Lasts bookmarks o.stands o.idle looks × (at.revision ≡ revision_after o.stands looks) × (at.idle ≡ idles_after bookmarks o.stands o.idle looks)
+StandsAfter bookmarks o looks None = Ends bookmarks o.stands o.idle looks
+
+-- what a watch is to be written by then: the head and the lines with which it opened, the frames of the looks, and its end once it is over
+abbrev pub text_by_then : Kind → Bool → Opening → List Look → Option Standing → List ℕ
+text_by_then k bookmarks o looks (Some at) = opening_text k o ++ look_frames k bookmarks o.stands looks
+text_by_then k bookmarks o looks None = opening_text k o ++ ended_frames k bookmarks o.stands looks
+
+-- ---- what is still to be written
+
+abbrev pub unwritten : Watching → List ℕ
+unwritten w = drop w.taken w.out.items
+
+-- the most bytes that may be left unwritten beside those with which a watch opened
+abbrev pub most_unwritten : ℕ
+most_unwritten = 4194304
+
+abbrev pub IsBounded : Watching → Type 0
+IsBounded w = length (unwritten w) ≤ w.opened + most_unwritten
+
+-- it is the same watch, wherever it stands
+abbrev pub IsSameWatch : Watching → Watching → Type 0
+IsSameWatch w u = (u.view ≡ w.view) × (u.bookmarks ≡ w.bookmarks) × (u.opened ≡ w.opened)

@@ -1,0 +1,22 @@
+//! A connection of HTTP/1.1 whose bytes come and go as they may: where it stands, and its steps, none of which waits. Who holds many
+//! connections lets each go on when its peer sends or takes, or when what it watches changes.
+#![tactic(auto)]
+
+pub mod answering;
+pub mod arriving;
+pub mod looking;
+pub mod phase;
+pub mod receiving;
+pub mod replying;
+pub mod sending;
+pub mod turning;
+pub mod watching;
+
+pub use answering::{answer, answered};
+pub use arriving::{Arriving, Awaited};
+pub use looking::look_on;
+pub use phase::Phase;
+pub use receiving::arrived;
+pub use replying::Replying;
+pub use turning::turn;
+pub use watching::{MOST_UNWRITTEN, Watching};

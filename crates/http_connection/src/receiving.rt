@@ -1,0 +1,97 @@
+//! Requests, as their bytes come.
+ghost use Rattle.std.specs.Prelude.{◌≡◌, ℕ, List, ◌++◌, true, false, length};
+ghost use Rattle.connections.specs.Connections.{IsHalfAHead};
+ghost use Rattle.received.specs.Arriving.{WaitsFor};
+ghost use Rattle.api.specs.Responding.{text_of};
+ghost use Rattle.http_connection.specs.Arriving.{Arrives, Awaits, IsArriving, IsRefusal};
+
+use crate::arriving::{Arriving, Awaited};
+use crate::phase::Phase;
+use crate::replying::Replying;
+use api::{Served, Text, refusal_text};
+use httparse::spans::EMPTY_HEADER_SPAN;
+use received::{Arrived, Received, look_at};
+use request_heads::Found;
+use request_heads::reading::{LONGEST_HEAD, MOST_FIELDS, find_head};
+use routes::table::Routes;
+use std::alloc::Global;
+
+/// Returns where a connection stands that is refused with this.
+fn refused(text: Text) -> Phase
+    ensures { (read : List ℕ) → IsRefusal read (text_of text) → Arrives read result }
+{
+    Phase::Replying(Replying {
+        text,
+        taken: 0,
+        served: Served::NotAsked,
+    })
+}
+
+/// Returns whether the bytes are a part of a head.
+fn is_half_a_head(bytes: &[u8]) -> bool
+    ensures { result ≡ true → IsHalfAHead bytes.now }
+{
+    if bytes.len() > LONGEST_HEAD {
+        return false;
+    }
+    let mut fields = [EMPTY_HEADER_SPAN; MOST_FIELDS];
+    matches!(find_head(bytes, &mut fields), Found::Cut)
+}
+
+/// Returns what has to come after bytes that ask nothing before there are so many. One byte more can end a body; a head it ends only
+/// as the end of a line.
+fn awaited_after(bytes: &[u8], needs: usize) -> Awaited
+    requires { WaitsFor bytes.now needs }
+    ensures { Awaits result bytes.now }
+{
+    if needs - bytes.len() == 1 && is_half_a_head(bytes) {
+        Awaited::LineEnd
+    } else {
+        Awaited::Bytes(needs)
+    }
+}
+
+/// Returns where a connection stands of which these bytes were read.
+fn look(alloc: Global, routes: &Routes, bytes: Vec<u8>) -> Phase
+    ensures { Arrives bytes.items result }
+{
+    match look_at(alloc, routes, &bytes) {
+        Ok(Arrived::Part(needs)) => {
+            let awaited = awaited_after(&bytes, needs);
+            Phase::Reading(Arriving { bytes, awaited })
+        }
+        Ok(Arrived::Whole(Received::Asked(asked))) => Phase::Asked(asked),
+        Ok(Arrived::Whole(Received::Refused(fault))) => refused(refusal_text(alloc, &fault)),
+        Ok(Arrived::Whole(Received::Ended)) => Phase::Closing(Served::NotAsked),
+        Err(_) => refused(Text::OutOfMemory),
+    }
+}
+
+/// Returns whether what was awaited has come with a piece, after which there are so many bytes.
+fn has_come(awaited: Awaited, piece: &[u8], len: usize) -> bool
+    ensures { result ≡ false → (before : List ℕ) → length (before ++ piece.now) ≡ len → Awaits awaited before
+        → Awaits awaited (before ++ piece.now) }
+{
+    match awaited {
+        Awaited::LineEnd => len >= LONGEST_HEAD || piece.contains(&b'\n'),
+        Awaited::Bytes(needs) => len >= needs,
+    }
+}
+
+/// Returns where a connection stands whose request was not whole, after these bytes came. A head is looked at only where a line ends, or
+/// at the length that none may have, and a body only once it is whole, so that a request that comes byte by byte costs little more than
+/// one that comes at once. Running out of memory is replied.
+pub fn arrived(alloc: Global, routes: &Routes, arriving: Arriving, piece: &[u8]) -> Phase
+    ensures { (read : List ℕ) → IsArriving arriving read → Arrives (read ++ piece.now) result }
+{
+    let awaited = arriving.awaited;
+    let mut bytes = arriving.bytes;
+    if bytes.extend_from_slice(piece).is_err() {
+        return refused(Text::OutOfMemory);
+    }
+    if has_come(awaited, piece, bytes.len()) {
+        look(alloc, routes, bytes)
+    } else {
+        Phase::Reading(Arriving { bytes, awaited })
+    }
+}
