@@ -14,3 +14,5 @@ mod line_runs;
 mod receiving;
 #[cfg(test)]
 mod serving;
+#[cfg(test)]
+mod stepping;

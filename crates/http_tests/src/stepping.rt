@@ -1,0 +1,155 @@
+//! Connections that go on in steps, a byte read and four written at a time: they are written what `serve_one` writes.
+use api::serve_one;
+use chunked::Watched;
+use definitions::kinds::Kind;
+use desk::Server;
+use http_connection::{Arriving, Phase, answer, look_on, turn};
+use routes::table::Routes;
+use sites::Solo;
+use stamps::moments::Moment;
+use std::alloc::{AllocError, Global};
+use std::io::ErrorKind;
+use test_devices::{Sink, Source};
+use watch_service::Pace;
+
+/// A create of the ConfigMap `a`.
+const CREATE: &[u8] =
+    b"POST /api/v1/namespaces/default/configmaps HTTP/1.1\r\nContent-Length: 42\r\n\r\n{\"metadata\":{\"name\":\"a\"},\"data\":{\"k\":\"v\"}}";
+
+/// A create of the ConfigMap `b`.
+const CREATE_ANOTHER: &[u8] =
+    b"POST /api/v1/namespaces/default/configmaps HTTP/1.1\r\nContent-Length: 25\r\n\r\n{\"metadata\":{\"name\":\"b\"}}";
+
+/// A watch of the ConfigMaps of all namespaces, from before both.
+const WATCH: &[u8] = b"GET /api/v1/configmaps?watch=true&resourceVersion=1 HTTP/1.1\r\n\r\n";
+
+/// Does not wait.
+#[derive(Drop)]
+struct AtOnce;
+
+impl Pace for AtOnce {
+    fn pause(&mut self, _kind: Kind, _idle: u64) {}
+}
+
+/// Returns a server where nothing is there.
+fn empty(alloc: Global) -> Result<Solo, AllocError> {
+    Ok(Solo::new(Server::new(alloc, 1024)?))
+}
+
+/// Returns a writer with room for a reply.
+fn sink(alloc: Global) -> Result<Sink, AllocError> {
+    Ok(Sink {
+        written: Vec::with_capacity(alloc, 2048)?,
+        bad: u64::MAX,
+        kind: ErrorKind::WouldBlock,
+        calls: 0,
+    })
+}
+
+/// Returns what `serve_one` writes for a text.
+fn at_once(
+    alloc: Global,
+    routes: &Routes,
+    site: &mut Solo,
+    text: &[u8],
+) -> Result<Vec<u8>, AllocError> {
+    let mut reader = Watched::new(Source::new(text, 4096));
+    let mut writer = Watched::new(sink(alloc)?);
+    let _served = serve_one(
+        alloc,
+        routes,
+        &mut reader,
+        &mut writer,
+        site,
+        Moment::start(),
+        &mut AtOnce,
+    );
+    Ok(writer.into_inner().written)
+}
+
+/// Lets a text come byte by byte, and returns where its connection then stands, answered if its request is whole.
+fn asked(alloc: Global, routes: &Routes, site: &mut Solo, text: &[u8], sink: &mut Sink) -> Phase {
+    let mut source = Source::new(text, 1);
+    source.kind = ErrorKind::WouldBlock;
+    let mut phase = Phase::Reading(Arriving::new(alloc));
+    for _ in 0..text.len() {
+        source.bad = source.calls.saturating_add(1);
+        phase = turn::<Solo, Source<'_>, Sink>(alloc, routes, phase, &mut source, sink);
+    }
+    match phase {
+        Phase::Asked(asked) => answer(alloc, asked, site, Moment::start()),
+        other => other,
+    }
+}
+
+/// Lets a connection be written, as far as there is something to write.
+fn written(alloc: Global, routes: &Routes, phase: Phase, sink: &mut Sink) -> Phase {
+    let mut source = Source::new(b"", 1);
+    let mut phase = phase;
+    for _ in 0..4096 {
+        if !phase.is_unwritten() {
+            return phase;
+        }
+        sink.bad = sink.calls.saturating_add(1);
+        phase = turn::<Solo, Source<'_>, Sink>(alloc, routes, phase, &mut source, sink);
+    }
+    phase
+}
+
+/// Takes a look, if the connection is one of a watch.
+fn looked(alloc: Global, phase: Phase, site: &mut Solo) -> Phase {
+    match phase {
+        Phase::Watching(watching) => look_on(alloc, watching, site),
+        other => other,
+    }
+}
+
+/// Returns what is written in steps for a text.
+fn in_steps(
+    alloc: Global,
+    routes: &Routes,
+    site: &mut Solo,
+    text: &[u8],
+) -> Result<Vec<u8>, AllocError> {
+    let mut sink = sink(alloc)?;
+    let phase = asked(alloc, routes, site, text, &mut sink);
+    let _over = written(alloc, routes, phase, &mut sink);
+    Ok(sink.written)
+}
+
+/// Returns whether a create in steps is replied what it is at once.
+fn is_replied_alike(alloc: Global) -> Result<bool, AllocError> {
+    let routes = Routes::new(alloc)?;
+    let steps = in_steps(alloc, &routes, &mut empty(alloc)?, CREATE)?;
+    let once = at_once(alloc, &routes, &mut empty(alloc)?, CREATE)?;
+    Ok(steps.as_slice() == once.as_slice() && steps.starts_with(b"HTTP/1.1 201"))
+}
+
+#[test]
+fn a_request_that_comes_byte_by_byte_is_answered(rt: HostRuntime) {
+    assert_eq!(rt; is_replied_alike(rt.alloc()), Ok(true));
+}
+
+/// Returns whether a watch that was given a look after each of two creates, and more up to its end, is written what it is at once.
+fn is_watched_alike(alloc: Global) -> Result<bool, AllocError> {
+    let routes = Routes::new(alloc)?;
+    let mut site = empty(alloc)?;
+    let mut sink = sink(alloc)?;
+    let mut phase = asked(alloc, &routes, &mut site, WATCH, &mut sink);
+    for text in [CREATE, CREATE_ANOTHER] {
+        in_steps(alloc, &routes, &mut site, text)?;
+        phase = looked(alloc, phase, &mut site);
+        phase = written(alloc, &routes, phase, &mut sink);
+    }
+    for _ in 0..1025 {
+        phase = looked(alloc, phase, &mut site);
+    }
+    phase = written(alloc, &routes, phase, &mut sink);
+    let once = at_once(alloc, &routes, &mut site, WATCH)?;
+    Ok(phase.is_over() && sink.written.as_slice() == once.as_slice())
+}
+
+#[test]
+fn a_watch_is_written_after_each_look(rt: HostRuntime) {
+    assert_eq!(rt; is_watched_alike(rt.alloc()), Ok(true));
+}
