@@ -1,6 +1,6 @@
 //! The clock of the machine.
 use bells::Stop;
-use clocks::Stopwatch;
+use clocks::stopwatch::Stopwatch;
 use following::{Onward, Timer};
 use std::sync::Wait;
 use std::time::{Clock, Instant};
