@@ -14,7 +14,7 @@ pub struct Wall<'a, R> {
 }
 
 impl<'a, R: Clock> Wall<'a, R> {
-    ghost use Rattle.std.specs.Prelude.{◌≡◌, ◌/◌, ◌^◌, min};
+    ghost use Rattle.std.specs.Prelude.{◌≡◌, ◌-◌, ◌/◌, ◌^◌, min};
     ghost use Rattle.clocks.specs.Stopwatches.{passed_in};
     ghost use Rattle.manager.specs.Passed.{LooksAgain, stopwatch_of};
 
