@@ -218,3 +218,62 @@ fn counts(alloc: Global) -> (u64, u64) {
 fn each_reply_is_flushed_once(rt: HostRuntime) {
     assert_eq!(rt; counts(rt.alloc()), (3, 6));
 }
+
+/// What was written when the reader fails at each of its calls.
+const AT_READS: [&[u8]; 6] = [
+    b"",
+    b"ab\n",
+    b"ab\n",
+    b"ab\nc\n",
+    b"ab\nc\n",
+    b"ab\nc\nde\n",
+];
+
+/// Returns the first call of a reader that fails there, after which a run does not end so, or wrote something else.
+fn first_wrong_read(alloc: Global) -> Option<usize> {
+    for (place, written) in AT_READS.iter().enumerate() {
+        let run_of = (
+            place as u64,
+            ErrorKind::BrokenPipe,
+            1000,
+            false,
+            Err(RunFault::Read),
+            *written,
+        );
+        if !matches!(ends_so(alloc, &Wire::new(), &run_of), Ok(true)) {
+            return Some(place);
+        }
+    }
+    None
+}
+
+#[test]
+fn a_reader_that_fails_at_any_call_ends_a_run(rt: HostRuntime) {
+    assert_eq!(rt; first_wrong_read(rt.alloc()), None);
+}
+
+/// What a run writes.
+const WHOLE: &[u8] = b"ab\nc\nde\n";
+
+/// Returns the first number of bytes after which a writer fails, and a run does not end so, or wrote something else.
+fn first_wrong_write(alloc: Global) -> Option<usize> {
+    for full in 0..WHOLE.len() {
+        let run_of = (
+            NEVER,
+            ErrorKind::BrokenPipe,
+            full,
+            false,
+            Err(RunFault::Write),
+            WHOLE.get(..full).unwrap_or(WHOLE),
+        );
+        if !matches!(ends_so(alloc, &Wire::new(), &run_of), Ok(true)) {
+            return Some(full);
+        }
+    }
+    None
+}
+
+#[test]
+fn a_writer_that_fails_after_any_byte_ends_a_run(rt: HostRuntime) {
+    assert_eq!(rt; first_wrong_write(rt.alloc()), None);
+}
