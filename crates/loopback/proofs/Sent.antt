@@ -25,6 +25,8 @@ use Rattle.loopback.specs.contracts.answering.Ringer as Ringer
 use Rattle.loopback.specs.contracts.kind_bells.KindBells as KindBells
 use Rattle.loopback.specs.contracts.answering.Connection as Connection
 use Rattle.loopback.specs.contracts.connecting.Connector as Connector
+use Rattle.loopback.specs.contracts.heard.Heard as Heard
+use Rattle.loopback.specs.contracts.telling.Teller as Teller
 use Rattle.loopback.specs.contracts.other_server.OtherServer as OtherServer
 use Rattle.loopback.specs.contracts.own_server.OwnServer as OwnServer
 use Rattle.loopback.specs.contracts.reach.Reach as Reach
@@ -84,12 +86,24 @@ module _ (a : NamedLft) (R : RattleType) (r : IsSync R) where
   pub connector : IsSend (Connector.the_row a R)
   connector = declared_send (Connector.the_type a R) (runtime, (alloc, (port, (lent_stop, (lent_reach, tt)))))
 
+  teller : IsSend (Teller.the_row a R)
+  teller = declared_send (Teller.the_type a R) (runtime, (alloc, (port, (lent_reach, tt))))
+
+  module _ (S : RattleType) (s : IsSend S) where
+    heard_stream : IsSend (as_row (Field.row_field S))
+    heard_stream = search (s, sendable)
+
+    heard : IsSend (Heard.the_row a R S)
+    heard = declared_send (Heard.the_type a R S) (heard_stream, (teller, (search (heap.crosses, sendable), tt)))
+
   -- what reads a connection
   abbrev pub Reading : RattleType
-  Reading = BufReader.the_row (Patient.the_row a TcpStream.the_row) Global.the_row ghosts
+  Reading = BufReader.the_row (Heard.the_row a R (Patient.the_row a TcpStream.the_row)) Global.the_row ghosts
 
   pub reading : IsSend Reading
-  reading = buffered.the_send (Patient.the_row a TcpStream.the_row) Global.the_row ghosts (patient.the_send a TcpStream.the_row stream.the_send) heap.send heap.frees
+  reading =
+      buffered.the_send (Heard.the_row a R (Patient.the_row a TcpStream.the_row)) Global.the_row ghosts
+      (heard (Patient.the_row a TcpStream.the_row) (patient.the_send a TcpStream.the_row stream.the_send)) heap.send heap.frees
 
   -- what asks over connections
   abbrev pub Asked : RattleType
