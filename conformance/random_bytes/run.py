@@ -9,6 +9,7 @@ Usage: run.py --program PATH [--bytes N] [--seed N] [WORD]      WORD: only kinds
 """
 import argparse
 import json
+import math
 import pathlib
 import random
 import re
@@ -47,13 +48,13 @@ TARGET = re.compile(rb"GET \S*/(configmaps|pods|replicasets|deployments)(\?\S*)?
 
 
 def random_bytes(rolls, right, longest):
-    """Returns random bytes, so many at most, in one of three ways."""
-    way = rolls.randrange(3)
+    """Returns random bytes, so many at most and most often few, in one of three ways."""
+    way, count = rolls.randrange(3), int(2 ** rolls.uniform(0, math.log2(longest)))
     if way == 0:
-        return rolls.randbytes(rolls.randint(1, longest))
+        return rolls.randbytes(count)
     if way == 1:
-        return bytes(rolls.choices(ALPHABET, k=rolls.randint(1, longest)))
-    changed = bytearray(right * rolls.randint(1, max(1, min(longest // len(right), 20))))
+        return bytes(rolls.choices(ALPHABET, k=count))
+    changed = bytearray(right * max(1, min(count // len(right), 20)))
     for _ in range(rolls.randint(1, 1 + len(changed) // 50)):
         changed[rolls.randrange(len(changed))] = rolls.choice(ALPHABET) if rolls.random() < 0.7 else rolls.randrange(256)
     return bytes(changed)
