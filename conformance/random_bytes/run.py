@@ -47,14 +47,14 @@ KIND_OF = {"configmaps": b"ConfigMap", "pods": b"Pod", "replicasets": b"ReplicaS
 TARGET = re.compile(rb"GET \S*/(configmaps|pods|replicasets|deployments)(\?\S*)? HTTP/1\.1\r\n")
 
 
-def random_bytes(rolls, right, longest):
-    """Returns random bytes, so many at most and most often few, in one of three ways."""
-    way, count = rolls.randrange(3), int(2 ** rolls.uniform(0, math.log2(longest)))
+def random_bytes(rolls, right, longest, least=1):
+    """Returns random bytes, so many at least and at most and most often few, in one of three ways."""
+    way, count = rolls.randrange(3), int(2 ** rolls.uniform(math.log2(least), math.log2(longest)))
     if way == 0:
         return rolls.randbytes(count)
     if way == 1:
         return bytes(rolls.choices(ALPHABET, k=count))
-    changed = bytearray(right * max(1, min(count // len(right), 20)))
+    changed = bytearray(right * max(1, count // len(right)))
     for _ in range(rolls.randint(1, 1 + len(changed) // 50)):
         changed[rolls.randrange(len(changed))] = rolls.choice(ALPHABET) if rolls.random() < 0.7 else rolls.randrange(256)
     return bytes(changed)
@@ -229,24 +229,24 @@ def chunk(text):
 
 
 def reply_answer(rolls, kind, is_watch, longest):
-    some = random_bytes(rolls, REPLY, longest)
+    some = random_bytes(rolls, REPLY, longest, longest // 2)
     return some, len(some)
 
 
 def list_answer(rolls, kind, is_watch, longest):
-    some = random_bytes(rolls, LIST % KIND_OF.get(kind, b"Pod"), longest)
+    some = random_bytes(rolls, LIST % KIND_OF.get(kind, b"Pod"), longest, longest // 2)
     return whole(some), len(some)
 
 
 def chunk_answer(rolls, kind, is_watch, longest):
-    some = random_bytes(rolls, CHUNKS, longest)
+    some = random_bytes(rolls, CHUNKS, longest, longest // 2)
     return in_chunks(some), len(some)
 
 
 def frame_answer(rolls, kind, is_watch, longest):
     if not is_watch:
         return whole(LIST % KIND_OF.get(kind, b"Pod")), 0
-    some = random_bytes(rolls, FRAME, longest)
+    some = random_bytes(rolls, FRAME, longest, longest // 2)
     return in_chunks(b"".join(chunk(some[at : at + 777]) for at in range(0, len(some), 777))), len(some)
 
 
