@@ -8,13 +8,15 @@ use serde_json::Value;
 use std::sync::Wait;
 use std::time::Clock;
 
+/// The name of the ConfigMap.
+pub const ITEM: &str = "item";
+
 /// A client gives a ConfigMap other owners once a turn is planned that deletes it, before the delete is made. Then it waits until the
 /// ConfigMap has but one owner.
 #[derive(Drop)]
 pub struct Adopting<'a, 'g, R> {
     pub client: Client<'a, R>,
     pub gate: &'g Halting<'a, R>,
-    pub name: String,
     /// The owners, as a merge patch.
     pub owners: String,
     /// The uid of the one that is left.
@@ -39,8 +41,8 @@ impl<R: Wait + Clock> Adopting<'_, '_, R> {
         if !self.gate.await_plan() {
             return false;
         }
-        let (name, owners) = (self.name.as_str(), self.owners.as_str());
-        let is_owned = self.client.patch(Kind::ConfigMap, name, owners);
+        let owners = self.owners.as_str();
+        let is_owned = self.client.patch(Kind::ConfigMap, ITEM, owners);
         self.gate.release();
         is_owned
     }
@@ -49,7 +51,7 @@ impl<R: Wait + Clock> Adopting<'_, '_, R> {
     fn await_owner(&mut self) -> bool {
         let rt = self.client.rt;
         wait_until(rt, || {
-            match self.client.get(Kind::ConfigMap, self.name.as_str()) {
+            match self.client.get(Kind::ConfigMap, ITEM) {
                 Some(object) => is_owned_by(&object, self.left.as_str()),
                 None => false,
             }

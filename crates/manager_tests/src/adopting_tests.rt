@@ -1,15 +1,19 @@
 //! A ConfigMap that is given an owner while its delete is planned.
-use crate::adopting::Adopting;
+ghost use Rattle.std.specs.Prelude.{All};
+ghost use Rattle.shared_desk.specs.Desks.{IsNewAt};
+
+use crate::adopting::{Adopting, ITEM};
 use crate::clients::Client;
 use crate::environments::Environment;
 use crate::halting::Halting;
 use crate::objects::{owned, owner};
-use crate::running::{Controllers, run_scenario};
+use crate::running::run_beside;
+use crate::scenes::Scene;
 use controllers::controller::Controller;
 use definitions::kinds::Kind;
+use shared_desk::StorePass;
 use std::alloc::{AllocError, Global};
 use std::sync::Wait;
-use std::test::Fail;
 use std::time::Clock;
 
 /// The uid of an owner that is not there: the server makes none like it.
@@ -23,7 +27,7 @@ fn declared<R: Wait + Clock>(
     alloc: Global,
     client: &mut Client<'_, R>,
 ) -> Result<Option<String>, AllocError> {
-    let item = owned(alloc, "item", owner(alloc, "gone", GONE)?.as_str())?;
+    let item = owned(alloc, ITEM, owner(alloc, "gone", GONE)?.as_str())?;
     if client.create(Kind::ConfigMap, item.as_str()).is_none() {
         return Ok(None);
     }
@@ -42,30 +46,38 @@ fn adopted(alloc: Global, uid: &str) -> Result<String, AllocError> {
     let mut owners = owner(alloc, "gone", GONE)?;
     owners.push_str(",")?;
     owners.push_str(owner(alloc, "alive", uid)?.as_str())?;
-    owned(alloc, "item", owners.as_str())
+    owned(alloc, ITEM, owners.as_str())
+}
+
+/// Declares the item and its owner. Returns a client, and the uid of the owner, if both were declared.
+fn prepared<'a, R: Wait + Clock>(
+    scene: &Scene<'a, R>,
+    passes: &mut Vec<StorePass>,
+) -> Result<Option<(Client<'a, R>, String)>, AllocError>
+    requires { All (IsNewAt scene.now.environment.now.desk) passes.old.items }
+    ensures { All (IsNewAt scene.now.environment.now.desk) passes.new.items }
+{
+    let mut client = Client::new(scene, passes)?;
+    let uid = declared(scene.alloc, &mut client)?;
+    Ok(uid.map(|uid| (client, uid)))
 }
 
 #[test]
-fn what_is_given_a_live_owner_meanwhile_stays(rt: HostRuntime) -> Result<(), Fail> {
-    let alloc = rt.alloc();
-    let (environment, mut passes) = Environment::open(alloc, PASSES)?;
-    let scene = environment.scene(&rt, alloc);
-    let mut client = Client::new(&scene, &mut passes)?;
-    let Some(uid) = declared(alloc, &mut client)? else {
+fn what_is_given_a_live_owner_meanwhile_stays(rt: HostRuntime) -> Result<(), AllocError> {
+    let (environment, mut passes) = Environment::open(rt.alloc(), PASSES)?;
+    let scene = environment.scene(&rt, rt.alloc());
+    let gate = Halting::new(&scene, Controller::Collector, ITEM)?;
+    let Some((client, uid)) = prepared(&scene, &mut passes)? else {
         assert!(rt; false, "nothing was declared");
         return Ok(());
     };
-    let gate = Halting::new(&scene, Controller::Collector, "item")?;
-    let controllers = Controllers::new(&scene, &mut passes, 1, &gate)?;
     let mut adopting = Adopting {
         client,
         gate: &gate,
-        name: String::from_str(alloc, "item")?,
-        owners: adopted(alloc, uid.as_str())?,
+        owners: adopted(rt.alloc(), uid.as_str())?,
         left: uid,
     };
-    let has_come = run_scenario(controllers, &mut adopting);
-    assert_eq!(rt; environment.delete_conflicts(), 1, "no delete was refused");
-    assert!(rt; has_come, "the item does not have its one owner");
+    let has_come = run_beside(&scene, &mut passes, 1, &gate, &mut adopting)?;
+    assert_eq!(rt; (environment.delete_conflicts(), has_come), (1, true));
     Ok(())
 }

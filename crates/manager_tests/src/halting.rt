@@ -11,7 +11,7 @@ use std::time::Clock;
 use work_keys::WorkKey;
 
 /// A gate at which the first turn of a key waits, once it is planned and before its first command, until a client lets it go on. The gate
-/// counts how often the key comes. Turns of other keys of ReplicaSets wait there until it has come a second time.
+/// counts how often the key comes. Turns of other keys of ReplicaSets wait there until it has come a second time, and are counted too.
 #[derive(Drop)]
 pub struct Halting<'a, R> {
     rt: &'a R,
@@ -20,6 +20,8 @@ pub struct Halting<'a, R> {
     name: String,
     /// How often the key came.
     comings: AtomicU64,
+    /// How many turns of other keys of ReplicaSets came.
+    others: AtomicU64,
     /// How many turns of it were planned.
     plans: AtomicU64,
     /// 1 once the first turn may go on.
@@ -41,6 +43,7 @@ impl<'a, R: Clock> Halting<'a, R> {
             controller,
             name,
             comings: AtomicU64::new(0),
+            others: AtomicU64::new(0),
             plans: AtomicU64::new(0),
             released: AtomicU64::new(0),
         })
@@ -59,6 +62,11 @@ impl<'a, R: Clock> Halting<'a, R> {
     /// Waits until the first turn of the key is planned, and returns whether it is.
     pub fn await_plan(&self) -> bool {
         self.await_count(&self.plans, 1)
+    }
+
+    /// Waits until a turn of another key of a ReplicaSet has come, and returns whether one has: it waits while the key has come but once.
+    pub fn await_other(&self) -> bool {
+        self.await_count(&self.others, 1)
     }
 
     /// Waits until the key has come a second time, and returns whether it has.
@@ -82,6 +90,7 @@ impl<R: Wait + Clock> Gate for Halting<'_, R> {
         if self.stops(key) {
             self.comings.fetch_add(1, Ordering::SeqCst);
         } else if key.controller == Controller::ReplicaSet {
+            self.others.fetch_add(1, Ordering::SeqCst);
             let _ = self.await_return();
         }
     }

@@ -1,28 +1,39 @@
 //! A scenario in which a set is labelled that is to be updated.
 use crate::clients::Client;
 use crate::environments::Environment;
+use crate::fake_clocks::FakeClock;
 use crate::halting::Halting;
 use crate::polling::wait_until;
 use crate::scenarios::Scenario;
 use definitions::kinds::Kind;
+use manager::Signals;
 use serde_json::Value;
 use std::sync::Wait;
-use std::time::Clock;
+use std::thread;
+use std::time::{Clock, Duration};
 
-/// A client labels a set once a turn is planned that updates it, before the update is made. It waits until the turn's key comes again, while
-/// watches are paused, so that nobody hears of the label. Then it resumes them, and waits until the set has both the label and so many
-/// replicas.
+/// A client labels a set once a turn is planned that updates it, before the update is made, while the clock stands still and watches are
+/// paused, so that nobody hears of the label. The turn's key stays away until the delay of a first failure is over, and comes again then. The
+/// client resumes the watches, and waits until the set has both the label and so many replicas.
 #[derive(Drop)]
 pub struct Labelling<'a, 'g, R> {
-    pub client: Client<'a, R>,
-    pub gate: &'g Halting<'a, R>,
+    pub client: Client<'a, FakeClock<R>>,
+    pub gate: &'g Halting<'a, FakeClock<R>>,
     pub environment: &'a Environment,
+    /// What tells after how many more turns all threads stop.
+    pub signals: &'a Signals,
     pub set: String,
     pub replicas: u64,
 }
 
 /// The label, as a merge patch.
 const LABEL: &str = "{\"metadata\":{\"labels\":{\"marked\":\"yes\"}}}";
+
+/// How many milliseconds a key waits that failed once.
+const DELAY_MILLISECONDS: u64 = 5;
+
+/// How many milliseconds of the machine's clock a key that is not to come is waited for.
+const LOOK_MILLISECONDS: u64 = 100;
 
 /// Returns whether a set has the label and so many replicas.
 fn is_as_wanted(set: &Value, replicas: u64) -> bool {
@@ -34,16 +45,28 @@ fn is_as_wanted(set: &Value, replicas: u64) -> bool {
 }
 
 impl<R: Wait + Clock> Labelling<'_, '_, R> {
-    /// Labels the set once the turn is planned, and returns whether it did.
-    fn label(&mut self) -> bool {
-        if !self.gate.await_plan() {
+    /// Labels the set once the turn is planned and the other worker waits, so that no turn ends but this one, and waits until it has. Returns
+    /// whether it has.
+    fn fail_turn(&mut self) -> bool {
+        if !self.gate.await_plan() || !self.gate.await_other() {
             return false;
         }
+        let left = self.signals.turns_left();
         let is_labelled = self
             .client
             .patch(Kind::ReplicaSet, self.set.as_str(), LABEL);
         self.gate.release();
-        is_labelled
+        is_labelled && wait_until(self.client.rt, || self.signals.turns_left() != left)
+    }
+
+    /// Returns whether the key stays away until its delay is over, and comes again then.
+    fn comes_after_delay(&self) -> bool {
+        let clock = self.client.rt;
+        clock.step(DELAY_MILLISECONDS - 1);
+        thread::sleep(clock, Duration::from_millis(LOOK_MILLISECONDS));
+        let is_away = self.gate.comings() == 1;
+        clock.step(1);
+        is_away && self.gate.await_return()
     }
 
     /// Waits until the set has the label and its replicas, and returns whether it does.
@@ -56,12 +79,20 @@ impl<R: Wait + Clock> Labelling<'_, '_, R> {
             }
         })
     }
+
+    /// Tells all threads to stop, and wakes those that wait for a write: their clock stands still.
+    fn stop(&self) {
+        self.signals.stop_all();
+        self.environment.bell.ring();
+    }
 }
 
 impl<R: Wait + Clock> Scenario for Labelling<'_, '_, R> {
     fn run(&mut self) -> bool {
-        let has_come_again = self.label() && self.gate.await_return();
+        let has_waited = self.fail_turn() && self.comes_after_delay();
         self.environment.resume_watches();
-        has_come_again && self.await_set()
+        let has_come = has_waited && self.await_set();
+        self.stop();
+        has_come
     }
 }

@@ -1,49 +1,29 @@
 //! A set that is labelled while an update of it is planned.
-ghost use Rattle.std.specs.Prelude.{All};
+ghost use Rattle.std.specs.Prelude.{◌≡◌, All};
 ghost use Rattle.shared_desk.specs.Desks.{IsNewAt};
 
 use crate::clients::Client;
-use crate::counting::Counting;
+use crate::counting::declare_and_count;
 use crate::environments::Environment;
+use crate::fake_clocks::FakeClock;
 use crate::halting::Halting;
 use crate::labelling::Labelling;
-use crate::objects::with_pods;
-use crate::running::{Controllers, run_scenario};
+use crate::running::run_beside;
 use crate::scenes::Scene;
 use controllers::controller::Controller;
 use definitions::kinds::Kind;
-use manager::{Open, Signals};
+use manager::Signals;
 use shared_desk::StorePass;
 use std::alloc::{AllocError, Global};
 use std::sync::Wait;
-use std::test::Fail;
 use std::thread::Threads;
 use std::time::Clock;
 
 /// How many passes there are: for four followers and a client, of each run, for one worker of the first run and for two of the second.
 const PASSES: usize = 13;
 
-/// Lets the controllers make the set of a Deployment of one pod, and returns whether they did.
-fn make_set<R: Threads + Wait + Clock + Sync>(
-    scene: &Scene<'_, R>,
-    passes: &mut Vec<StorePass>,
-) -> Result<bool, AllocError>
-    requires { All (IsNewAt scene.now.environment.now.desk) passes.old.items }
-    ensures { All (IsNewAt scene.now.environment.now.desk) passes.new.items }
-{
-    let mut client = Client::new(scene, passes)?;
-    let text = with_pods(scene.alloc, "web", 1)?;
-    if client.create(Kind::Deployment, text.as_str()).is_none() {
-        return Ok(false);
-    }
-    let mut counting = Counting {
-        client,
-        kind: Kind::ReplicaSet,
-        wanted: 1,
-    };
-    let controllers = Controllers::new(scene, passes, 1, &Open)?;
-    Ok(run_scenario(controllers, &mut counting))
-}
+/// After how many turns the threads would stop: more than they take.
+const MOST_TURNS: u64 = 1_000_000;
 
 /// Declares that the Deployment has two pods, and returns the name of its set.
 fn changed<R: Wait + Clock>(
@@ -65,35 +45,52 @@ fn changed<R: Wait + Clock>(
     }
 }
 
+/// Has the controllers make the set of a Deployment of one pod, and changes the Deployment. Returns a client, and the name of the set, if it
+/// was made.
+fn prepared<'a, R: Threads + Wait + Clock + Sync>(
+    before: &Scene<'_, R>,
+    scene: &Scene<'a, FakeClock<R>>,
+    passes: &mut Vec<StorePass>,
+) -> Result<Option<(Client<'a, FakeClock<R>>, String)>, AllocError>
+    requires before { All (IsNewAt before.now.environment.now.desk) passes.old.items }
+    requires scene { scene.now.environment.now ≡ before.now.environment.now }
+    ensures { All (IsNewAt scene.now.environment.now.desk) passes.new.items }
+{
+    let (declared, made) = (Kind::Deployment, Kind::ReplicaSet);
+    if !declare_and_count(before, passes, declared, 1, 1, made, 1)? {
+        return Ok(None);
+    }
+    let mut client = Client::new(scene, passes)?;
+    let set = changed(scene.alloc, &mut client)?;
+    Ok(set.map(|set| (client, set)))
+}
+
 #[test]
-fn an_update_of_what_has_changed_is_planned_again(rt: HostRuntime) -> Result<(), Fail> {
-    let alloc = rt.alloc();
-    let earlier = Signals::new(None);
-    let (environment, mut passes) = Environment::open(alloc, PASSES)?;
-    let before = environment.scene_with(&rt, alloc, &earlier);
-    assert!(rt; make_set(&before, &mut passes)?, "no set was made");
-    let scene = environment.scene(&rt, alloc);
-    let mut client = Client::new(&scene, &mut passes)?;
-    let Some(set) = changed(alloc, &mut client)? else {
-        assert!(rt; false, "nothing was changed");
+fn an_update_of_what_has_changed_is_planned_again_after_its_delay(
+    rt: HostRuntime,
+) -> Result<(), AllocError> {
+    let (clock, signals) = (FakeClock::new(rt), Signals::new(Some(MOST_TURNS)));
+    let (environment, mut passes) = Environment::open(rt.alloc(), PASSES)?;
+    let before = environment.scene(&rt, rt.alloc());
+    let scene = environment.scene_with(&clock, rt.alloc(), &signals);
+    let gate = Halting::new(&scene, Controller::Deployment, "web")?;
+    let Some((client, set)) = prepared(&before, &scene, &mut passes)? else {
+        assert!(rt; false, "no set was made");
         return Ok(());
     };
     environment.pause_watches();
-    let gate = Halting::new(&scene, Controller::Deployment, "web")?;
-    let controllers = Controllers::new(&scene, &mut passes, 2, &gate)?;
     let mut labelling = Labelling {
         client,
         gate: &gate,
         environment: scene.environment,
+        signals: scene.signals,
         set,
         replicas: 2,
     };
-    let has_come = run_scenario(controllers, &mut labelling);
-    assert!(rt;
-        environment.update_conflicts() >= 1,
-        "no update was refused"
+    let has_come = run_beside(&scene, &mut passes, 2, &gate, &mut labelling)?;
+    assert_eq!(rt;
+        (environment.update_conflicts() >= 1, has_come),
+        (true, true)
     );
-    assert!(rt; gate.comings() >= 2, "the key has not come again");
-    assert!(rt; has_come, "the set is not as it was to be");
     Ok(())
 }

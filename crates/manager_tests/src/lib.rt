@@ -2,27 +2,45 @@
 //! and scenarios, which say what a client does meanwhile.
 #![tactic(auto)]
 
-pub mod adopting;
+#[cfg(test)]
+mod adopting;
 #[cfg(test)]
 mod adopting_tests;
-pub mod beside;
+#[cfg(test)]
+mod beside;
 #[cfg(test)]
 mod beside_tests;
-pub mod clients;
-pub mod counting;
+#[cfg(test)]
+mod clients;
+#[cfg(test)]
+mod counting;
 #[cfg(test)]
 mod counting_tests;
-pub mod environments;
-pub mod halting;
-pub mod labelling;
+#[cfg(test)]
+mod environments;
+#[cfg(test)]
+mod fake_clocks;
+#[cfg(test)]
+mod halting;
+#[cfg(test)]
+mod labelling;
 #[cfg(test)]
 mod labelling_tests;
-pub mod objects;
-pub mod polling;
-pub mod ringers;
-pub mod running;
-pub mod scenarios;
-pub mod scenes;
-pub mod servers;
-pub mod waiting;
-pub mod watches;
+#[cfg(test)]
+mod objects;
+#[cfg(test)]
+mod polling;
+#[cfg(test)]
+mod ringers;
+#[cfg(test)]
+mod running;
+#[cfg(test)]
+mod scenarios;
+#[cfg(test)]
+mod scenes;
+#[cfg(test)]
+mod servers;
+#[cfg(test)]
+mod waiting;
+#[cfg(test)]
+mod watches;

@@ -112,3 +112,23 @@ where
     let (ran, has_come) = thread::join(rt, || controllers.run(), || run_to_stop(scenario, signals));
     ran && has_come
 }
+
+/// Runs a scenario while controllers with so many workers run, each of which passes a gate, and stops them at its end. Returns what
+/// `run_scenario` does. The error is running out of memory or of passes.
+pub fn run_beside<R, G, S>(
+    scene: &Scene<'_, R>,
+    passes: &mut Vec<StorePass>,
+    workers: usize,
+    gate: &G,
+    scenario: &mut S,
+) -> Result<bool, AllocError>
+where
+    R: Threads + Wait + Clock + Sync,
+    G: Gate + Sync,
+    S: Scenario,
+    requires { All (IsNewAt scene.now.environment.now.desk) passes.old.items }
+    ensures { All (IsNewAt scene.now.environment.now.desk) passes.new.items }
+{
+    let controllers = Controllers::new(scene, passes, workers, gate)?;
+    Ok(run_scenario(controllers, scenario))
+}

@@ -113,9 +113,8 @@ impl<'a, R: Wait + Clock> SharedServer<'a, R> {
         answer_of(alloc, self.seat.list(alloc, &view, &options))
     }
 
-    /// Takes in what the watch is given next, unless watches are paused, and waits for a write where that is nothing.
-    fn look(&mut self) -> Result<(), Fault> {
-        let seen = self.environment.bell.count();
+    /// Takes in what the watch is given next, unless watches are paused, and waits for a write past those that were seen where that is nothing.
+    fn look(&mut self, seen: u64) -> Result<(), Fault> {
         if !self.environment.are_watches_paused() {
             let view = View::unfiltered(self.alloc, self.watch.kind, None);
             let after = self.watch.after;
@@ -165,6 +164,7 @@ impl<R: Wait + Clock> Api for SharedServer<'_, R> {
 
     fn more(&mut self, buf: &mut [u8]) -> More {
         for _ in self.rt.forever() {
+            let seen = self.environment.bell.count();
             if buf.is_empty() || self.stop.is_stopped() {
                 return More::Cut;
             }
@@ -172,7 +172,7 @@ impl<R: Wait + Clock> Api for SharedServer<'_, R> {
             if count > 0 {
                 return More::Bytes(count);
             }
-            if self.look().is_err() {
+            if self.look(seen).is_err() {
                 return More::Cut;
             }
         }
