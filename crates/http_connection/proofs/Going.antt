@@ -17,7 +17,7 @@ use Rattle.http_connection.specs.declared.phase.Phase.TheVariants as phase
 use Rattle.http_connection.specs.declared.watching.Watching.{Watching}
 use Rattle.http_connection.specs.Watches.{revision_after, idles_after, unwritten}
 use Rattle.http_connection.specs.Phases.{IsWatch, Stands}
-use Rattle.http_connection.specs.Looking.{Adds, Shows, LooksFrom}
+use Rattle.http_connection.specs.Looking.{Adds, Shows, LooksFrom, EndsFrom}
 use Rattle.http_connection.proofs.Looks.{looks_more, frames_more, lasts_more, ends_refused, ends_idle, revision_more, idles_more}
 use Rattle.http_connection.proofs.Standing.{watch_closes}
 
@@ -66,7 +66,7 @@ module _ {S : Type 0} (calls : S → Request → List ℕ → Outcome → S → 
           o,
           looks ++ Err f ∷ [],
           (opens, looks_more watches v o.stands looks (Err f) made (s, t, here)),
-          ends_refused b o.stands o.idle looks f lasts (subst (λ i. i < most_idle) idle short),
+          inl (ends_refused b o.stands o.idle looks f lasts (subst (λ i. i < most_idle) idle short)),
           sym (append_assoc text more last_chunk) ∙ ap (λ x. x ++ last_chunk) whole ∙ append_assoc (opening_text v.kind o) (look_frames v.kind b o.stands (looks ++ Err f ∷ [])) last_chunk,
         ),
       )
@@ -82,7 +82,23 @@ module _ {S : Type 0} (calls : S → Request → List ℕ → Outcome → S → 
       o,
       looks,
       given,
-      ends_idle b o.stands o.idle looks lasts (subst (λ i. most_idle ≤ i) idle over),
+      inl (ends_idle b o.stands o.idle looks lasts (subst (λ i. most_idle ≤ i) idle over)),
+      ap (λ x. x ++ last_chunk) is ∙ append_assoc (opening_text v.kind o) (look_frames v.kind b o.stands looks) last_chunk,
+    ),
+  )
+
+  -- once who holds it has ended it
+  is_ended : (read text : List ℕ) (v : View) (b : Bool) (at : Standing) → IsWatch calls lists begins watches read v b (Some at) text
+      → IsWatch calls lists begins watches read v b None (text ++ last_chunk)
+  is_ended read text v b at (options, asks, marks, (o, looks, given, (lasts, revision, idle), is)) = (
+    options,
+    asks,
+    marks,
+    (
+      o,
+      looks,
+      given,
+      inr lasts,
       ap (λ x. x ++ last_chunk) is ∙ append_assoc (opening_text v.kind o) (look_frames v.kind b o.stands looks) last_chunk,
     ),
   )
@@ -128,3 +144,11 @@ module _ {S : Type 0} (calls : S → Request → List ℕ → Outcome → S → 
     look_stands (Some at) here (inl (over, same, adds)) =
         adds_stand w last_chunk None result read written (idles_out read (written ++ unwritten w) (view_of w.view) w.bookmarks at (before at here) over) adds
     look_stands (Some at) here (inr (short, (look, given, shows))) = shows_stand at here short look given shows
+
+  -- and once it was ended
+  pub end_stands : (w : Watching) (result : Phase) (read written : List ℕ) → Stands calls lists begins watches (phase.Watching w) read written → (at : Option Standing) → w.at ≡ at
+      → EndsFrom w at result → Stands calls lists begins watches result read written
+  end_stands w result read written stands None here is = subst (λ p. Stands calls lists begins watches p read written) (sym is) stands
+  end_stands w result read written stands (Some at) here adds =
+      let before = subst (λ a. IsWatch calls lists begins watches read (view_of w.view) w.bookmarks a (written ++ unwritten w)) here stands.0 in
+      adds_stand w last_chunk None result read written (is_ended read (written ++ unwritten w) (view_of w.view) w.bookmarks at before) adds

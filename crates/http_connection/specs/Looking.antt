@@ -28,6 +28,11 @@ Shows w at (Ok x) result =
     × Adds w (look_frames (view_of w.view).kind w.bookmarks at.revision (Ok x ∷ [])) (Some next) result
 Shows w at (Err f) result = Adds w (ended_frames (view_of w.view).kind w.bookmarks at.revision (Err f ∷ [])) None result
 
+-- who holds a watch has ended it, unless it was over
+abbrev pub EndsFrom : Watching → Option Standing → Phase → Type 0
+EndsFrom w None result = result ≡ phase.Watching w
+EndsFrom w (Some at) result = Adds w last_chunk None result
+
 module _ {S : Type 0} (watches : S → View → ℕ → ℕ → Look → S → Type 0) (w : Watching) (s t : S) where
   -- a watch that stands here was given a look, unless it is over, or as many in a row without a line as end it
   abbrev pub LooksFrom : Option Standing → Phase → Type 0

@@ -1,5 +1,5 @@
 -- A watch that goes on as its bytes are taken, with others served between its looks.
-use Rattle.std.specs.Prelude.{◌≡◌, ◌≤◌, ◌<◌, ◌+◌, ℕ, List, [], ◌∷◌, ◌++◌, length, drop, Bool, Option, Some, None, Result, Ok, Err, ⊤}
+use Rattle.std.specs.Prelude.{◌≡◌, ◌≤◌, ◌<◌, ◌+◌, ◌⊎◌, ℕ, List, [], ◌∷◌, ◌++◌, length, drop, Bool, Option, Some, None, Result, Ok, Err, ⊤}
 use Rattle.definitions.specs.declared.kinds.Kind.{Kind}
 use Rattle.definitions.specs.History.{View}
 use Rattle.definitions.specs.Refusals.{Refusal}
@@ -39,11 +39,11 @@ idles_after bookmarks at idle [] = idle
 idles_after bookmarks at idle (Ok w ∷ looks) = idles_after bookmarks w.stands (idle_after idle (told_lines bookmarks at w)) looks
 idles_after bookmarks at idle (Err f ∷ looks) = idles_after bookmarks at idle looks
 
--- after these looks a watch stands here; nowhere where they end it
+-- after these looks a watch stands here; nowhere where they end it, or where who holds it has ended it after them
 abbrev pub StandsAfter : Bool → Opening → List Look → Option Standing → Type 0
 StandsAfter bookmarks o looks (Some at) =
     Lasts bookmarks o.stands o.idle looks × (at.revision ≡ revision_after o.stands looks) × (at.idle ≡ idles_after bookmarks o.stands o.idle looks)
-StandsAfter bookmarks o looks None = Ends bookmarks o.stands o.idle looks
+StandsAfter bookmarks o looks None = Ends bookmarks o.stands o.idle looks ⊎ Lasts bookmarks o.stands o.idle looks
 
 -- what a watch is to be written by then: the head and the lines with which it opened, the frames of the looks, and its end once it is over
 abbrev pub text_by_then : Kind → Bool → Opening → List Look → Option Standing → List ℕ

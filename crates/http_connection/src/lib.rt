@@ -4,6 +4,7 @@
 
 pub mod answering;
 pub mod arriving;
+pub mod ending;
 pub mod looking;
 pub mod phase;
 pub mod receiving;
@@ -14,6 +15,7 @@ pub mod watching;
 
 pub use answering::{answer, answered};
 pub use arriving::{Arriving, Awaited};
+pub use ending::end_watch;
 pub use looking::look_on;
 pub use phase::Phase;
 pub use receiving::arrived;

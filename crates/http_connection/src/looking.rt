@@ -62,7 +62,7 @@ fn with_text(alloc: Global, watching: Watching, text: Vec<u8>, at: Option<Standi
 }
 
 /// Returns a watch that is over after this text, with its end to be written.
-fn with_end(alloc: Global, watching: Watching, text: Vec<u8>) -> Phase
+pub(crate) fn with_end(alloc: Global, watching: Watching, text: Vec<u8>) -> Phase
     ensures { Adds watching (text.items ++ last_chunk) None result }
 {
     let mut text = text;

@@ -1,0 +1,27 @@
+//! Watches that who holds them ends.
+ghost use Rattle.std.specs.Prelude.{ℕ, List};
+ghost use Rattle.http_connection.specs.Looking.{EndsFrom};
+ghost use Rattle.http_connection.specs.Phases.{Stands};
+ghost use Rattle.http_connection.specs.declared.phase.Phase.TheVariants as phase;
+
+use crate::looking::with_end;
+use crate::phase::Phase;
+use crate::watching::Watching;
+use sites::Site;
+use std::alloc::Global;
+
+/// Ends a watch, as who holds it does at a stop, and returns where its connection then stands: after the frames of its looks its end is to
+/// be written, and it looks no more. A watch that is over stays so. It is left, unfinished, where there is no memory for its end, or no
+/// room among what its peer leaves unwritten.
+///
+/// The server that answers is named by the type alone.
+pub fn end_watch<S: Site>(alloc: Global, watching: Watching) -> Phase
+    ensures ends { EndsFrom watching watching.at result }
+    ensures stands { (read written : List ℕ) → Stands S.Calls S.Lists S.Begins S.Watches (phase.Watching watching) read written
+        → Stands S.Calls S.Lists S.Begins S.Watches result read written }
+{
+    match watching.at {
+        Some(_) => with_end(alloc, watching, Vec::new(alloc)),
+        None => Phase::Watching(watching),
+    }
+}

@@ -1,0 +1,84 @@
+-- What was asked, one thing after another.
+use Rattle.std.proofs.Common.{◌≡◌, ◌≤◌, ◌+◌, ℕ, zero, suc, List, Option, Some, None, Result, Ok, Err, inl, inr, refl, sym, ap, subst, ◌∙◌, arith}
+use Rattle.definitions.specs.ListQueries.{ListOptions}
+use Rattle.definitions.specs.History.{View}
+use Rattle.definitions.specs.ObjectRequests.{Request}
+use Rattle.definitions.specs.Refusals.{Refusal}
+use Rattle.definitions.specs.Targets as targets
+use Rattle.definitions.specs.Verbs.{Outcome}
+use Rattle.definitions.specs.Versions.{Listed}
+use Rattle.selector.specs.Views.{view_of}
+use Rattle.watch_service.specs.Watches.{Look}
+use Rattle.watch_service.specs.declared.standing.Standing.{Standing}
+use Rattle.http_connection.specs.Looking.{LooksFrom}
+use Rattle.http_connection.specs.Phases.{Answers}
+use Rattle.http_connection.specs.declared.phase.Phase.{Phase}
+use Rattle.http_connection.specs.declared.watching.Watching.{Watching}
+use Rattle.http_loop.specs.Asked.{IsRequest, IsLook, AreLooks, AreAsked, HasAsked}
+use Rattle.http_loop.specs.declared.asker.Asker.{Asker}
+
+module _ {S : Type 0} (calls : S → Request → List ℕ → Outcome → S → Type 0) (lists : S → View → ListOptions → Outcome → S → Type 0)
+    (begins : S → View → Result Listed Refusal → S → Type 0) (watches : S → View → ℕ → ℕ → Look → S → Type 0) where
+  looks_on : (j k : ℕ) (s m t : S) → AreLooks calls lists begins watches j s m → AreLooks calls lists begins watches k m t → AreLooks calls lists begins watches (j + k) s t
+  looks_on j zero s m t first same =
+      let whole : j ≡ j + 0 = omega arith in
+      subst (λ n. AreLooks calls lists begins watches n s t) whole (subst (AreLooks calls lists begins watches j s) (sym same) first)
+  looks_on j (suc k) s m t first (mid, second, last) =
+      let whole : suc (j + k) ≡ j + suc k = omega arith in
+      subst (λ n. AreLooks calls lists begins watches n s t) whole (mid, looks_on j k s m mid first second, last)
+
+  -- looks after what was asked
+  looked_on : (n k : ℕ) (s m t : S) → AreAsked calls lists begins watches n s m → AreLooks calls lists begins watches k m t → AreAsked calls lists begins watches n s t
+  looked_on zero k s m t (j, first) second = (j + k, looks_on j k s m t first second)
+  looked_on (suc n) k s m t (before, after, asked, one, (j, first)) second = (before, after, asked, one, (j + k, looks_on j k after m t first second))
+
+  asked_on : (n m : ℕ) (s mid t : S) → AreAsked calls lists begins watches n s mid → AreAsked calls lists begins watches m mid t → AreAsked calls lists begins watches (n + m) s t
+  asked_on n zero s mid t first (k, looks) =
+      let whole : n ≡ n + 0 = omega arith in
+      subst (λ i. AreAsked calls lists begins watches i s t) whole (looked_on n k s mid t first looks)
+  asked_on n (suc m) s mid t first (before, after, asked, one, looks) =
+      let whole : suc (n + m) ≡ n + suc m = omega arith in
+      subst (λ i. AreAsked calls lists begins watches i s t) whole (before, after, asked_on n m s mid before first asked, one, looks)
+
+  -- ---- by what asks
+
+  pub asks_nothing : (a b : Asker S) → b.site ≡ a.site → b.asked ≡ a.asked → a.taken ≤ b.taken → HasAsked calls lists begins watches a b
+  asks_nothing a b site asked taken = record {
+    requests = 0;
+    chain = (0, site);
+    counted = asked ∙ sym (omega arith);
+    taken = taken;
+  }
+
+  pub asks_on : (a b c : Asker S) → HasAsked calls lists begins watches a b → HasAsked calls lists begins watches b c → HasAsked calls lists begins watches a c
+  asks_on a b c first second = record {
+    requests = first.requests + second.requests;
+    chain = asked_on first.requests second.requests a.site b.site c.site first.chain second.chain;
+    counted = omega (arith, first.counted, second.counted);
+    taken = omega (arith, first.taken, second.taken);
+  }
+
+  -- a request that is whole
+  pub asks_one : (a b : Asker S) (moment : List ℕ) (asked : targets.Asked) (p : Phase) → Answers calls lists begins watches moment a.site b.site asked p
+      → b.asked ≡ a.asked + 1 → a.taken ≤ b.taken → HasAsked calls lists begins watches a b
+  asks_one a b moment asked p (r, responds, written) counted taken = record {
+    requests = 1;
+    chain = (a.site, b.site, (0, refl), (moment, asked, r, responds), (0, refl));
+    counted = counted;
+    taken = taken;
+  }
+
+  -- a look
+  looked : (w : Watching) (s t : S) (at : Option Standing) (p : Phase) → LooksFrom watches w s t at p → (k : ℕ) × AreLooks calls lists begins watches k s t
+  looked w s t None p (same, is) = (0, same)
+  looked w s t (Some at) p (inl (over, same, adds)) = (0, same)
+  looked w s t (Some at) p (inr (short, (look, given, shows))) = (1, (s, refl, (view_of w.view, at.revision, look, given)))
+
+  pub asks_look : (a b : Asker S) (w : Watching) (at : Option Standing) (p : Phase) → LooksFrom watches w a.site b.site at p → b.asked ≡ a.asked → a.taken ≤ b.taken
+      → HasAsked calls lists begins watches a b
+  asks_look a b w at p looks asked taken = record {
+    requests = 0;
+    chain = looked w a.site b.site at p looks;
+    counted = asked ∙ sym (omega arith);
+    taken = taken;
+  }

@@ -1,0 +1,44 @@
+-- What a loop makes of the server that it asks.
+use Rattle.std.specs.Prelude.{◌≡◌, ◌≤◌, ◌+◌, ℕ, zero, suc, List, Some, Result, Ok}
+use Rattle.definitions.specs.ListQueries.{ListOptions}
+use Rattle.definitions.specs.History.{View}
+use Rattle.definitions.specs.ObjectRequests.{Request}
+use Rattle.definitions.specs.Refusals.{Refusal}
+use Rattle.definitions.specs.Targets as targets
+use Rattle.definitions.specs.Verbs.{Outcome}
+use Rattle.definitions.specs.Versions.{Listed}
+use Rattle.watch_service.specs.Watches.{Look, most_changes}
+use Rattle.api.specs.Responding.{Responds}
+use Rattle.api.specs.declared.response.Response.{Response}
+use Rattle.http_loop.specs.declared.asker.Asker.{Asker}
+
+-- it asks this server, and has not yet
+abbrev pub IsNewAsker : {S : Type 0} → S → Asker S → Type 0
+IsNewAsker s a = (a.site ≡ s) × (a.taken ≡ 0) × (a.asked ≡ 0)
+
+module _ {S : Type 0} (calls : S → Request → List ℕ → Outcome → S → Type 0) (lists : S → View → ListOptions → Outcome → S → Type 0)
+    (begins : S → View → Result Listed Refusal → S → Type 0) (watches : S → View → ℕ → ℕ → Look → S → Type 0) where
+  -- what one connection asks is done at some moment: a request, a list, or the beginning of a watch
+  abbrev pub IsRequest : S → S → Type 0
+  IsRequest s t = (moment : List ℕ) × (a : targets.Asked) × (r : Response) × Responds calls lists begins watches moment s t (Some (Ok a)) r
+
+  -- a watch is given a look
+  abbrev pub IsLook : S → S → Type 0
+  IsLook s t = (v : View) × (at : ℕ) × (look : Look) × watches s v at most_changes look t
+
+  -- so many looks, one after another
+  abbrev pub AreLooks : ℕ → S → S → Type 0
+  AreLooks zero s t = t ≡ s
+  AreLooks (suc k) s t = (mid : S) × AreLooks k s mid × IsLook mid t
+
+  -- so many requests, one after another, with looks before, between and after them
+  abbrev pub AreAsked : ℕ → S → S → Type 0
+  AreAsked zero s t = (k : ℕ) × AreLooks k s t
+  AreAsked (suc n) s t = (before : S) × (after : S) × AreAsked n s before × IsRequest before after × ((k : ℕ) × AreLooks k after t)
+
+  -- between the two so much was asked as was counted
+  pub record HasAsked (a b : Asker S) : Type 0 where
+    pub requests : ℕ
+    pub chain : AreAsked requests a.site b.site
+    pub counted : b.asked ≡ a.asked + requests
+    pub taken : a.taken ≤ b.taken

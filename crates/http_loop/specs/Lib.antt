@@ -1,0 +1,4 @@
+-- The definitions, in reading order.
+pub mod Asked
+pub mod Deadlines
+pub mod Rotas

@@ -1,0 +1,109 @@
+//! A loop.
+ghost use Rattle.std.specs.Prelude.{◌≡◌, IfOk};
+ghost use Rattle.http_loop.specs.Asked.{HasAsked, IsNewAsker};
+
+use crate::accepting::Accepting;
+use crate::asker::Asker;
+use crate::loops::Loops;
+use crate::open_connections::Connections;
+use crate::place::Place;
+use crate::rounds::Rounds;
+use mio::{Events, Poll};
+use routes::table::Routes;
+use sites::Site;
+use std::alloc::{AllocError, Global};
+use std::io;
+use std::net::TcpListener;
+use std::sync::Wait;
+use std::time::Clock;
+
+/// How many events one wait gives at most.
+const EVENTS: usize = 1024;
+
+/// A loop that answers connections at a server, with what it needs to run on a thread of its own. It holds connections as long as it runs.
+#[derive(Drop)]
+pub struct EventLoop<'a, S> {
+    /// What it asks the server.
+    pub asker: Asker<S>,
+    alloc: Global,
+    routes: Routes,
+    loops: &'a Loops,
+    number: usize,
+    poll: Poll,
+    accepting: Option<Accepting>,
+}
+
+impl<'a, S: Drop> EventLoop<'a, S> {
+    /// Returns the loop of this place, which takes the connections that it is given.
+    pub fn new(
+        alloc: Global,
+        loops: &'a Loops,
+        place: Place,
+        site: S,
+    ) -> Result<EventLoop<'a, S>, AllocError>
+        ensures { IfOk result (λ made. IsNewAsker site made.asker) }
+    {
+        let Place { poll, number } = place;
+        Ok(EventLoop {
+            asker: Asker::new(site),
+            alloc,
+            routes: Routes::new(alloc)?,
+            loops,
+            number,
+            poll,
+            accepting: None,
+        })
+    }
+
+    /// Has the loop accept connections, for itself and the others by turns: no more than the limit, if there is one, after the last of which
+    /// all loops stop. Where no connection can be accepted, as the system has no descriptor or 10,000 are open, it is tried again later.
+    pub fn listen(&mut self, listener: TcpListener, limit: Option<u64>) -> io::Result<()>
+        ensures { self.new.asker ≡ self.old.asker }
+    {
+        self.accepting = Some(Accepting::new(&self.poll, listener, limit)?);
+        Ok(())
+    }
+}
+
+impl<S: Site> EventLoop<'_, S> {
+    /// Runs until all loops are to stop.
+    #[tactic(auto, using(crate::proofs::Chains::asks_on, crate::proofs::Chains::asks_nothing))]
+    fn run_until_stop<R: Wait + Clock>(&mut self, rt: &R) -> io::Result<()>
+        ensures { HasAsked S.Calls S.Lists S.Begins S.Watches self.old.asker self.new.asker }
+    {
+        let EventLoop {
+            asker,
+            alloc,
+            routes,
+            loops,
+            number,
+            poll,
+            accepting,
+        } = self;
+        let Some(wakes) = loops.wakes(*number) else {
+            return Ok(());
+        };
+        let mut events = Events::with_capacity(*alloc, EVENTS)?;
+        let connections = Connections::new(*alloc, routes, loops, wakes);
+        let mut rounds = Rounds::new(rt, loops, wakes, *number, connections)?;
+        for _ in rt.forever() {
+            if loops.is_stopped() {
+                break;
+            }
+            rounds.go(rt, poll, &mut events, accepting, asker)?;
+        }
+        *accepting = None;
+        rounds.stop(rt, poll, &mut events, asker)
+    }
+
+    /// Answers connections until a stop: one that is asked for, or the end of the last connection of those that are counted. Then it takes no
+    /// more; requests that are whole are answered, watches are written their end, and all others are left, within two seconds. An error of
+    /// the system ends it and all other loops.
+    pub fn run<R: Wait + Clock>(&mut self, rt: &R) -> io::Result<()>
+        ensures { HasAsked S.Calls S.Lists S.Begins S.Watches self.old.asker self.new.asker }
+    {
+        let outcome = self.run_until_stop(rt);
+        self.loops.stop();
+        outcome
+    }
+}

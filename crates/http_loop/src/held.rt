@@ -1,0 +1,250 @@
+//! A connection that a loop holds.
+ghost use Rattle.http_loop.specs.Asked.{HasAsked};
+
+use crate::asker::Asker;
+use crate::deadlines::seconds;
+use crate::ticks::Tick;
+use api::Served;
+use definitions::kinds::Kind;
+use http_connection::{Arriving, Phase, end_watch, turn};
+use mio::event::Event;
+use mio::net::TcpStream;
+use routes::table::Routes;
+use sites::Site;
+use std::alloc::Global;
+use std::io::{ErrorKind, Read};
+use std::net::Shutdown;
+use std::time::Instant;
+
+/// How many bytes of a watch may be unwritten for it to be looked at.
+const MOST_AHEAD: usize = 262_144;
+
+/// How many looks in a row that gave no line a write may bring about. The looks after them come one by one in their turns, so that a watch
+/// that sees nothing lasts fifteen seconds at least, however much is written that it does not ask for.
+const MOST_HURRIED: u64 = 512;
+
+/// How many bytes are read away of what a peer sends unread.
+const MOST_READ_AWAY: usize = 65_536;
+
+/// How many are read away at once.
+const PIECE: usize = 4096;
+
+/// A connection that a loop holds.
+#[derive(Drop)]
+pub(crate) struct Held {
+    pub(crate) stream: TcpStream,
+    phase: Phase,
+    /// When the peer connected.
+    since: Instant,
+    /// When it last took something, or there was nothing for it to take.
+    took: Instant,
+    /// The kind that the loop looks at for it.
+    pub(crate) watched: Option<Kind>,
+    /// Its place among those that take turns.
+    pub(crate) place: usize,
+    /// Whether it is to be looked at as soon as its peer takes what it is ahead.
+    pub(crate) is_due: bool,
+    /// How many bytes more are read away once it is over.
+    left: Option<usize>,
+}
+
+/// Returns how much there is to take: less after something was taken.
+fn extent(phase: &Phase) -> usize {
+    match phase {
+        Phase::Replying(replying) => usize::MAX - replying.taken,
+        Phase::Watching(watching) => watching.left(),
+        _ => 0,
+    }
+}
+
+impl Held {
+    /// Returns a connection of which nothing was read.
+    pub(crate) fn new(alloc: Global, stream: TcpStream, now: Instant) -> Held {
+        Held {
+            stream,
+            phase: Phase::Reading(Arriving::new(alloc)),
+            since: now,
+            took: now,
+            watched: None,
+            place: 0,
+            is_due: false,
+            left: None,
+        }
+    }
+
+    /// Takes where the connection stands, which is to be put back.
+    fn take_phase(&mut self) -> Phase {
+        std::mem::replace(&mut self.phase, Phase::Answering)
+    }
+
+    /// Reads and writes as far as that goes now.
+    fn turn<S: Site>(&mut self, alloc: Global, routes: &Routes, now: Instant) {
+        if self.phase.is_over() {
+            return;
+        }
+        let before = extent(&self.phase);
+        let phase = self.take_phase();
+        let mut reader = &self.stream;
+        let mut writer = &self.stream;
+        self.phase = turn::<S, _, _>(alloc, routes, phase, &mut reader, &mut writer);
+        if before == 0 || extent(&self.phase) < before {
+            self.took = now;
+        }
+    }
+
+    /// Reads and writes as far as that goes now. A request that is whole is asked.
+    #[tactic(auto, using(crate::proofs::Chains::asks_on, crate::proofs::Chains::asks_nothing))]
+    pub(crate) fn go_on<S: Site>(
+        &mut self,
+        alloc: Global,
+        routes: &Routes,
+        asker: &mut Asker<S>,
+        tick: &Tick,
+    )
+        ensures { HasAsked S.Calls S.Lists S.Begins S.Watches asker.old asker.new }
+    {
+        self.turn::<S>(alloc, routes, tick.now);
+        match self.take_phase() {
+            Phase::Asked(asked) => {
+                self.phase = asker.answer(alloc, asked, tick.moment);
+                self.took = tick.now;
+                self.turn::<S>(alloc, routes, tick.now);
+            }
+            phase => self.phase = phase,
+        }
+    }
+
+    /// Takes a look of a watch, and writes it as far as its peer takes it.
+    #[tactic(auto, using(crate::proofs::Chains::asks_on, crate::proofs::Chains::asks_nothing))]
+    pub(crate) fn look<S: Site>(
+        &mut self,
+        alloc: Global,
+        routes: &Routes,
+        asker: &mut Asker<S>,
+        now: Instant,
+    )
+        ensures { HasAsked S.Calls S.Lists S.Begins S.Watches asker.old asker.new }
+    {
+        match self.take_phase() {
+            Phase::Watching(watching) => {
+                if watching.left() == 0 {
+                    self.took = now;
+                }
+                self.phase = asker.look(alloc, watching);
+                self.is_due = self.phase.is_behind();
+                self.turn::<S>(alloc, routes, now);
+            }
+            phase => self.phase = phase,
+        }
+    }
+
+    /// Returns whether a look may be taken: its peer has taken enough of what was to be written.
+    pub(crate) fn can_look(&self) -> bool {
+        match &self.phase {
+            Phase::Watching(watching) => watching.at.is_some() && watching.left() < MOST_AHEAD,
+            _ => false,
+        }
+    }
+
+    /// Has the watch looked at as soon as it can be, after a write of its kind.
+    pub(crate) fn hurry(&mut self) {
+        if let Phase::Watching(watching) = &self.phase {
+            if let Some(at) = watching.at {
+                if at.idle < MOST_HURRIED {
+                    self.is_due = true;
+                }
+            }
+        }
+    }
+
+    /// Returns the kind of a watch that is not over.
+    pub(crate) fn watched_kind(&self) -> Option<Kind> {
+        self.phase.watched_kind()
+    }
+
+    /// Leaves a watch whose peer takes or sends no more.
+    pub(crate) fn leave_if_closed(&mut self, event: &Event) {
+        let is_closed = event.is_read_closed() || event.is_write_closed() || event.is_error();
+        if is_closed && self.watched_kind().is_some() {
+            self.leave();
+        }
+    }
+
+    /// Leaves the connection as it is.
+    pub(crate) fn leave(&mut self) {
+        self.phase = Phase::Closing(Served::Asked);
+    }
+
+    /// Ends the connection as far as that goes without its peer, as at a stop: a watch is written its end, a reply is written on, and what is
+    /// no whole request is left.
+    pub(crate) fn stop<S: Site>(&mut self, alloc: Global, routes: &Routes, now: Instant) {
+        match self.take_phase() {
+            Phase::Watching(watching) => {
+                self.phase = end_watch::<S>(alloc, watching);
+                self.turn::<S>(alloc, routes, now);
+            }
+            Phase::Replying(replying) => self.phase = Phase::Replying(replying),
+            _ => self.leave(),
+        }
+    }
+
+    /// Writes on what is left unwritten, such as a reply of which there was no memory.
+    pub(crate) fn write_on<S: Site>(&mut self, alloc: Global, routes: &Routes, now: Instant) {
+        if self.phase.is_unwritten() {
+            self.turn::<S>(alloc, routes, now);
+        }
+    }
+
+    /// Returns whether the connection has stood here for too long.
+    pub(crate) fn is_late(&self, tick: &Tick) -> bool {
+        let since = if self.phase.is_reading() {
+            self.since
+        } else {
+            self.took
+        };
+        match seconds(&self.phase) {
+            Some(most) => tick.is_after(since, most * 1000),
+            None => false,
+        }
+    }
+
+    /// Returns whether the connection goes on. Where one is over whose peer may still be sending, ends the sending half and reads away what
+    /// still comes, up to 64 KiB: a stream that is closed before its bytes are read is reset, and its peer may lose the reply.
+    pub(crate) fn goes_on(&mut self, now: Instant) -> bool {
+        match &self.phase {
+            Phase::Closing(Served::Asked) => false,
+            Phase::Closing(Served::NotAsked) => self.reads_away(now),
+            _ => true,
+        }
+    }
+
+    /// Reads away what is there, and returns whether more may come.
+    fn reads_away(&mut self, now: Instant) -> bool {
+        let mut left = match self.left {
+            Some(left) => left,
+            None => {
+                if self.stream.shutdown(Shutdown::Write).is_err() {
+                    return false;
+                }
+                self.took = now;
+                MOST_READ_AWAY
+            }
+        };
+        let mut rest = [0u8; PIECE];
+        let mut reader = &self.stream;
+        for _ in 0..u64::MAX {
+            if left == 0 {
+                break;
+            }
+            match reader.read(&mut rest) {
+                Ok(0) => return false,
+                Ok(n) => left = left.saturating_sub(n),
+                Err(error) => {
+                    self.left = Some(left);
+                    return error.kind() == ErrorKind::WouldBlock;
+                }
+            }
+        }
+        false
+    }
+}

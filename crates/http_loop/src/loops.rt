@@ -1,0 +1,113 @@
+//! What some loops share.
+ghost use Rattle.std.specs.Prelude.{◌≡◌, IfOk, length};
+
+use crate::opened::Open;
+use crate::place::Place;
+use crate::wakes::Wakes;
+use definitions::kinds::Kind;
+use mio::Poll;
+use std::alloc::Global;
+use std::io;
+use std::net::Net;
+use std::sync::atomic::{AtomicU64, Ordering};
+
+/// What some loops share, each on a thread of its own: how each is reached, how many connections are open over all, and whether all are to
+/// stop.
+///
+/// No clause says that a loop sees what it is told, since contracts say nothing of what another thread does meanwhile.
+#[derive(Drop)]
+pub struct Loops {
+    wakes: Vec<Wakes>,
+    open: Open,
+    is_stopped: AtomicU64,
+}
+
+impl Loops {
+    /// Returns what so many loops share, and where each waits.
+    pub fn open<R: Net>(rt: &R, alloc: Global, count: usize) -> io::Result<(Loops, Vec<Place>)>
+        ensures { IfOk result (λ opened. length opened.1.items ≡ count) }
+    {
+        let mut wakes = Vec::with_capacity(alloc, count)?;
+        let mut places = Vec::with_capacity(alloc, count)?;
+        for number in 0..count {
+            let poll = Poll::new(rt)?;
+            wakes.push(Wakes::new(alloc, &poll)?)?;
+            places.push(Place { poll, number })?;
+        }
+        let loops = Loops {
+            wakes,
+            open: Open::new(),
+            is_stopped: AtomicU64::new(0),
+        };
+        Ok((loops, places))
+    }
+
+    /// Tells all loops that an object of this kind was written, by the loop of this number if by one. It waits for nobody. A loop with no
+    /// watch of the kind is not woken, nor one that was told and has not looked yet, nor the one that wrote: it looks before it waits.
+    pub fn wrote(&self, kind: Kind, by: Option<usize>) {
+        for number in 0..self.wakes.len() {
+            if let Some(wakes) = self.wakes.get(number) {
+                wakes.wrote(kind, by == Some(number));
+            }
+        }
+    }
+
+    /// Tells all loops to stop, and wakes them.
+    pub fn stop(&self) {
+        self.is_stopped.store(1, Ordering::SeqCst);
+        self.wake_all();
+    }
+
+    /// Returns whether the loops were told to stop.
+    pub fn is_stopped(&self) -> bool {
+        self.is_stopped.load(Ordering::SeqCst) != 0
+    }
+
+    /// Wakes all loops.
+    fn wake_all(&self) {
+        for wakes in &self.wakes {
+            wakes.wake();
+        }
+    }
+
+    /// Returns how many loops there are.
+    pub(crate) fn count(&self) -> usize {
+        self.wakes.len()
+    }
+
+    /// Returns how a loop is reached.
+    pub(crate) fn wakes(&self, number: usize) -> Option<&Wakes> {
+        self.wakes.get(number)
+    }
+
+    /// Returns whether one more connection may be open.
+    pub(crate) fn has_room(&self) -> bool {
+        self.open.has_room()
+    }
+
+    /// Counts a connection.
+    pub(crate) fn enter(&self) {
+        self.open.enter();
+    }
+
+    /// Counts a connection no longer. After the last all loops are to stop; where there was no room the loop that accepts is to know.
+    pub(crate) fn leave(&self) {
+        if self.open.leave() {
+            self.wake_all();
+        }
+        self.stop_if_over();
+    }
+
+    /// Says that no more connections will come.
+    pub(crate) fn end(&self) {
+        self.open.end();
+        self.stop_if_over();
+    }
+
+    /// Stops all loops where no connection is open, and no more will come.
+    fn stop_if_over(&self) {
+        if self.open.is_over() {
+            self.stop();
+        }
+    }
+}

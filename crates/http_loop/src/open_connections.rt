@@ -1,0 +1,275 @@
+//! The connections of a loop.
+ghost use Rattle.http_loop.specs.Asked.{HasAsked};
+
+use crate::asker::Asker;
+use crate::held::Held;
+use crate::loops::Loops;
+use crate::rota::Rota;
+use crate::ticks::Tick;
+use crate::wakes::Wakes;
+use definitions::kinds::Kind;
+use mio::event::Event;
+use mio::net::TcpStream;
+use mio::{Interest, Registry, Token};
+use routes::table::Routes;
+use sites::Site;
+use slab::Slab;
+use std::alloc::Global;
+use std::time::Instant;
+
+/// How many watches of which nothing is known to have changed are looked at in a tick.
+const MOST_IDLE_LOOKS: usize = 600;
+
+/// The connections of a loop, and the turns of those that watch.
+#[derive(Drop)]
+pub(crate) struct Connections<'a> {
+    alloc: Global,
+    routes: &'a Routes,
+    loops: &'a Loops,
+    wakes: &'a Wakes,
+    held: Slab<Held>,
+    rota: Rota,
+    /// Whether some watch is to be looked at once more before the loop waits.
+    is_behind: bool,
+}
+
+impl<'a> Connections<'a> {
+    /// Returns no connections.
+    pub(crate) fn new(
+        alloc: Global,
+        routes: &'a Routes,
+        loops: &'a Loops,
+        wakes: &'a Wakes,
+    ) -> Connections<'a> {
+        Connections {
+            alloc,
+            routes,
+            loops,
+            wakes,
+            held: Slab::new(alloc),
+            rota: Rota::new(alloc),
+            is_behind: false,
+        }
+    }
+
+    /// Returns whether there are none.
+    pub(crate) fn is_empty(&self) -> bool {
+        self.held.is_empty()
+    }
+
+    /// Returns whether some of them watch.
+    pub(crate) fn has_watches(&self) -> bool {
+        !self.rota.is_empty()
+    }
+
+    /// Returns whether some watch is to be looked at once more before the loop waits.
+    pub(crate) fn is_behind(&self) -> bool {
+        self.is_behind
+    }
+
+    /// Holds a connection, whose bytes are then awaited.
+    #[tactic(auto, using(crate::proofs::Chains::asks_on, crate::proofs::Chains::asks_nothing))]
+    pub(crate) fn hold<S: Site>(
+        &mut self,
+        registry: &Registry,
+        stream: TcpStream,
+        asker: &mut Asker<S>,
+        now: Instant,
+    )
+        ensures { HasAsked S.Calls S.Lists S.Begins S.Watches asker.old asker.new }
+    {
+        asker.take();
+        if !self.is_held(registry, stream, now) {
+            self.loops.leave();
+        }
+    }
+
+    /// Holds a connection, if there is room and the system takes it.
+    fn is_held(&mut self, registry: &Registry, stream: TcpStream, now: Instant) -> bool {
+        if stream.set_nodelay(true).is_err() {
+            return false;
+        }
+        let Ok(key) = self.held.insert(Held::new(self.alloc, stream, now)) else {
+            return false;
+        };
+        let Some(held) = self.held.get_mut(key) else {
+            return false;
+        };
+        let both = Interest::READABLE | Interest::WRITABLE;
+        if registry
+            .register(&mut held.stream, Token(key), both)
+            .is_ok()
+        {
+            return true;
+        }
+        let _ = self.held.try_remove(key);
+        false
+    }
+
+    /// Lets a connection go on of which the system reports something.
+    #[tactic(auto, using(crate::proofs::Chains::asks_on, crate::proofs::Chains::asks_nothing))]
+    pub(crate) fn go_on<S: Site>(&mut self, event: &Event, asker: &mut Asker<S>, tick: &Tick)
+        ensures { HasAsked S.Calls S.Lists S.Begins S.Watches asker.old asker.new }
+    {
+        let key = event.token().0;
+        if let Some(held) = self.held.get_mut(key) {
+            held.go_on(self.alloc, self.routes, asker, tick);
+            held.leave_if_closed(event);
+        }
+        self.settle(key, tick.now);
+    }
+
+    /// Takes note of where a connection stands: a watch that has opened takes turns, and one that is over no longer; who is over is let go.
+    fn settle(&mut self, key: usize, now: Instant) {
+        let Some(held) = self.held.get_mut(key) else {
+            return;
+        };
+        let goes_on = held.goes_on(now);
+        let place = held.place;
+        let was = held.watched;
+        let is = if goes_on { held.watched_kind() } else { None };
+        held.watched = is;
+        self.is_behind = self.is_behind || (held.is_due && held.can_look());
+        match (was, is) {
+            (None, Some(kind)) => self.begin(key, kind),
+            (Some(kind), None) => self.end(place, kind),
+            _ => {}
+        }
+        if !goes_on {
+            let _ = self.held.try_remove(key);
+            self.loops.leave();
+        }
+    }
+
+    /// Gives a watch its turns; where there is no memory for them it is left. It is looked at once more, as others may have written before it
+    /// was counted.
+    fn begin(&mut self, key: usize, kind: Kind) {
+        let place = self.rota.len();
+        let is_added = self.rota.add(key).is_ok();
+        if is_added {
+            self.wakes.of(kind).watch();
+            self.is_behind = true;
+        }
+        if let Some(held) = self.held.get_mut(key) {
+            if is_added {
+                held.place = place;
+                held.is_due = true;
+            } else {
+                held.watched = None;
+                held.leave();
+            }
+        }
+    }
+
+    /// Takes the watch at a place from its turns. Another one takes its place, and may have been passed over by then.
+    fn end(&mut self, place: usize, kind: Kind) {
+        self.wakes.of(kind).leave();
+        let _ = self.rota.remove(place);
+        self.is_behind = true;
+        if let Some(key) = self.rota.keys.get(place) {
+            if let Some(held) = self.held.get_mut(*key) {
+                held.place = place;
+            }
+        }
+    }
+
+    /// Looks at a watch, if its peer has taken enough of what was to be written.
+    #[tactic(auto, using(crate::proofs::Chains::asks_on, crate::proofs::Chains::asks_nothing))]
+    fn look<S: Site>(&mut self, key: usize, asker: &mut Asker<S>, now: Instant)
+        ensures { HasAsked S.Calls S.Lists S.Begins S.Watches asker.old asker.new }
+    {
+        if let Some(held) = self.held.get_mut(key) {
+            if held.can_look() {
+                held.look(self.alloc, self.routes, asker, now);
+            }
+        }
+        self.settle(key, now);
+    }
+
+    /// Has the watches looked at whose kind was written since this was done last.
+    pub(crate) fn hear_writes(&mut self) {
+        for kind in &Kind::ALL {
+            if self.wakes.of(*kind).take_written() {
+                self.hurry(*kind);
+            }
+        }
+    }
+
+    /// Has the watches of a kind looked at.
+    fn hurry(&mut self, kind: Kind) {
+        for key in &self.rota.keys {
+            if let Some(held) = self.held.get_mut(*key) {
+                if held.watched == Some(kind) {
+                    held.hurry();
+                    self.is_behind = true;
+                }
+            }
+        }
+    }
+
+    /// Returns whether a watch is to be looked at.
+    fn is_due(&self, key: usize) -> bool {
+        match self.held.get(key) {
+            Some(held) => held.is_due,
+            None => false,
+        }
+    }
+
+    /// Takes one look of each watch that may have something to see. Each time another one is the first.
+    #[tactic(auto, using(crate::proofs::Chains::asks_on, crate::proofs::Chains::asks_nothing))]
+    pub(crate) fn look_due<S: Site>(&mut self, asker: &mut Asker<S>, now: Instant)
+        ensures { HasAsked S.Calls S.Lists S.Begins S.Watches asker.old asker.new }
+    {
+        if !self.is_behind {
+            return;
+        }
+        self.is_behind = false;
+        for _ in 0..self.rota.len() {
+            if let Some(key) = self.rota.take_turn() {
+                if self.is_due(key) {
+                    self.look(key, asker, now);
+                }
+            }
+        }
+        let _ = self.rota.take_turn();
+    }
+
+    /// Takes one look of each of the watches whose turn it is, of no more than may be looked at in a tick.
+    #[tactic(auto, using(crate::proofs::Chains::asks_on, crate::proofs::Chains::asks_nothing))]
+    pub(crate) fn look_in_turn<S: Site>(&mut self, asker: &mut Asker<S>, now: Instant)
+        ensures { HasAsked S.Calls S.Lists S.Begins S.Watches asker.old asker.new }
+    {
+        for _ in 0..self.rota.len().min(MOST_IDLE_LOOKS) {
+            if let Some(key) = self.rota.take_turn() {
+                self.look(key, asker, now);
+            }
+        }
+    }
+
+    /// Tries again what was not written, and leaves the connections that have stood where they do for too long.
+    pub(crate) fn leave_late<S: Site>(&mut self, tick: &Tick) {
+        for key in 0..self.held.capacity() {
+            if let Some(held) = self.held.get_mut(key) {
+                held.write_on::<S>(self.alloc, self.routes, tick.now);
+                if held.is_late(tick) {
+                    held.leave();
+                }
+            }
+            self.settle(key, tick.now);
+        }
+    }
+
+    /// Ends all connections as far as that goes without their peers: requests that are whole by now are asked.
+    #[tactic(auto, using(crate::proofs::Chains::asks_on, crate::proofs::Chains::asks_nothing))]
+    pub(crate) fn stop<S: Site>(&mut self, asker: &mut Asker<S>, tick: &Tick)
+        ensures { HasAsked S.Calls S.Lists S.Begins S.Watches asker.old asker.new }
+    {
+        for key in 0..self.held.capacity() {
+            if let Some(held) = self.held.get_mut(key) {
+                held.go_on(self.alloc, self.routes, asker, tick);
+                held.stop::<S>(self.alloc, self.routes, tick.now);
+            }
+            self.settle(key, tick.now);
+        }
+    }
+}

@@ -1,0 +1,47 @@
+//! How many connections are open.
+use std::sync::atomic::{AtomicU64, Ordering};
+
+/// How many connections may be open, over all loops.
+const MOST_OPEN: u64 = 10_000;
+
+/// How many connections are open, over all loops, and whether more will come.
+#[derive(Drop)]
+pub(crate) struct Open {
+    count: AtomicU64,
+    is_last: AtomicU64,
+}
+
+impl Open {
+    /// Returns the count of no connections, to which more will come.
+    pub(crate) const fn new() -> Open {
+        Open {
+            count: AtomicU64::new(0),
+            is_last: AtomicU64::new(0),
+        }
+    }
+
+    /// Returns whether one more may be open.
+    pub(crate) fn has_room(&self) -> bool {
+        self.count.load(Ordering::SeqCst) < MOST_OPEN
+    }
+
+    /// Counts a connection.
+    pub(crate) fn enter(&self) {
+        self.count.fetch_add(1, Ordering::SeqCst);
+    }
+
+    /// Counts a connection no longer, and returns whether there was no room while it was.
+    pub(crate) fn leave(&self) -> bool {
+        self.count.fetch_sub(1, Ordering::SeqCst) >= MOST_OPEN
+    }
+
+    /// Says that no more will come.
+    pub(crate) fn end(&self) {
+        self.is_last.store(1, Ordering::SeqCst);
+    }
+
+    /// Returns whether none is open, and no more will come.
+    pub(crate) fn is_over(&self) -> bool {
+        self.is_last.load(Ordering::SeqCst) != 0 && self.count.load(Ordering::SeqCst) == 0
+    }
+}

@@ -1,0 +1,273 @@
+//! The rounds of a loop.
+ghost use Rattle.http_loop.specs.Asked.{HasAsked};
+
+use crate::accepting::{Accepting, LISTENER};
+use crate::asker::Asker;
+use crate::loops::Loops;
+use crate::open_connections::Connections;
+use crate::ticks::Tick;
+use crate::wakes::{WAKER, Wakes};
+use mio::event::Event;
+use mio::net::TcpStream;
+use mio::{Events, Poll, Registry};
+use sites::Site;
+use std::io;
+use std::io::ErrorKind;
+use std::sync::Wait;
+use std::time::{Clock, Duration, Instant};
+
+/// How long a loop waits for events at most.
+const LONGEST_WAIT: u64 = 250;
+
+/// How long one waits that holds watches, and how often it looks at those whose turn it is.
+const TURN_MILLISECONDS: u64 = 30;
+
+/// How often deadlines are looked at.
+const SWEEP_MILLISECONDS: u64 = 250;
+
+/// How long a stop may take.
+const STOP_MILLISECONDS: u64 = 1500;
+
+/// How long a loop waits for events as it stops.
+const STOP_WAIT: u64 = 50;
+
+/// The rounds of a loop: in each it waits for events, and lets connections go on.
+#[derive(Drop)]
+pub(crate) struct Rounds<'a> {
+    loops: &'a Loops,
+    wakes: &'a Wakes,
+    number: usize,
+    connections: Connections<'a>,
+    tick: Tick,
+    /// When watches took their turns last.
+    turned: Instant,
+    /// When deadlines were looked at last.
+    swept: Instant,
+}
+
+/// Waits for events, for no longer than this. A wait that is interrupted gives none.
+fn wait(poll: &mut Poll, events: &mut Events, millis: u64) -> io::Result<()> {
+    match poll.poll(events, Some(Duration::from_millis(millis))) {
+        Ok(()) => Ok(()),
+        Err(error) => match error.kind() {
+            ErrorKind::Interrupted => Ok(()),
+            _ => Err(error),
+        },
+    }
+}
+
+impl<'a> Rounds<'a> {
+    /// Returns the rounds of a loop with these connections.
+    pub(crate) fn new<R: Clock>(
+        rt: &R,
+        loops: &'a Loops,
+        wakes: &'a Wakes,
+        number: usize,
+        connections: Connections<'a>,
+    ) -> io::Result<Rounds<'a>> {
+        let tick = Tick::now(rt)?;
+        Ok(Rounds {
+            loops,
+            wakes,
+            number,
+            connections,
+            tick,
+            turned: tick.now,
+            swept: tick.now,
+        })
+    }
+
+    /// Returns how many milliseconds the loop may wait for events.
+    fn longest_wait(&self) -> u64 {
+        if self.connections.is_behind() {
+            0
+        } else if self.connections.has_watches() {
+            TURN_MILLISECONDS
+        } else {
+            LONGEST_WAIT
+        }
+    }
+
+    /// Hands a connection to the loop whose turn it is. One that has too many waiting leaves it here.
+    #[tactic(auto, using(crate::proofs::Chains::asks_on, crate::proofs::Chains::asks_nothing))]
+    fn hand_on<S: Site, R: Wait>(
+        &mut self,
+        rt: &R,
+        registry: &Registry,
+        number: usize,
+        stream: TcpStream,
+        asker: &mut Asker<S>,
+    )
+        ensures { HasAsked S.Calls S.Lists S.Begins S.Watches asker.old asker.new }
+    {
+        let mut stream = stream;
+        if number != self.number {
+            if let Some(wakes) = self.loops.wakes(number) {
+                match wakes.give(rt, stream) {
+                    Ok(()) => return,
+                    Err(back) => stream = back,
+                }
+            }
+        }
+        self.connections
+            .hold(registry, stream, asker, self.tick.now);
+    }
+
+    /// Accepts all connections that wait and for which there is room.
+    #[tactic(auto, using(crate::proofs::Chains::asks_on, crate::proofs::Chains::asks_nothing))]
+    pub(crate) fn accept_all<S: Site, R: Wait>(
+        &mut self,
+        rt: &R,
+        registry: &Registry,
+        accepting: &mut Accepting,
+        asker: &mut Asker<S>,
+    )
+        ensures { HasAsked S.Calls S.Lists S.Begins S.Watches asker.old asker.new }
+    {
+        for _ in 0..u64::MAX {
+            let Some(stream) = accepting.accept(self.loops) else {
+                break;
+            };
+            let number = accepting.take_turn(self.loops.count());
+            self.hand_on(rt, registry, number, stream, asker);
+        }
+        if accepting.is_over() {
+            self.loops.end();
+        }
+    }
+
+    /// Holds the connections that the loop was given.
+    #[tactic(auto, using(crate::proofs::Chains::asks_on, crate::proofs::Chains::asks_nothing))]
+    fn take_given<S: Site, R: Wait>(&mut self, rt: &R, registry: &Registry, asker: &mut Asker<S>)
+        ensures { HasAsked S.Calls S.Lists S.Begins S.Watches asker.old asker.new }
+    {
+        for _ in 0..u64::MAX {
+            match self.wakes.take(rt) {
+                Some(stream) => self
+                    .connections
+                    .hold(registry, stream, asker, self.tick.now),
+                None => return,
+            }
+        }
+    }
+
+    /// Lets connections go on of which the system reports something, and returns whether it reports a new one.
+    #[tactic(auto, using(crate::proofs::Chains::asks_on, crate::proofs::Chains::asks_nothing))]
+    fn heed<S: Site>(&mut self, events: &Events, asker: &mut Asker<S>) -> bool
+        ensures { HasAsked S.Calls S.Lists S.Begins S.Watches asker.old asker.new }
+    {
+        let mut is_called = false;
+        for event in events {
+            let token = event.token();
+            if token == LISTENER {
+                is_called = true;
+            } else if token != WAKER {
+                self.connections.go_on(event, asker, &self.tick);
+            }
+        }
+        is_called
+    }
+
+    /// Looks at the watches that may have something to see, and at times at those whose turn it is; looks at deadlines at times. Returns
+    /// whether a while has passed.
+    #[tactic(auto, using(crate::proofs::Chains::asks_on, crate::proofs::Chains::asks_nothing))]
+    fn tend<S: Site>(&mut self, asker: &mut Asker<S>) -> bool
+        ensures { HasAsked S.Calls S.Lists S.Begins S.Watches asker.old asker.new }
+    {
+        self.connections.hear_writes();
+        self.connections.look_due(asker, self.tick.now);
+        if self.tick.is_after(self.swept, SWEEP_MILLISECONDS) {
+            self.swept = self.tick.now;
+            self.connections.leave_late::<S>(&self.tick);
+        }
+        if !self.tick.is_after(self.turned, TURN_MILLISECONDS) {
+            return false;
+        }
+        self.turned = self.tick.now;
+        self.connections.look_in_turn(asker, self.tick.now);
+        true
+    }
+
+    /// Lets connections go on of which the system reports something, and holds those that the loop was given. Returns whether the system
+    /// reports new ones.
+    #[tactic(auto, using(crate::proofs::Chains::asks_on, crate::proofs::Chains::asks_nothing))]
+    fn take_in<S: Site, R: Wait>(
+        &mut self,
+        rt: &R,
+        registry: &Registry,
+        events: &Events,
+        asker: &mut Asker<S>,
+    ) -> bool
+        ensures { HasAsked S.Calls S.Lists S.Begins S.Watches asker.old asker.new }
+    {
+        let is_called = self.heed(events, asker);
+        self.take_given(rt, registry, asker);
+        is_called
+    }
+
+    /// Lets all connections go on, and returns whether new ones are to be looked for.
+    #[tactic(auto, using(crate::proofs::Chains::asks_on, crate::proofs::Chains::asks_nothing))]
+    fn attend<S: Site, R: Wait>(
+        &mut self,
+        rt: &R,
+        registry: &Registry,
+        events: &Events,
+        asker: &mut Asker<S>,
+    ) -> bool
+        ensures { HasAsked S.Calls S.Lists S.Begins S.Watches asker.old asker.new }
+    {
+        let is_called = self.take_in(rt, registry, events, asker);
+        let is_turn = self.tend(asker);
+        is_called || is_turn
+    }
+
+    /// Goes one round.
+    #[tactic(auto, using(crate::proofs::Chains::asks_on, crate::proofs::Chains::asks_nothing))]
+    pub(crate) fn go<S: Site, R: Wait + Clock>(
+        &mut self,
+        rt: &R,
+        poll: &mut Poll,
+        events: &mut Events,
+        accepting: &mut Option<Accepting>,
+        asker: &mut Asker<S>,
+    ) -> io::Result<()>
+        ensures { HasAsked S.Calls S.Lists S.Begins S.Watches asker.old asker.new }
+    {
+        wait(poll, events, self.longest_wait())?;
+        self.tick = Tick::now(rt)?;
+        let had_room = self.loops.has_room();
+        let is_called = self.attend(rt, poll.registry(), events, asker);
+        if let Some(accepting) = accepting {
+            if is_called || !had_room {
+                self.accept_all(rt, poll.registry(), accepting, asker);
+            }
+        }
+        Ok(())
+    }
+
+    /// Ends all connections, as far as their peers let it within a while.
+    #[tactic(auto, using(crate::proofs::Chains::asks_on, crate::proofs::Chains::asks_nothing))]
+    pub(crate) fn stop<S: Site, R: Wait + Clock>(
+        &mut self,
+        rt: &R,
+        poll: &mut Poll,
+        events: &mut Events,
+        asker: &mut Asker<S>,
+    ) -> io::Result<()>
+        ensures { HasAsked S.Calls S.Lists S.Begins S.Watches asker.old asker.new }
+    {
+        self.tick = Tick::now(rt)?;
+        let began = self.tick.now;
+        self.take_given(rt, poll.registry(), asker);
+        self.connections.stop(asker, &self.tick);
+        for _ in 0..u64::MAX {
+            if self.connections.is_empty() || self.tick.is_after(began, STOP_MILLISECONDS) {
+                break;
+            }
+            wait(poll, events, STOP_WAIT)?;
+            self.tick = Tick::now(rt)?;
+            self.heed(events, asker);
+        }
+        Ok(())
+    }
+}

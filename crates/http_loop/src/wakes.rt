@@ -1,0 +1,115 @@
+//! What other threads reach of a loop.
+use crossbeam_queue::ArrayQueue;
+use definitions::kinds::Kind;
+use mio::net::TcpStream;
+use mio::{Poll, Token, Waker};
+use std::alloc::Global;
+use std::io;
+use std::sync::Wait;
+use std::sync::atomic::{AtomicU64, Ordering};
+
+/// The token of the waker of a loop.
+pub(crate) const WAKER: Token = Token(usize::MAX - 1);
+
+/// How many connections may wait for a loop to take them.
+const INBOX: usize = 1024;
+
+/// What a loop is told of a kind: how many of its watches watch the kind, and whether an object of the kind was written.
+///
+/// No write is lost on a watch. A loop counts a watch before it looks for the last time without being told: who writes before that is
+/// seen by this look, and who writes later finds the count.
+#[derive(Drop)]
+pub(crate) struct KindWake {
+    watches: AtomicU64,
+    is_written: AtomicU64,
+}
+
+impl KindWake {
+    /// Returns what is told of a kind that nobody watches.
+    const fn new() -> KindWake {
+        KindWake {
+            watches: AtomicU64::new(0),
+            is_written: AtomicU64::new(0),
+        }
+    }
+
+    /// Counts a watch.
+    pub(crate) fn watch(&self) {
+        self.watches.fetch_add(1, Ordering::SeqCst);
+    }
+
+    /// Counts a watch no longer.
+    pub(crate) fn leave(&self) {
+        self.watches.fetch_sub(1, Ordering::SeqCst);
+    }
+
+    /// Tells that an object was written, and returns whether the loop is to be woken for it.
+    fn wrote(&self) -> bool {
+        self.watches.load(Ordering::SeqCst) != 0 && self.is_written.swap(1, Ordering::SeqCst) == 0
+    }
+
+    /// Returns whether an object was written since this was asked last.
+    pub(crate) fn take_written(&self) -> bool {
+        self.is_written.load(Ordering::SeqCst) != 0
+            && self.is_written.swap(0, Ordering::SeqCst) != 0
+    }
+}
+
+/// What other threads reach of a loop.
+#[derive(Drop)]
+pub(crate) struct Wakes {
+    waker: Waker,
+    inbox: ArrayQueue<TcpStream>,
+    config_maps: KindWake,
+    pods: KindWake,
+    replica_sets: KindWake,
+    deployments: KindWake,
+}
+
+impl Wakes {
+    /// Returns what is reached of a loop that waits there.
+    pub(crate) fn new(alloc: Global, poll: &Poll) -> io::Result<Wakes> {
+        Ok(Wakes {
+            waker: Waker::new(poll.registry(), WAKER)?,
+            inbox: ArrayQueue::new(alloc, INBOX)?,
+            config_maps: KindWake::new(),
+            pods: KindWake::new(),
+            replica_sets: KindWake::new(),
+            deployments: KindWake::new(),
+        })
+    }
+
+    /// Returns what the loop is told of a kind.
+    pub(crate) fn of(&self, kind: Kind) -> &KindWake {
+        match kind {
+            Kind::ConfigMap => &self.config_maps,
+            Kind::Pod => &self.pods,
+            Kind::ReplicaSet => &self.replica_sets,
+            Kind::Deployment => &self.deployments,
+        }
+    }
+
+    /// Ends the wait of the loop. One that cannot be woken sees at its next tick what it is told.
+    pub(crate) fn wake(&self) {
+        let _ = self.waker.wake();
+    }
+
+    /// Tells that an object of this kind was written. The loop that wrote it needs no waking: it looks before it waits.
+    pub(crate) fn wrote(&self, kind: Kind, is_own: bool) {
+        if self.of(kind).wrote() && !is_own {
+            self.wake();
+        }
+    }
+
+    /// Gives the loop a connection, or hands it back where too many wait.
+    pub(crate) fn give<R: Wait>(&self, rt: &R, stream: TcpStream) -> Result<(), TcpStream> {
+        self.inbox.push(rt, stream)?;
+        self.wake();
+        Ok(())
+    }
+
+    /// Takes a connection that the loop was given.
+    pub(crate) fn take<R: Wait>(&self, rt: &R) -> Option<TcpStream> {
+        self.inbox.pop(rt)
+    }
+}
