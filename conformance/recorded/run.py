@@ -61,11 +61,31 @@ def expected(lists, watches):
     return {f"{namespace}/{name}": version for (namespace, name), version in there.items()}, revision
 
 
-class Player:
-    """A server that answers each list with the same bytes, and watches with replies in their order, each in pieces, or cut."""
+def asks_first(target):
+    """Returns whether what is asked for is the first object at a revision."""
+    return "limit=1&" in target and "resourceVersionMatch=Exact" in target
 
-    def __init__(self, listing, watches, piece):
-        self.listing, self.watches, self.piece, self.asked = listing, list(watches), piece, []
+
+def first_at(lists, frames, revision):
+    """Returns a list of just the first object that was there at a revision, as the server lists it that sent this list and these frames after it."""
+    value = json.loads(lists)
+    there = {(it["metadata"]["namespace"], it["metadata"]["name"]): it for it in value["items"]}
+    for event in (json.loads(line) for line, at in frames if at <= revision):
+        meta = event["object"]["metadata"]
+        if event["type"] in ("ADDED", "MODIFIED"):
+            there[meta["namespace"], meta["name"]] = {name: it for name, it in event["object"].items() if name not in ("apiVersion", "kind")}
+        elif event["type"] == "DELETED":
+            there.pop((meta["namespace"], meta["name"]))
+    body = json.dumps(value | {"metadata": {"resourceVersion": str(revision)}, "items": [there[key] for key in sorted(there)[:1]]}).encode()
+    return b"HTTP/1.1 200 OK\r\nContent-Type: application/json\r\nContent-Length: %d\r\n\r\n%s" % (len(body), body)
+
+
+class Player:
+    """A server that answers each list with the same bytes, and watches with replies in their order, each in pieces, or cut. Who asks whether it
+    is still the same server, by the first object at a revision, is answered as that server would."""
+
+    def __init__(self, listing, body, frames, watches, piece):
+        self.listing, self.body, self.frames, self.watches, self.piece, self.asked = listing, body, frames, list(watches), piece, []
         self.listener = socket.create_server(("127.0.0.1", 0))
         self.port = self.listener.getsockname()[1]
         threading.Thread(target=self.run, daemon=True).start()
@@ -87,12 +107,14 @@ class Player:
         if "watch=true" in target:
             revision = int(re.search(r"resourceVersion=(\d+)", target)[1])
             text = self.watches.pop(0)(revision) if self.watches else b""
+        elif asks_first(target):
+            text = first_at(self.body, self.frames, int(re.search(r"resourceVersion=(\d+)", target)[1]))
         for start in range(0, len(text), self.piece):
             taken.sendall(text[start : start + self.piece])
 
     def lists(self):
         """Returns how many lists were asked for."""
-        return sum("watch=true" not in target for target in self.asked)
+        return sum("watch=true" not in target and not asks_first(target) for target in self.asked)
 
 
 def follow(follower, kind, player, until):
@@ -109,16 +131,17 @@ def follow(follower, kind, player, until):
 
 
 def cases(seed):
-    """Returns the cases: what each is called, its kind, list, watches and size of pieces, what is expected of it, and how many lists it takes."""
+    """Returns the cases: what each is called, its kind, list with its body and the frames after it, watches and size of pieces, what is expected
+    of it, and how many lists it takes."""
     rolls = random.Random(seed)
     for kind, name in (("ConfigMap", "configmaps"), ("Deployment", "deployments"), ("Pod", "pods")):
         listing, _, body = recorded(f"list-{name}")
         if kind == "Pod":
-            yield "a list of pods", kind, listing, [], 5, expected(body, []), 1
+            yield "a list of pods", kind, (listing, body, []), [], 5, expected(body, []), 1
             continue
         text, head, events = recorded(f"watch-{name}")
         frames, expired, none = frames_of(events), recorded("watch-expired")[0], recorded("watch-too-new")[0]
-        wanted = expected(body, frames)
+        wanted, sent = expected(body, frames), (listing, body, frames)
 
         def whole(revision, text=text):
             return text
@@ -127,13 +150,13 @@ def cases(seed):
             return chunked(head, [line for line, at in frames if revision < at])
 
         for piece in (3, 100, 1_000_000):
-            yield f"{name}, in pieces of {piece}", kind, listing, [whole], piece, wanted, 1
+            yield f"{name}, in pieces of {piece}", kind, sent, [whole], piece, wanted, 1
         for _ in range(CUTS):
             # Past the first frame, since a watch that gave nothing is asked for again after a pause.
             at = rolls.randrange(text.index(frames[0][0]) + len(frames[0][0]), len(text))
-            yield f"{name}, cut after {at} bytes", kind, listing, [lambda revision, at=at, text=text: text[:at], rest], 1000, wanted, 1
-        yield f"{name}, expired", kind, listing, [lambda revision, text=expired: text, whole], 50, wanted, 2
-        yield f"{name}, a watch of nothing", kind, listing, [lambda revision, text=none: text, whole], 50, wanted, 1
+            yield f"{name}, cut after {at} bytes", kind, sent, [lambda revision, at=at, text=text: text[:at], rest], 1000, wanted, 1
+        yield f"{name}, expired", kind, sent, [lambda revision, text=expired: text, whole], 50, wanted, 2
+        yield f"{name}, a watch of nothing", kind, sent, [lambda revision, text=none: text, whole], 50, wanted, 1
 
 
 def built(path):
@@ -151,8 +174,8 @@ def main():
     parser.add_argument("--seed", type=int, default=1)
     asked = parser.parse_args()
     follower, passed, failed = built(asked.follower), 0, 0
-    for what, kind, listing, watches, piece, (there, until), lists in cases(asked.seed):
-        player = Player(listing, watches, piece)
+    for what, kind, sent, watches, piece, (there, until), lists in cases(asked.seed):
+        player = Player(*sent, watches, piece)
         found, is_well = follow(follower, kind, player, until)
         if is_well and found == there and player.lists() == lists:
             passed += 1
