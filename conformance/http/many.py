@@ -270,7 +270,7 @@ def crowd(server):
 
 def out_of_descriptors(program, asked):
     """More connections at once than a server has descriptors, which are closed; and then one for which there is none, until there is."""
-    with serving(program, "--threads", "4") as server:
+    with serving(program, "--threads", "16") as server:
         few = open_files(server) + FEW
         limited(server, few)
         crowd(server)
