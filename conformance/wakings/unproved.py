@@ -7,8 +7,8 @@ import signal
 import subprocess
 import time
 
-# For how many seconds tests may run, and a build may take on a machine that has other work.
-TEST_SECONDS = 60
+# For how many seconds each test may run, and a build on a machine that has other work.
+TEST_SECONDS = 30
 BUILD_SECONDS = 900
 PAUSE_SECONDS = 0.1
 # What the program is started with to be found while it runs: it listens, and would go on.
