@@ -34,8 +34,8 @@ class Waking:
         if not self.tests and not self.scripts:
             return "it names nothing that has to fail"
         known = {str(it) for name in {it.partition("/")[0] for it in self.refused} for it in pieces.pieces(name)}
-        missing = [it for it in self.refused if it not in known]
-        return f"there is no negative test {missing[0]}" if missing else self.piece.why_not_applied()
+        missing = [it for it in self.refused if it not in known] + [it for crate, names in self.tests for it in names if not has_test(crate, it)]
+        return f"there is no {missing[0]}" if missing else self.piece.why_not_applied()
 
     def take_away(self, tree):
         """Changes the code in a copy of the tree."""
@@ -45,6 +45,12 @@ class Waking:
             raise ValueError(fault)
         for path, text in texts.items():
             (folder / path).write_text(text, encoding="utf-8")
+
+
+def has_test(crate, name):
+    """Returns whether a crate has a function of this name."""
+    files = (pieces.ROOT / "crates" / crate / "src").rglob("*.rt")
+    return any(f"fn {name}(" in it.read_text(encoding="utf-8") for it in files)
 
 
 def said(lines, word):
