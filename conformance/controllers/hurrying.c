@@ -1,5 +1,5 @@
-// Has the steady clock go so many times as fast as the environment says in HURRIED, from the first look at it on. It is loaded before the C
-// library, in whose place it answers.
+// Has the steady clock go so many times as fast as the environment says in HURRIED, from the first look at it on; with 0 it stands still. It is
+// loaded before the C library, in whose place it answers.
 #include <stdatomic.h>
 #include <stdlib.h>
 #include <sys/syscall.h>

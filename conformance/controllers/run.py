@@ -4,13 +4,14 @@
 A Deployment is made, rolled, scaled and deleted by each policy, where the script marks pods ready, as a kubelet does; a ReplicaSet adopts
 and releases pods; 20 ReplicaSets are declared at once, undisturbed, while the server is killed and started again, and while a proxy cuts
 connections, and no list of pods ever shows a pod too many of a set; each kind of command is lost once on its way, or its reply; a server is
-started anew behind a proxy, and known as another one; and what is not understood is told of. Each scenario begins with nothing.
+started anew behind a proxy, and known as another one; what is not understood is told of; workers are woken though the clock stands still;
+commands are answered 503 for a while; and watches fall silent. Each scenario begins with nothing.
 
 Nothing has to happen within a certain time but that of `--limit`, which is long. In short, answers and watches are cut, but no requests:
 a controller that cannot know whether a create has arrived waits 300 seconds for the pod.
 Usage: run.py --program PATH [--short] [--seed N] [--limit S] [WORD]
   --program PATH   the executable of kcp
-  --short          fewer pods, lists and kills, and no requests cut: about 40 seconds in place of twelve minutes
+  --short          fewer pods, lists and kills, and no requests cut: about 45 seconds in place of thirteen minutes
   --limit S        for how many seconds is waited for what has to come, 180 if left out
   WORD             only scenarios whose name has it
 """
@@ -24,10 +25,13 @@ sys.path[:0] = [str(pathlib.Path(__file__).resolve().parent)]
 import adoptions
 import hurried
 import losing
+import refusing
 import restarting
 import rollouts
 import sets
+import silence
 import understanding
+import waking
 from waiting import DEFAULT_SECONDS, Limit
 
 
@@ -50,9 +54,19 @@ def scenarios(asked):
         "many-sets-connections-cut": lambda: sets.connections_cut(program, lists, cuts, asked.seed, cuts_requests=not few),
         "restarted-behind-a-proxy": lambda: restarting.restarted(program, [0, 1000] if few else [0, 1, 1000]),
         "not-understood": lambda: understanding.not_understood(program),
+        "workers-are-woken": lambda: waking.woken(program),
+        "refused-for-now": lambda: refusing.refused_for_now(program),
         "commands-lost": lambda: losing.lost_by(program, [1, 4], is_short=few),
         "commands-lost-hurried": lambda: hurried.lost_by_seeds(program, asked.seed, 4 if few else 200),
-    } | ({} if few else {"replies-lost": lambda: losing.replies_lost(program, asked.seed)})
+    } | ({} if few else long_scenarios(program, asked.seed))
+
+
+def long_scenarios(program, seed):
+    """Returns the scenarios that take a minute or more, and are left out in short."""
+    return {
+        "silent-watches": lambda: silence.silent_watches(program),
+        "replies-lost": lambda: losing.replies_lost(program, seed),
+    }
 
 
 def run(name, scenario):

@@ -12,6 +12,7 @@ import os
 import pathlib
 import re
 import resource
+import select
 import socket
 import statistics
 import subprocess
@@ -30,6 +31,10 @@ GET = f"GET {MAPS}?limit=1 HTTP/1.1\r\nHost: localhost\r\n\r\n".encode()
 WATCH = f"GET {MAPS}?watch=true&resourceVersion=1 HTTP/1.1\r\nHost: localhost\r\n\r\n".encode()
 # What is meant is multiplied by this where other work is done beside.
 LOOSE = 10
+# For how long a watch is told nothing: one that looked by itself alone, less and less often, would look next almost a second later.
+IDLE_SECONDS = 1.4
+# How many descriptors are left to a server that has few.
+FEW = 6
 STRICT = False
 
 
@@ -102,6 +107,11 @@ def used_by(server):
 
 def open_files(server):
     return len(os.listdir(f"/proc/{server.started.pid}/fd"))
+
+
+def limited(server, most):
+    """Lets a server open no descriptor from this number on."""
+    resource.prlimit(server.started.pid, resource.RLIMIT_NOFILE, (most, resource.getrlimit(resource.RLIMIT_NOFILE)[1]))
 
 
 # ---- scenarios
@@ -224,6 +234,60 @@ def peers_that_never_read(program, asked):
         return "left, and the other saw 80 events"
 
 
+def beside_a_silent_peer(program, asked):
+    """A server of one thread, and a peer that sends half a head and then nothing: another client is answered."""
+    with serving(program, "--threads", "1") as server, connected(server.port) as silent:
+        silent.sendall(GET[:20])
+        return f"a list after {got(server.port):.1f} s"
+
+
+def beside_an_idle_watch(program, asked):
+    """A server of one thread, and a watch that has nothing to be told: another client is answered."""
+    with serving(program, "--threads", "1") as server, opened_watch(server.port):
+        return f"a list after {got(server.port):.1f} s"
+
+
+def writes_wake_watches(program, asked):
+    """A watch that nothing was told for longer than a second hears of a write at once, again and again."""
+    with serving(program) as server, opened_watch(server.port) as watch:
+        times = []
+        for number in range(5):
+            time.sleep(IDLE_SECONDS)
+            began = time.monotonic()
+            created(server.port, f"map-{number}")
+            check(b'"type":"ADDED"' in watch.recv(65536), "a watch did not tell an event")
+            times.append(time.monotonic() - began)
+        return within(statistics.median(times), 0.03, "an event to an idle watch, at the median,")
+
+
+def crowd(server):
+    """Makes many connections at once, and closes them."""
+    with contextlib.ExitStack() as held:
+        for _ in range(10 * FEW):
+            held.enter_context(connected(server.port))
+        time.sleep(1)
+
+
+def out_of_descriptors(program, asked):
+    """More connections at once than a server has descriptors, which are closed; and then one for which there is none, until there is."""
+    with serving(program, "--threads", "16") as server:
+        few = open_files(server) + FEW
+        limited(server, few)
+        crowd(server)
+        told = within(got(server.port), 1, "a list once they are closed")
+        limited(server, 0)
+        # A thread that waits for a connection has the descriptor for it already: these are used up.
+        crowd(server)
+        with connected(server.port) as late:
+            late.sendall(GET)
+            time.sleep(1)
+            check(not select.select([late], [], [], 0)[0], "a connection was answered without a descriptor")
+            limited(server, few)
+            began = time.monotonic()
+            check(read_to_end(late).startswith(b"HTTP/1.1 200 OK\r\n"), "a connection that had waited for a descriptor was not answered")
+        return f"{told}, {within(time.monotonic() - began, 1, 'and one that waited for a descriptor')}"
+
+
 def ends_after_requests(program, asked):
     """A server that ends after so many connections: watches get their last chunk."""
     server = Listener([program, "serve", "--port", "0", "--requests", "3"])
@@ -264,6 +328,10 @@ SCENARIOS = {
     "one-thread": one_thread,
     "heads-in-time": heads_in_time,
     "peers-that-never-read": peers_that_never_read,
+    "beside-a-silent-peer": beside_a_silent_peer,
+    "beside-an-idle-watch": beside_an_idle_watch,
+    "writes-wake-watches": writes_wake_watches,
+    "out-of-descriptors": out_of_descriptors,
     "ends-after-requests": ends_after_requests,
     "ends-with-input": ends_with_input,
 }
