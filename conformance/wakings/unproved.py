@@ -51,7 +51,10 @@ def running_program(process):
             continue
         if len(words) > len(ARGUMENTS) and words[-len(ARGUMENTS):] == ARGUMENTS:
             *loader, found = words[:-len(ARGUMENTS)]
-            return [*loader, os.path.join(folder, found)]
+            path = os.path.join(folder, found)
+            # What starts the program has the same last words.
+            if os.path.isfile(path) and os.access(path, os.X_OK):
+                return [*loader, path]
     return None
 
 
