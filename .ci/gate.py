@@ -119,8 +119,14 @@ def used_by_children():
 
 
 def asked_first(log):
-    """Runs what takes a second: whether the negative tests still apply, and whether the documents that scripts make are the present ones."""
-    scripts = {"negative tests apply": "conformance/wrong_code.py", "index of definitions": "docs/definitions.py", "picture of the layers": "docs/layers.py"}
+    """Runs what takes a second: whether the negative tests, and what takes wakings away, still apply, and whether the documents that scripts make
+    are the present ones."""
+    scripts = {
+        "negative tests apply": "conformance/wrong_code.py",
+        "wakings apply": "conformance/wakings/run.py",
+        "index of definitions": "docs/definitions.py",
+        "picture of the layers": "docs/layers.py",
+    }
     return {name: Run([sys.executable, "-B", script, "--check"], log) for name, script in scripts.items()}
 
 
