@@ -1,5 +1,9 @@
 //! What a loop asks its server.
-ghost use Rattle.std.specs.Prelude.{◌≡◌, ◌≤◌, ◌+◌};
+ghost use Rattle.std.specs.Prelude.{◌≡◌, ◌≤◌, ◌<◌, ◌+◌, ◌^◌, ℕ, List};
+ghost use Rattle.asked.specs.Asked.{asked_seen};
+ghost use Rattle.http_connection.specs.Looking.{LooksFrom};
+ghost use Rattle.http_connection.specs.Phases.{Answers, Stands};
+ghost use Rattle.http_connection.specs.declared.phase.Phase.TheVariants as phase;
 ghost use Rattle.http_loop.specs.Asked.{HasAsked, IsNewAsker};
 
 use crate::asker::Asker;
@@ -28,6 +32,7 @@ impl<S> Asker<S> {
         ensures asked { self.new.asked ≡ self.old.asked }
         ensures taken { self.old.taken ≤ self.new.taken }
         ensures one { self.new.taken ≤ self.old.taken + 1 }
+        ensures counts { self.old.taken + 1 < 2 ^ 64 → self.new.taken ≡ self.old.taken + 1 }
     {
         self.taken = self.taken.saturating_add(1);
     }
@@ -37,7 +42,13 @@ impl<S: Site> Asker<S> {
     /// Asks what a connection asks whose request is whole, and returns where it then stands.
     #[tactic(auto, using(crate::proofs::Chains::asks_one, crate::proofs::Chains::asks_nothing))]
     pub fn answer(&mut self, alloc: Global, asked: Asked, moment: Moment) -> Phase
-        ensures { HasAsked S.Calls S.Lists S.Begins S.Watches self.old self.new }
+        ensures asked { HasAsked S.Calls S.Lists S.Begins S.Watches self.old self.new }
+        ensures counts { self.old.asked < self.old.taken → self.new.asked ≡ self.old.asked + 1 }
+        ensures answers { self.old.asked < self.old.taken
+            → Answers S.Calls S.Lists S.Begins S.Watches moment self.old.site self.new.site (asked_seen asked) result }
+        ensures stands { self.old.asked < self.old.taken → (read written : List ℕ)
+            → Stands S.Calls S.Lists S.Begins S.Watches (phase.Asked asked) read written
+            → Stands S.Calls S.Lists S.Begins S.Watches result read written }
     {
         if self.asked >= self.taken {
             return Phase::Closing(Served::NotAsked);
@@ -49,7 +60,10 @@ impl<S: Site> Asker<S> {
     /// Takes one look of a watch, and returns where its connection then stands.
     #[tactic(auto, using(crate::proofs::Chains::asks_look))]
     pub fn look(&mut self, alloc: Global, watching: Watching) -> Phase
-        ensures { HasAsked S.Calls S.Lists S.Begins S.Watches self.old self.new }
+        ensures asked { HasAsked S.Calls S.Lists S.Begins S.Watches self.old self.new }
+        ensures looks { LooksFrom S.Watches watching self.old.site self.new.site watching.at result }
+        ensures stands { (read written : List ℕ) → Stands S.Calls S.Lists S.Begins S.Watches (phase.Watching watching) read written
+            → Stands S.Calls S.Lists S.Begins S.Watches result read written }
     {
         look_on(alloc, watching, &mut self.site)
     }

@@ -3,7 +3,7 @@ use Rattle.asked.specs.Asked.{asked_seen}
 use Rattle.http_loop.proofs.Chains.{asks_one}
 use Rattle.http_loop.proofs.asker.Asker.answer.Goals as goal
 
-pub returns : goal.returns
-returns g c =
+pub returns-clause-asked : goal.returns-clause-asked
+returns-clause-asked g c =
     asks_one g.S.Site.Calls g.S.Site.Lists g.S.WatchSource.Begins g.S.WatchSource.Watches c.args.self.now _ c.args.moment (asked_seen c.args.asked) c.answer.result c.answer.ensures.answers refl
     (omega arith)
