@@ -31,7 +31,7 @@ BESIDE = {
 }
 
 # The crates of laws: a file of laws stands in src, with `_laws` at the end of its name.
-LAWS = ["laws", "informer_laws", "plan_laws", "reconciling_laws", "simulation_laws", "control_plane_laws", "collector_laws", "overshoot_laws", "following_laws", "exchanges"]
+LAWS = ["laws", "informer_laws", "plan_laws", "reconciling_laws", "simulation_laws", "control_plane_laws", "collector_laws", "overshoot_laws", "following_laws", "stream_laws", "exchanges"]
 
 HEAD = """# Definitions
 
@@ -46,7 +46,7 @@ Texts are lists of bytes, and numbers are natural, unless a definition says othe
 LAWS_HEAD = """# Laws
 
 What follows from the [definitions](DEFINITIONS.md), whatever code meets them. Each law is the contract of a public function in
-the crates `laws`, `informer_laws`, `plan_laws`, `reconciling_laws`, `simulation_laws`, `control_plane_laws`, `collector_laws`, `overshoot_laws`, `following_laws` and `exchanges`, and proved. Single cases, computed, are in
+the crates `laws`, `informer_laws`, `plan_laws`, `reconciling_laws`, `simulation_laws`, `control_plane_laws`, `collector_laws`, `overshoot_laws`, `following_laws`, `stream_laws` and `exchanges`, and proved. Single cases, computed, are in
 `crates/examples`, `crates/simulation_examples` and `crates/reconciling_examples`. `docs/definitions.py` makes this page.
 """
 

@@ -35,7 +35,7 @@ LINES = (
     b"AT 2026-02-01T00:00:00Z\nCOMPACT 1\nDELETE " + MAPS.encode() + b'/abc {"propagationPolicy":"Orphan"}\n'
 )
 STEPS = (
-    b"request POST " + MAPS.encode() + b' {"metadata":{"name":"abc"}}\nlist configmaps\npublish configmaps\nwatch configmaps\nsend configmaps 3\n'
+    b"request POST " + MAPS.encode() + b' {"metadata":{"name":"abc"}}\nlist configmaps\npublish configmaps\nwatch configmaps\nsend configmaps 3\nstream pods\n'
     b"deliver configmaps 17\ncut configmaps\nhandle pods\ntake 0\nlook 0 pods\nsatisfied 0\nissue 0 lost\nfinish 0\ntick 1000\nrestart\n"
 )
 OBJECT = b'{"metadata":{"creationTimestamp":"2026-01-01T00:00:00Z","name":"a","namespace":"default","resourceVersion":"2","uid":"00000000-0000-8000-8000-000000000002"}}'

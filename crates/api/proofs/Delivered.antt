@@ -1,6 +1,7 @@
 -- What was done, and written.
 use Rattle.std.proofs.Common.{◌≡◌, ℕ, List, Bool, Option, Some, None, Result, Ok, Err, refl, sym, subst, ◌∙◌}
 use Rattle.definitions.specs.ListQueries.{ListOptions}
+use Rattle.definitions.specs.declared.versions.Start.{Start}
 use Rattle.definitions.specs.History.{View}
 use Rattle.definitions.specs.ObjectRequests.{Request}
 use Rattle.definitions.specs.Refusals.{Refusal}
@@ -41,17 +42,17 @@ module _ {D : Type 0} (contents : D → Option (List ℕ)) (new : Watched D) whe
   ends (Err cut.Device) r is = (refl, is)
   ends (Err cut.NoMemory) r is = (refl, is)
 
-module _ {S D : Type 0} (begins : S → View → Result Listed Refusal → S → Type 0) (watches : S → View → ℕ → ℕ → Look → S → Type 0) (v : View) (bookmarks : Bool)
-    (contents : D → Option (List ℕ)) (s mid t : S) (old new : Watched D) (from : Option ℕ) where
-  serves : (w : Opened) (followed : Result (Unit {0}) Cut) → IsOpened begins watches v bookmarks from s mid (Ok w)
-      → Follows watches v bookmarks contents mid t old new w.text.items w.at.revision w.at.idle followed → Serves begins watches v bookmarks contents s t old new from (served_as followed)
+module _ {S D : Type 0} (begins : S → View → Option ℕ → Result Listed Refusal → S → Type 0) (watches : S → View → ℕ → ℕ → Look → S → Type 0) (v : View) (bookmarks : Bool)
+    (contents : D → Option (List ℕ)) (s mid t : S) (old new : Watched D) (start : Start) where
+  serves : (w : Opened) (followed : Result (Unit {0}) Cut) → IsOpened begins watches v bookmarks start s mid (Ok w)
+      → Follows watches v bookmarks contents mid t old new w.text.items w.at.revision w.at.idle followed → Serves begins watches v bookmarks contents s t old new start (served_as followed)
   serves w (Ok u) (o, opens, stands, idle, is) follows =
       (o, mid, opens, opened_follows watches v bookmarks contents mid t old new w.text.items (opening_text v.kind o) w.at.revision w.at.idle o.stands o.idle (Ok u) stands idle is follows)
   serves w (Err c) (o, opens, stands, idle, is) follows =
       (o, mid, opens, opened_follows watches v bookmarks contents mid t old new w.text.items (opening_text v.kind o) w.at.revision w.at.idle o.stands o.idle (Err c) stands idle is follows)
 
 module _ {S D : Type 0} (calls : S → Request → List ℕ → Outcome → S → Type 0) (lists : S → View → ListOptions → Outcome → S → Type 0)
-    (begins : S → View → Result Listed Refusal → S → Type 0) (watches : S → View → ℕ → ℕ → Look → S → Type 0) (contents : D → Option (List ℕ)) (moment : List ℕ)
+    (begins : S → View → Option ℕ → Result Listed Refusal → S → Type 0) (watches : S → View → ℕ → ℕ → Look → S → Type 0) (contents : D → Option (List ℕ)) (moment : List ℕ)
     (s mid t : S) (old new : Watched D) where
   answers_reply : (a : Result targets.Asked Refusal) (bytes : List ℕ) (r : Result (Unit {0}) ServeFault) → responding.Replies calls lists begins watches moment s mid a bytes → t ≡ mid
       → Sends contents old new bytes r → Answers calls lists begins watches contents moment s t old new a r
@@ -61,7 +62,7 @@ module _ {S D : Type 0} (calls : S → Request → List ℕ → Outcome → S �
   answers_reply (Ok (targets.watch v options)) bytes r (e, refuses, is) stays sends = (
     old,
     Err (left.Refused e),
-    (subst (λ u. Refuses begins watches v options.bookmarks s u options.from e) (sym stays) refuses, refl),
+    (subst (λ u. Refuses begins watches v options.bookmarks s u options.start e) (sym stays) refuses, refl),
     replied contents old new (refused (refusal_of e)) bytes r is sends,
   )
 
@@ -75,7 +76,7 @@ module _ {S D : Type 0} (calls : S → Request → List ℕ → Outcome → S �
       (subst (λ x. Follows watches x w.bookmarks contents mid t old new w.opened.text.items w.opened.at.revision w.opened.at.idle followed) view follows) in (
         new,
         served_as followed,
-        serves begins watches v options.bookmarks contents s mid t old new options.from w.opened followed opened same,
+        serves begins watches v options.bookmarks contents s mid t old new options.start w.opened followed opened same,
         ends contents new followed r is,
       )
 

@@ -34,7 +34,7 @@ module _ {D : Type 0} (contents : D → Option (List ℕ)) where
   concludes_fault (Err (left.Refused e)) old new r c = replies_fault contents old new (refused (refusal_of e)) r c
 
 module _ {S D : Type 0} (calls : S → Request → List ℕ → Outcome → S → Type 0) (lists : S → View → ListOptions → Outcome → S → Type 0)
-    (begins : S → View → Result Listed Refusal → S → Type 0) (watches : S → View → ℕ → ℕ → Look → S → Type 0) (contents : D → Option (List ℕ)) (moment : List ℕ)
+    (begins : S → View → Option ℕ → Result Listed Refusal → S → Type 0) (watches : S → View → ℕ → ℕ → Look → S → Type 0) (contents : D → Option (List ℕ)) (moment : List ℕ)
     (s t : S) (old new : Watched D) where
   answers_fault : (a : Result targets.Asked Refusal) (r : Result (Unit {0}) ServeFault) → Answers calls lists begins watches contents moment s t old new a r → has_reader_failed r ≡ false
   answers_fault (Err f) r a = replies_fault contents old new (refused f) r a.1

@@ -38,13 +38,13 @@ IsReplyOf (Ok r) bytes = bytes ≡ response_text r.code (string_bytes r.text)
 IsReplyOf (Err e) bytes = IsReplyTo (refused (refusal_of e)) bytes
 
 module _ {S : Type 0} (calls : S → Request → List ℕ → Outcome → S → Type 0) (lists : S → View → ListOptions → Outcome → S → Type 0)
-    (begins : S → View → Result Listed Refusal → S → Type 0) (watches : S → View → ℕ → ℕ → Look → S → Type 0) (moment : List ℕ) (s t : S) where
+    (begins : S → View → Option ℕ → Result Listed Refusal → S → Type 0) (watches : S → View → ℕ → ℕ → Look → S → Type 0) (moment : List ℕ) (s t : S) where
   -- what is asked was done, and these bytes are its reply; a request that is refused before a server is asked changes nothing
   abbrev pub Replies : Result Asked Refusal → List ℕ → Type 0
   Replies (Err f) bytes = (t ≡ s) × IsReplyTo (refused f) bytes
   Replies (Ok (request q)) bytes = (o : Outcome) × calls s q moment o t × IsReplyTo o bytes
   Replies (Ok (list v options)) bytes = (o : Outcome) × lists s v options o t × IsReplyTo o bytes
-  Replies (Ok (watch v options)) bytes = (e : Fault) × Refuses begins watches v options.bookmarks s t options.from e × IsReplyTo (refused (refusal_of e)) bytes
+  Replies (Ok (watch v options)) bytes = (e : Fault) × Refuses begins watches v options.bookmarks s t options.start e × IsReplyTo (refused (refusal_of e)) bytes
 
   -- a watch is asked for, and has opened
   abbrev pub OpensWatch : Result Asked Refusal → OpenWatch → Type 0
@@ -52,7 +52,7 @@ module _ {S : Type 0} (calls : S → Request → List ℕ → Outcome → S → 
   OpensWatch (Ok (request q)) w = ⊥
   OpensWatch (Ok (list v options)) w = ⊥
   OpensWatch (Ok (watch v options)) w =
-      (view_of w.view ≡ v) × (w.bookmarks ≡ options.bookmarks) × IsOpened begins watches v options.bookmarks options.from s t (Ok w.opened)
+      (view_of w.view ≡ v) × (w.bookmarks ≡ options.bookmarks) × IsOpened begins watches v options.bookmarks options.start s t (Ok w.opened)
 
   -- nothing is to be written where nothing is asked, else a reply, or what a watch opens with
   abbrev pub Responds : Option (Result Asked Refusal) → Response → Type 0

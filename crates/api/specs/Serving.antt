@@ -69,7 +69,7 @@ module _ {D : Type 0} (contents : D → Option (List ℕ)) where
   Concludes (Err (left.Refused e)) old new result = Replies contents old new (refused (refusal_of e)) result
 
 module _ {S D : Type 0} (calls : S → Request → List ℕ → Outcome → S → Type 0) (lists : S → View → ListOptions → Outcome → S → Type 0)
-    (begins : S → View → Result Listed Refusal → S → Type 0) (watches : S → View → ℕ → ℕ → Look → S → Type 0) (contents : D → Option (List ℕ)) (moment : List ℕ)
+    (begins : S → View → Option ℕ → Result Listed Refusal → S → Type 0) (watches : S → View → ℕ → ℕ → Look → S → Type 0) (contents : D → Option (List ℕ)) (moment : List ℕ)
     (s t : S) (old new : Watched D) where
   -- what is asked was done, and its reply written; a request that is refused before a server is asked changes nothing
   abbrev pub Answers : Result Asked Refusal → Result (Unit {0}) ServeFault → Type 0
@@ -77,7 +77,7 @@ module _ {S D : Type 0} (calls : S → Request → List ℕ → Outcome → S �
   Answers (Ok (request q)) result = (o : Outcome) × calls s q moment o t × Replies contents old new o result
   Answers (Ok (list v options)) result = (o : Outcome) × lists s v options o t × Replies contents old new o result
   Answers (Ok (watch v options)) result =
-      (mid : Watched D) × (served : Result (Unit {0}) WatchFault) × Serves begins watches v options.bookmarks contents s t old mid options.from served × Concludes contents served mid new result
+      (mid : Watched D) × (served : Result (Unit {0}) WatchFault) × Serves begins watches v options.bookmarks contents s t old mid options.start served × Concludes contents served mid new result
 
   -- nothing is done where nothing is asked
   abbrev pub Does : Option (Result Asked Refusal) → Result (Unit {0}) ServeFault → Type 0

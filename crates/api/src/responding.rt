@@ -63,7 +63,7 @@ fn respond_to_watch<S: Site>(
         (Some (Ok (targets.watch (view_of view) (watch_seen options)))) result }
 {
     let _ = moment;
-    match open(alloc, site, &view, options.bookmarks, options.from) {
+    match open(alloc, site, &view, options.bookmarks, options.start) {
         Ok(opened) => Response::Watch(OpenWatch {
             view,
             bookmarks: options.bookmarks,

@@ -1,4 +1,4 @@
-//! At which revision a list is asked, and how a revision is to be matched.
+//! At which revision a list is asked, how a revision is to be matched, and how a watch begins.
 
 /// At which revision a list is asked (Kubernetes API Concepts, Resource versions).
 #[derive(Clone, Copy)]
@@ -18,6 +18,19 @@ pub enum Match {
     Unset,
     NotOlderThan,
     Exact,
+}
+
+/// How a watch begins (Kubernetes API Concepts, Semantics for watch; Streaming lists).
+#[derive(Clone, Copy, Debug, PartialEq, Eq)]
+pub enum Start {
+    /// After this revision.
+    After(u64),
+    /// With what is there.
+    Listed,
+    /// With what is there, not older than the revision, if one is named, and then, if bookmarks are asked for, the one that closes it.
+    Streamed(Option<u64>),
+    /// After the present revision.
+    Present,
 }
 
 impl Match {

@@ -1,3 +1,4 @@
+pub mod Begun
 pub mod ListedMembers
 pub mod Sent
 pub mod Served

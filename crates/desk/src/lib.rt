@@ -3,9 +3,11 @@
 #![tactic(auto)]
 
 mod compacting;
+pub mod initials;
 mod listing;
 pub mod servers;
 mod serving;
 pub mod watching;
 
+pub use initials::InitialEvents;
 pub use servers::Server;

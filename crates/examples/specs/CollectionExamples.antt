@@ -6,6 +6,7 @@ use Rattle.definitions.specs.ListQueries.{Collection, list, watch, WatchOptions,
 use Rattle.definitions.specs.Queries.{pairs_of}
 use Rattle.definitions.specs.declared.versions.At.{At}
 use Rattle.definitions.specs.declared.versions.At.TheVariants.{Present, NotOlder, Exact}
+use Rattle.definitions.specs.declared.versions.Start.TheVariants.{After, Listed}
 
 -- what a query asks, where no selector is given
 abbrev pub asked : List ℕ → Result Collection Part
@@ -44,10 +45,10 @@ watches query o = asked query ≡ Ok (record { labels = []; fields = []; read = 
 -- a watch looks at no limit and at no token; unset and 0 begin with what is there
 abbrev pub WatchesAreAsked : Type 0
 WatchesAreAsked =
-    watches (codes "?watch=true&resourceVersion=5") (record { from = Some 5; bookmarks = false })
-    × watches (codes "?watch=1&allowWatchBookmarks=true&resourceVersion=5&limit=x&continue=!!") (record { from = Some 5; bookmarks = true })
-    × watches (codes "?watch=true") (record { from = None; bookmarks = false })
-    × watches (codes "?watch=true&resourceVersion=0") (record { from = None; bookmarks = false })
+    watches (codes "?watch=true&resourceVersion=5") (record { start = After 5; bookmarks = false })
+    × watches (codes "?watch=1&allowWatchBookmarks=true&resourceVersion=5&limit=x&continue=!!") (record { start = After 5; bookmarks = true })
+    × watches (codes "?watch=true") (record { start = Listed; bookmarks = false })
+    × watches (codes "?watch=true&resourceVersion=0") (record { start = Listed; bookmarks = false })
     × (asked (codes "?watch=true&resourceVersion=5&resourceVersionMatch=NotOlderThan") ≡ Err part.Query)
     × (asked (codes "?watch=false&resourceVersion=5") ≡ lists (NotOlder 5) 0)
     × (asked (codes "?watch=true&sendInitialEvents=true") ≡ Err part.Query)

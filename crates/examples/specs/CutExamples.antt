@@ -8,15 +8,15 @@ use Rattle.controllers.specs.declared.reflectors.End.{End}
 use Rattle.controllers.specs.declared.reflectors.End.TheVariants.{Expired, Unreadable}
 use Rattle.controllers.specs.declared.reflectors.Phase.TheVariants.{Listing, Watching}
 use Rattle.definitions.specs.Objects.{Object}
-use Rattle.controllers.specs.Reflectors.{Reflector, Fed, Delta, put, mark, asks, cut, expired, fed}
+use Rattle.controllers.specs.Reflectors.{Reflector, none_yet, Fed, Delta, put, mark, asks, cut, expired, fed}
 
 -- a reflector of ConfigMaps that watches from revision 3, with bytes buffered
 abbrev pub at_three : List ℕ → Reflector
-at_three buffered = record { kind = ConfigMap; revision = 3; phase = Watching; buffered = buffered }
+at_three buffered = record { kind = ConfigMap; revision = 3; phase = Watching; buffered = buffered; is_streaming = false; initial = none_yet }
 
 -- this came of the bytes, and the reflector watches from a revision, with nothing buffered
 abbrev gives : List Delta → ℕ → Fed
-gives ds r = record { deltas = ds; ended = None; after = record { kind = ConfigMap; revision = r; phase = Watching; buffered = [] } }
+gives ds r = record { deltas = ds; ended = None; after = record { kind = ConfigMap; revision = r; phase = Watching; buffered = []; is_streaming = false; initial = none_yet } }
 
 -- nothing came of the bytes, and they are buffered
 abbrev pub holds : List ℕ → Fed
@@ -24,7 +24,7 @@ holds buffered = record { deltas = []; ended = None; after = at_three buffered }
 
 -- nothing came of the bytes but this end, and a list is asked for
 abbrev pub ends : End → Fed
-ends e = record { deltas = []; ended = Some e; after = record { kind = ConfigMap; revision = 3; phase = Listing; buffered = [] } }
+ends e = record { deltas = []; ended = Some e; after = record { kind = ConfigMap; revision = 3; phase = Listing; buffered = []; is_streaming = false; initial = none_yet } }
 
 abbrev a_map : Object
 a_map =
@@ -75,7 +75,7 @@ pub record ExpiriesAskForLists : Type 0 where
   pub another_code : fed (at_three []) (error (codes "504")) ≡ ends Unreadable
   pub no_code : fed (at_three []) (error (codes "\"410\"")) ≡ ends Unreadable
   pub frames_before_count : fed (at_three []) (first_part ++ (second_part ++ error (codes "410")))
-      ≡ record { deltas = put a_map ∷ []; ended = Some Expired; after = record { kind = ConfigMap; revision = 4; phase = Listing; buffered = [] } }
+      ≡ record { deltas = put a_map ∷ []; ended = Some Expired; after = record { kind = ConfigMap; revision = 4; phase = Listing; buffered = []; is_streaming = false; initial = none_yet } }
 
 -- ---- bookmarks
 

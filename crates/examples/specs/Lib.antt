@@ -13,6 +13,7 @@ pub mod SelectorExamples
 pub mod ServerExamples
 pub mod ServingExamples
 pub mod ShiftExamples
+pub mod StreamExamples
 pub mod VerbExamples
 pub mod WatchExamples
 pub mod WindowExamples

@@ -2,6 +2,7 @@
 use Rattle.std.specs.Prelude.{◌≡◌, ℕ, List, [], ◌∷◌, ◌++◌, map, None, true, false, Result, Ok, Err, codes}
 use Rattle.std.specs.Result.{result_map_both}
 use Rattle.definitions.specs.declared.kinds.Kind.TheVariants.{ConfigMap, Pod}
+use Rattle.definitions.specs.declared.versions.Start.TheVariants.{Listed}
 use Rattle.definitions.specs.History.{View, unfiltered}
 use Rattle.definitions.specs.Refusals.{Refusal, expired, too_new}
 use Rattle.definitions.specs.Streams.{Line, event, bookmark, initial, initial_end}
@@ -44,8 +45,8 @@ SomeMayBeLeft =
 -- a watch from no revision begins with what is there in order, with bookmarks or without, and with nothing where nothing is there
 abbrev pub ListsComeFirst : Type 0
 ListsComeFirst =
-    (watch_lines 4 six_writes config_maps (record { from = None; bookmarks = false })
+    (watch_lines 4 six_writes config_maps (record { start = Listed; bookmarks = false })
     ≡ Ok (initial (named ConfigMap (codes "a")) (stored (codes "a") (codes "7")) ∷ initial (named ConfigMap (codes "c")) (stored (codes "c") (codes "5")) ∷ []))
-    × (watch_lines 4 six_writes config_maps (record { from = None; bookmarks = true })
+    × (watch_lines 4 six_writes config_maps (record { start = Listed; bookmarks = true })
     ≡ Ok (initial (named ConfigMap (codes "a")) (stored (codes "a") (codes "7")) ∷ initial (named ConfigMap (codes "c")) (stored (codes "c") (codes "5")) ∷ []))
-    × (watch_lines 4 six_writes pods (record { from = None; bookmarks = true }) ≡ Ok [])
+    × (watch_lines 4 six_writes pods (record { start = Listed; bookmarks = true }) ≡ Ok [])

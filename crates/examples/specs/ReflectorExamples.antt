@@ -1,12 +1,12 @@
 -- Worked facts of reflectors, computed from the definitions: what exact bytes do.
-use Rattle.std.specs.Prelude.{◌≡◌, ℕ, List, [], ◌∷◌, ◌++◌, Some, None, codes}
+use Rattle.std.specs.Prelude.{◌≡◌, ℕ, List, [], ◌∷◌, ◌++◌, Some, None, codes, false}
 use Rattle.serde_json.specs.Data.{string, object, no_members, member}
 use Rattle.definitions.specs.declared.kinds.Kind.TheVariants.{ConfigMap, Pod}
 use Rattle.controllers.specs.declared.reflectors.End.{End}
 use Rattle.controllers.specs.declared.reflectors.End.TheVariants.{Expired, Unreadable}
 use Rattle.controllers.specs.declared.reflectors.Phase.TheVariants.{Listing, Watching}
 use Rattle.definitions.specs.Objects.{Object}
-use Rattle.controllers.specs.Reflectors.{Reflector, Fed, list_of, put, remove, mark, fed}
+use Rattle.controllers.specs.Reflectors.{Reflector, none_yet, Fed, list_of, put, remove, mark, fed}
 
 -- the ConfigMap `a` with a value, at a version
 abbrev a_map : List ℕ → List ℕ → Object
@@ -49,7 +49,7 @@ frame type version =
 
 -- a reflector of ConfigMaps that watches from a revision, with bytes buffered
 abbrev watching : ℕ → List ℕ → Reflector
-watching r buffered = record { kind = ConfigMap; revision = r; phase = Watching; buffered = buffered }
+watching r buffered = record { kind = ConfigMap; revision = r; phase = Watching; buffered = buffered; is_streaming = false; initial = none_yet }
 
 -- the first update puts the object and moves the revision to 3, its removal takes it away at 4
 abbrev pub ChangesAreTakenIn : Type 0
@@ -69,7 +69,7 @@ PartsAreHeld =
 
 -- nothing comes of the frame but this end, after which a list is asked for
 abbrev ends : End → Fed
-ends e = record { deltas = []; ended = Some e; after = record { kind = ConfigMap; revision = 3; phase = Listing; buffered = [] } }
+ends e = record { deltas = []; ended = Some e; after = record { kind = ConfigMap; revision = 3; phase = Listing; buffered = []; is_streaming = false; initial = none_yet } }
 
 abbrev error : List ℕ → List ℕ
 error code = codes "{\"object\":{\"apiVersion\":\"v1\",\"code\":" ++ (code ++ codes ",\"kind\":\"Status\",\"status\":\"Failure\"},\"type\":\"ERROR\"}\n")

@@ -15,6 +15,7 @@ use Rattle.form_urlencoded.specs.Form.{raw_pairs}
 use Rattle.line_protocol.specs.Lines.{replay}
 use Rattle.definitions.specs.declared.refusals.Part.{Part}
 use Rattle.definitions.specs.declared.refusals.Part.TheVariants as part
+use Rattle.definitions.specs.declared.versions.Start.TheVariants.{After}
 use Rattle.definitions.specs.ListQueries.{Collection, watch, everything, collection_of}
 use Rattle.definitions.specs.declared.selectors.Operator.TheVariants.{In, DoesNotExist}
 use Rattle.definitions.specs.declared.selectors.SelectableField.TheVariants.{Name as NameField}
@@ -129,7 +130,7 @@ abbrev query_in : List ℕ → Result Collection Part
 query_in query = collection_of (raw_pairs query)
 
 abbrev watching : ℕ → Collection
-watching r = record { labels = []; fields = []; read = watch (record { from = Some r; bookmarks = false }) }
+watching r = record { labels = []; fields = []; read = watch (record { start = After r; bookmarks = false }) }
 
 -- of repeated members the first counts, names and values are decoded, and what is not known says nothing
 abbrev pub QueriesAreRead : Type 0

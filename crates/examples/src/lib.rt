@@ -18,6 +18,7 @@ pub mod selector_examples;
 pub mod server_examples;
 pub mod serving_examples;
 pub mod shift_examples;
+pub mod stream_examples;
 pub mod verb_examples;
 pub mod watch_examples;
 pub mod window_examples;

@@ -22,7 +22,7 @@ use Rattle.http_connection.proofs.Looks.{looks_more, frames_more, lasts_more, en
 use Rattle.http_connection.proofs.Standing.{watch_closes}
 
 module _ {S : Type 0} (calls : S → Request → List ℕ → Outcome → S → Type 0) (lists : S → View → ListOptions → Outcome → S → Type 0)
-    (begins : S → View → Result Listed Refusal → S → Type 0) (watches : S → View → ℕ → ℕ → Look → S → Type 0) where
+    (begins : S → View → Option ℕ → Result Listed Refusal → S → Type 0) (watches : S → View → ℕ → ℕ → Look → S → Type 0) where
   -- the text of a watch, and the frames of one look more
   one_more : (v : View) (b : Bool) (opening text more : List ℕ) (at : ℕ) (r : ℕ) (looks : List Look) (w : Look) → text ≡ opening ++ look_frames v.kind b at looks
       → more ≡ look_frames v.kind b r (w ∷ []) → r ≡ revision_after at looks → text ++ more ≡ opening ++ look_frames v.kind b at (looks ++ w ∷ [])

@@ -40,7 +40,7 @@ left_of bytes put taken n is =
     (sym (append_assoc (take taken bytes) put (drop n bytes)) ∙ ap (λ t. t ++ drop n bytes) is ∙ take-append-drop n bytes ∙ sym (take-append-drop taken bytes))
 
 module _ {S : Type 0} (calls : S → Request → List ℕ → Outcome → S → Type 0) (lists : S → View → ListOptions → Outcome → S → Type 0)
-    (begins : S → View → Result Listed Refusal → S → Type 0) (watches : S → View → ℕ → ℕ → Look → S → Type 0) where
+    (begins : S → View → Option ℕ → Result Listed Refusal → S → Type 0) (watches : S → View → ℕ → ℕ → Look → S → Type 0) where
   abbrev AtPhase : Phase → List ℕ → List ℕ → Type 0
   AtPhase = Stands calls lists begins watches
 
@@ -70,7 +70,7 @@ module _ {S : Type 0} (calls : S → Request → List ℕ → Outcome → S → 
   opens_stand (targets.watch v options) moment s t read w u asks (view, bookmarks, (o, opens, stands, idle, text)) same_view same_bookmarks same_at same_out none size =
       let seen : v ≡ view_of u.view = sym view ∙ ap view_of (sym same_view) in
       let marks : options.bookmarks ≡ u.bookmarks = sym bookmarks ∙ sym same_bookmarks in
-      let given = subst (λ x. Opens begins watches x u.bookmarks s options.from (Ok o) t) seen (subst (λ b. Opens begins watches v b s options.from (Ok o) t) marks opens) in
+      let given = subst (λ x. Opens begins watches x u.bookmarks s options.start (Ok o) t) seen (subst (λ b. Opens begins watches v b s options.start (Ok o) t) marks opens) in
       let whole : unwritten u ≡ u.out.items = ap (λ n. drop n u.out.items) none in
       let out : unwritten u ≡ opening_text (view_of u.view).kind o ++ [] =
       whole ∙ same_out ∙ text ∙ ap (λ x. opening_text x.kind o) seen ∙ sym (append-nil (opening_text (view_of u.view).kind o)) in

@@ -38,7 +38,7 @@ IsToBeWritten (response.Watch x) result =
     × (w.out ≡ x.opened.text) × (w.taken ≡ 0) × (w.opened ≡ length w.out.items)
 
 module _ {S : Type 0} (calls : S → Request → List ℕ → Outcome → S → Type 0) (lists : S → View → ListOptions → Outcome → S → Type 0)
-    (begins : S → View → Result Listed Refusal → S → Type 0) (watches : S → View → ℕ → ℕ → Look → S → Type 0) where
+    (begins : S → View → Option ℕ → Result Listed Refusal → S → Type 0) (watches : S → View → ℕ → ℕ → Look → S → Type 0) where
   -- what is asked was done, and its reply is to be written, or its watch
   abbrev pub Answers : List ℕ → S → S → targets.Asked → Phase → Type 0
   Answers moment s t a result = (r : Response) × Responds calls lists begins watches moment s t (Some (Ok a)) r × IsToBeWritten r result
@@ -53,7 +53,7 @@ module _ {S : Type 0} (calls : S → Request → List ℕ → Outcome → S → 
   abbrev pub IsWatch : List ℕ → View → Bool → Option Standing → List ℕ → Type 0
   IsWatch read v bookmarks at text =
       (options : WatchOptions) × Asks read (Some (Ok (targets.watch v options))) × (bookmarks ≡ options.bookmarks)
-      × ((o : Opening) × (looks : List Look) × IsGiven begins watches v bookmarks options.from o looks × StandsAfter bookmarks o looks at
+      × ((o : Opening) × (looks : List Look) × IsGiven begins watches v bookmarks options.start o looks × StandsAfter bookmarks o looks at
       × (text ≡ text_by_then v.kind bookmarks o looks at))
 
   -- a connection of which these bytes were read is to be written this by now

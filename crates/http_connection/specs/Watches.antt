@@ -1,6 +1,7 @@
 -- A watch that goes on as its bytes are taken, with others served between its looks.
 use Rattle.std.specs.Prelude.{◌≡◌, ◌≤◌, ◌<◌, ◌+◌, ◌⊎◌, ℕ, List, [], ◌∷◌, ◌++◌, length, drop, Bool, Option, Some, None, Result, Ok, Err, ⊤}
 use Rattle.definitions.specs.declared.kinds.Kind.{Kind}
+use Rattle.definitions.specs.declared.versions.Start.{Start}
 use Rattle.definitions.specs.History.{View}
 use Rattle.definitions.specs.Refusals.{Refusal}
 use Rattle.definitions.specs.Versions.{Listed}
@@ -15,10 +16,10 @@ module _ {S : Type 0} (watches : S → View → ℕ → ℕ → Look → S → T
   AreLooks at [] = ⊤
   AreLooks at (w ∷ looks) = ((s : S) × (t : S) × watches s v at most_changes w t) × AreLooks (stands_after at w) looks
 
-module _ {S : Type 0} (begins : S → View → Result Listed Refusal → S → Type 0) (watches : S → View → ℕ → ℕ → Look → S → Type 0) where
-  -- a watch of a view, from a revision or from what is there, opened so and was given these looks
-  abbrev pub IsGiven : View → Bool → Option ℕ → Opening → List Look → Type 0
-  IsGiven v bookmarks from o looks = ((s : S) × (t : S) × Opens begins watches v bookmarks s from (Ok o) t) × AreLooks watches v o.stands looks
+module _ {S : Type 0} (begins : S → View → Option ℕ → Result Listed Refusal → S → Type 0) (watches : S → View → ℕ → ℕ → Look → S → Type 0) where
+  -- a watch of a view that begins so opened so and was given these looks
+  abbrev pub IsGiven : View → Bool → Start → Opening → List Look → Type 0
+  IsGiven v bookmarks start o looks = ((s : S) × (t : S) × Opens begins watches v bookmarks s start (Ok o) t) × AreLooks watches v o.stands looks
 
 -- ---- where it stands
 

@@ -18,6 +18,7 @@ pub mod Guards
 pub mod ServerAnswers
 pub mod ServerHistories
 pub mod SetMetadata
+pub mod InitialStreams
 pub mod JoinedPages
 pub mod JsonOrder
 pub mod JsonTexts
@@ -77,5 +78,6 @@ pub mod Undone
 pub mod ValidNames
 pub mod VerbLaws
 pub mod Versions
+pub mod WatchStarts
 pub mod WholeObjects
 pub mod WrittenTexts

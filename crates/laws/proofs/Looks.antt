@@ -63,7 +63,7 @@ none_at h v a = let few = length-take (a - 1) (writes h) in ap (events_after v (
 -- ---- looks
 
 -- what has happened by the last look begins with what had happened before
-goes_further : (size : ℕ) (v : View) (h : History) (a : ℕ) (ls : List Look) → AreLooks size v h a ls → (more : History) × (last_history h ls ≡ h ++ more)
+pub goes_further : (size : ℕ) (v : View) (h : History) (a : ℕ) (ls : List Look) → AreLooks size v h a ls → (more : History) × (last_history h ls ≡ h ++ more)
 goes_further size v h a [] is = ([], sym (append-nil h))
 goes_further size v h a (l ∷ ls) is =
     let rest = goes_further size v l.history l.given.stands ls is.2 in

@@ -9,10 +9,12 @@ use Rattle.server_state.specs.Recorded.{recorded_list, recorded_since}
 use Rattle.definitions.specs.Windows.{list_within, since}
 use Rattle.definitions.specs.declared.versions.At.{At}
 use Rattle.definitions.specs.declared.versions.At.TheVariants.{Present, NotOlder, Exact}
+use Rattle.definitions.specs.declared.versions.Start.{Start}
+use Rattle.definitions.specs.declared.versions.Start.TheVariants as begins
 use Rattle.definitions.specs.Versions.{listed_as, once_present, listed_at, watched, watched_from}
 use Rattle.definitions.specs.Lists.{list_answer}
 use Rattle.server_state.specs.Servers.{Server, window_of, watch_by, IsServerAfter}
-use Rattle.definitions.specs.WatchReplies.{told_lines, lines_by}
+use Rattle.definitions.specs.WatchReplies.{told_lines, opening_lines, lines_by}
 use Rattle.definitions.specs.Streams.{added_lines}
 use Rattle.laws.specs.ServerLaws.{ServersList, ServersWatch, ServersAnswerLists, ServersShow, ListsAreServed}
 use Rattle.laws.proofs.ServedWindows.{watch_served, list_undone, revisions_served}
@@ -57,13 +59,19 @@ lists_answered size h v r =
 pub pages_held : ServersAnswerLists
 pages_held size s h v o is = ap (list_answer v o) (lists_held size s h v o.at is)
 
--- by whether the watch begins with what is there
-shown_by : (size : ℕ) (s : Server) (h : History) (v : View) (bookmarks : Bool) (from : Option ℕ) → IsServerAfter size s h
-    → lines_by (viewed v s.snapshot.members) (λ a. watch_by s v a s.snapshot.revision) bookmarks from ≡ lines_by (list h v (present h)) (λ a. watched_from size h v a (present h)) bookmarks from
-shown_by size s h v bookmarks None is = ap (λ z. Ok (added_lines (viewed v z.members))) is.0
-shown_by size s h v bookmarks (Some a) is =
+-- by how the watch begins
+shown_by : (size : ℕ) (s : Server) (h : History) (v : View) (bookmarks : Bool) (start : Start) → IsServerAfter size s h
+    → lines_by s.snapshot.revision (viewed v s.snapshot.members) (λ a. watch_by s v a s.snapshot.revision) bookmarks start
+    ≡ lines_by (present h) (list h v (present h)) (λ a. watched_from size h v a (present h)) bookmarks start
+shown_by size s h v bookmarks begins.Listed is = ap (λ z. Ok (added_lines (viewed v z.members))) is.0
+shown_by size s h v bookmarks (begins.Streamed None) is = ap (λ z. Ok (opening_lines bookmarks z.revision (viewed v z.members))) is.0
+shown_by size s h v bookmarks (begins.Streamed (Some r)) is = ap (λ z. once_present z.revision r (opening_lines bookmarks z.revision (viewed v z.members))) is.0
+shown_by size s h v bookmarks (begins.After a) is =
     ap (λ z. result_map_both (told_lines bookmarks a) (λ f. f) (watch_by s v a z.revision)) is.0
     ∙ ap (result_map_both (told_lines bookmarks a) (λ f. f)) (watches_held size s h v a (present h) is)
+shown_by size s h v bookmarks begins.Present is =
+    ap (λ z. result_map_both (told_lines bookmarks z.revision) (λ f. f) (watch_by s v z.revision z.revision)) is.0
+    ∙ ap (result_map_both (told_lines bookmarks (present h)) (λ f. f)) (watches_held size s h v (present h) (present h) is)
 
 pub lines_held : ServersShow
-lines_held size s h v o is = shown_by size s h v o.bookmarks o.from is
+lines_held size s h v o is = shown_by size s h v o.bookmarks o.start is

@@ -134,7 +134,7 @@ watches_stand size h v a n w is =
 
 -- ---- after it
 
-writes_past : (h more : History) (r : ℕ) → r ≤ present h → up_to r (h ++ more) ≡ up_to r h
+pub writes_past : (h more : History) (r : ℕ) → r ≤ present h → up_to r (h ++ more) ≡ up_to r h
 writes_past h more r le = ap (take (r - 1)) (writes-append h more) ∙ take-append-le (r - 1) (writes h) (writes more) (omega arith)
 
 pub changes_past : (h more : History) (v : View) (a b : ℕ) → a ≤ b → b ≤ present h → events (h ++ more) v a b ≡ events h v a b

@@ -22,6 +22,7 @@ pub mod SelectorLaws
 pub mod SentLaws
 pub mod ServerLaws
 pub mod SnapshotLaws
+pub mod StreamLaws
 pub mod UidLaws
 pub mod VersionLaws
 pub mod WatchLaws

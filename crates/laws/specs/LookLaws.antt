@@ -2,7 +2,7 @@
 use Rattle.std.specs.Prelude.{◌≡◌, ◌≤◌, ◌<◌, ◌↔◌, ℕ, Bool, List, [], ◌∷◌, ◌++◌, length, map, Option, unwrap_or, Ok, IsOk}
 use Rattle.definitions.specs.declared.frames.FrameKind.TheVariants.{Added}
 use Rattle.definitions.specs.History.{History, View, present, list}
-use Rattle.definitions.specs.ListQueries.{watch_from}
+use Rattle.definitions.specs.ListQueries.{plain_start}
 use Rattle.definitions.specs.Streams.{Line, frame_of, IsStream, applied_lines}
 use Rattle.definitions.specs.Versions.{Watched, watched_from}
 use Rattle.definitions.specs.WatchReplies.{lines_from, watch_lines}
@@ -58,6 +58,6 @@ abbrev pub WatchesBeginWithTheList : Type 0
 WatchesBeginWithTheList =
     (size : ℕ) (h : History) (v : View) (version : Option ℕ) (bookmarks : Bool) → unwrap_or version 0 ≡ 0
     → (ls : List Line)
-    × (watch_lines size h v (record { from = watch_from version; bookmarks = bookmarks }) ≡ Ok ls)
+    × (watch_lines size h v (record { start = plain_start version; bookmarks = bookmarks }) ≡ Ok ls)
     × (map (frame_of v.kind) ls ≡ map (λ m. record { kind = Added; object = m.1 }) (list h v (present h)))
     × (applied_lines [] ls ≡ list h v (present h))

@@ -7,6 +7,7 @@ use Rattle.serde_json.specs.Find.{as_object}
 use Rattle.serde_json.specs.Read.{read, max_depth}
 use Rattle.serde_json.specs.Written.{compact_text}
 use Rattle.definitions.specs.declared.kinds.Kind.{Kind}
+use Rattle.definitions.specs.declared.versions.Start.TheVariants.{After}
 use Rattle.definitions.specs.Keys.{Key}
 use Rattle.definitions.specs.History as history
 use Rattle.definitions.specs.History.{History, Write, View, Entries, writes, present, list}
@@ -68,7 +69,7 @@ ChangesAreTold =
 -- the lines that a watch after a revision shows are a stream from there to the present revision, with bookmarks or without
 abbrev pub WatchesAreStreams : Type 0
 WatchesAreStreams =
-    (size : ℕ) (h : History) (v : View) (a : ℕ) (bookmarks : Bool) (ls : List Line) → watch_lines size h v (record { from = Some a; bookmarks = bookmarks }) ≡ Ok ls
+    (size : ℕ) (h : History) (v : View) (a : ℕ) (bookmarks : Bool) (ls : List Line) → watch_lines size h v (record { start = After a; bookmarks = bookmarks }) ≡ Ok ls
     → (a ≤ present h) × IsStream h v a (present h) ls
 
 -- ---- lists

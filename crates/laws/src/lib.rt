@@ -21,6 +21,7 @@ pub mod selector_laws;
 pub mod sent_laws;
 pub mod server_laws;
 pub mod snapshot_laws;
+pub mod stream_laws;
 pub mod uid_laws;
 pub mod version_laws;
 pub mod watch_laws;

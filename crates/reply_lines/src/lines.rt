@@ -6,6 +6,7 @@ ghost use Rattle.definitions.specs.Replies.{outcome, shown};
 ghost use Rattle.definitions.specs.Refusals.{success_body};
 ghost use Rattle.definitions.specs.Streams.{event as change, frame_of, text_of_lines, added_lines};
 ghost use Rattle.definitions.specs.Verbs.{refused};
+ghost use Rattle.definitions.specs.WatchReplies.{opening_lines};
 ghost use Rattle.keys.specs.Faults.{refusal_of};
 ghost use Rattle.meta.specs.Members.{member_of};
 ghost use Rattle.keys.specs.declared.fault.Fault.TheVariants as faults;
@@ -29,6 +30,8 @@ enum Shown<'a> {
     Bookmark(u64),
     /// An object that is there as the watch begins.
     Initial(Member<'a>),
+    /// The revision at which the objects that are there end.
+    InitialEnd(u64),
 }
 
 /// How many bytes a reply line has more than its text: a code's five digits at the most, the space and the end of the line.
@@ -82,6 +85,7 @@ fn shown_text(alloc: Global, kind: Kind, shown: Shown<'_>) -> Result<String, All
         Shown::Change(event) => framing::frame_text(alloc, event),
         Shown::Bookmark(revision) => framing::bookmark_text(alloc, kind, false, revision),
         Shown::Initial(member) => framing::added_text(alloc, member.object),
+        Shown::InitialEnd(revision) => framing::bookmark_text(alloc, kind, true, revision),
     }
 }
 
@@ -176,5 +180,26 @@ pub fn initial_lines(
 {
     let mut text = count_line(alloc, members.len())?;
     push_members(alloc, kind, members, &mut text)?;
+    Ok(text)
+}
+
+/// Returns the lines of a watch that begins with initial events: what is there and then, if bookmarks are shown, the one that
+/// closes it.
+pub fn opening_lines(
+    alloc: Global,
+    kind: Kind,
+    bookmarks: bool,
+    members: &[Member<'_>],
+    revision: u64,
+) -> Result<Vec<u8>, AllocError>
+    ensures { IfOk result (λ l. l.items
+        ≡ reply_text (shown kind (opening_lines bookmarks revision (map member_of members.now)))) }
+{
+    if !bookmarks {
+        return initial_lines(alloc, kind, members);
+    }
+    let mut text = count_line(alloc, members.len() + 1)?;
+    push_members(alloc, kind, members, &mut text)?;
+    push_shown(alloc, kind, Shown::InitialEnd(revision), &mut text)?;
     Ok(text)
 }

@@ -24,7 +24,7 @@ abbrev pub list_seen : ListOptions → collections.ListOptions
 list_seen o = record { at = o.at; limit = o.limit; after = option_map place_seen o.after }
 
 abbrev pub watch_seen : WatchOptions → collections.WatchOptions
-watch_seen o = record { from = o.from; bookmarks = o.bookmarks }
+watch_seen o = record { start = o.start; bookmarks = o.bookmarks }
 
 abbrev pub read_seen : Read → collections.Read
 read_seen (List o) = collections.list (list_seen o)

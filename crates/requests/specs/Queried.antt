@@ -5,7 +5,7 @@ use Rattle.requests.specs.Collected.{collection_seen}
 use Rattle.requests.specs.declared.faults.MemberFault.{MemberFault}
 use Rattle.requests.specs.declared.faults.MemberFault.TheVariants.{BadQuery, NoMemory}
 use Rattle.requests.specs.declared.members.Names.{Names}
-use Rattle.requests.specs.declared.members.Names.TheVariants.{Refused, OfNoCollection, OfNoWatch}
+use Rattle.requests.specs.declared.members.Names.TheVariants.{Refused, OfNoList}
 use Rattle.requests.specs.declared.query.Query.{Query}
 
 -- the query as the definitions say it
@@ -14,8 +14,7 @@ query_seen q = record { collection = collection_seen q.collection; policy = q.po
 
 abbrev pub names_seen : Names → List (List ℕ)
 names_seen Refused = codes "dryRun" ∷ []
-names_seen OfNoCollection = codes "sendInitialEvents" ∷ codes "dryRun" ∷ []
-names_seen OfNoWatch = codes "resourceVersionMatch" ∷ []
+names_seen OfNoList = codes "sendInitialEvents" ∷ []
 
 -- the result is this, or that there is none; or memory ran out
 abbrev pub Reads : {A : Type 0} → Option A → Result A MemberFault → Type 0

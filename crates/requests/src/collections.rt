@@ -59,6 +59,8 @@ fn read_options(alloc: Global, query: &[u8]) -> Result<Read, QueryFault>
 {
     if is_true_value(alloc, query, "watch")? {
         Ok(Read::Watch(watch_options(alloc, query)?))
+    } else if has_any(alloc, query, Names::OfNoList)? {
+        Err(QueryFault::BadQuery)
     } else {
         Ok(Read::List(list_options(alloc, query)?))
     }
@@ -69,7 +71,7 @@ fn read_options(alloc: Global, query: &[u8]) -> Result<Read, QueryFault>
 pub fn read_collection(alloc: Global, query: &[u8]) -> Result<Collection, QueryFault>
     ensures { Gives collection_seen (collection_of (raw_pairs query.now)) result }
 {
-    if has_any(alloc, query, Names::OfNoCollection)? {
+    if has_any(alloc, query, Names::Refused)? {
         return Err(QueryFault::BadQuery);
     }
     let labels = labels(alloc, query)?;

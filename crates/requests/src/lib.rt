@@ -11,5 +11,6 @@ pub mod list_options;
 pub(crate) mod members;
 pub mod query;
 pub mod watch_options;
+pub(crate) mod watch_starts;
 
 pub use object_requests::Request;

@@ -3,7 +3,7 @@ ghost use Rattle.std.specs.Prelude.{◌≡◌, ◌==◌, Some, codes, option_map
 ghost use Rattle.std.specs.Cow.{cow_str_bytes};
 ghost use Rattle.std.specs.List.{list_all};
 ghost use Rattle.form_urlencoded.specs.Form.{raw_pairs};
-ghost use Rattle.definitions.specs.ListQueries.{limit_of, match_of, list_at, going_on, by_token, list_options};
+ghost use Rattle.definitions.specs.ListQueries.{limit_of, list_at, going_on, by_token, list_options};
 ghost use Rattle.definitions.specs.Moments.{is_digit};
 ghost use Rattle.definitions.specs.Queries.{parameter};
 ghost use Rattle.definitions.specs.PageTokens.{token_of};
@@ -11,7 +11,7 @@ ghost use Rattle.requests.specs.Collected.{Gives, list_seen};
 ghost use Rattle.requests.specs.Queried.{Reads};
 
 use crate::faults::{MemberFault, QueryFault};
-use crate::members::{parameter, version};
+use crate::members::{matched, parameter, version};
 use definitions::versions::{At, Match};
 use keys::Fault;
 use pages::Token;
@@ -68,25 +68,6 @@ fn limit(alloc: Global, query: &[u8]) -> Result<usize, MemberFault>
 {
     match limit_of(parameter(alloc, query, "limit")?) {
         Some(limit) => Ok(limit),
-        None => Err(MemberFault::BadQuery),
-    }
-}
-
-fn match_of(name: Option<CowStr<'_>>) -> Option<Match>
-    ensures { result ≡ match_of (option_map cow_str_bytes name.entry) }
-{
-    match name {
-        None => Match::read(None),
-        Some(name) => Match::read(Some(name.as_str())),
-    }
-}
-
-/// Returns how a query wants the revision to be matched.
-fn matched(alloc: Global, query: &[u8]) -> Result<Match, MemberFault>
-    ensures { Reads (match_of (parameter (codes "resourceVersionMatch") (raw_pairs query.now))) result }
-{
-    match match_of(parameter(alloc, query, "resourceVersionMatch")?) {
-        Some(matched) => Ok(matched),
         None => Err(MemberFault::BadQuery),
     }
 }

@@ -4,13 +4,14 @@ ghost use Rattle.std.specs.Cow.{cow_str_bytes};
 ghost use Rattle.std.specs.List.{list_any};
 ghost use Rattle.std.specs.Str.{bytes_eq};
 ghost use Rattle.form_urlencoded.specs.Form.{raw_pairs};
-ghost use Rattle.definitions.specs.ListQueries.{is_true_value, version_of};
+ghost use Rattle.definitions.specs.ListQueries.{initial_of, is_true_value, match_of, version_of};
 ghost use Rattle.definitions.specs.Queries.{has_any, parameter, or_empty};
 ghost use Rattle.definitions.specs.SelectorFields.{fields_of_text};
 ghost use Rattle.definitions.specs.SelectorTexts.{selector_of_text};
 ghost use Rattle.requests.specs.Queried.{Reads, names_seen};
 
 use crate::faults::MemberFault;
+use definitions::versions::Match;
 use form_urlencoded::parse;
 use selector::{Fields, Selector};
 use stamps::revisions::read_revision;
@@ -22,10 +23,8 @@ use std::borrow::CowStr;
 pub(crate) enum Names {
     /// No request may have them.
     Refused,
-    /// No query of a collection may have them.
-    OfNoCollection,
-    /// No watch may have them.
-    OfNoWatch,
+    /// No list may have them.
+    OfNoList,
 }
 
 impl Names {
@@ -39,8 +38,7 @@ impl Names {
     {
         match self {
             Names::Refused => is_refused(name),
-            Names::OfNoCollection => is_of_no_collection(name),
-            Names::OfNoWatch => is_of_no_watch(name),
+            Names::OfNoList => is_of_no_list(name),
         }
     }
 }
@@ -51,16 +49,10 @@ fn is_refused(name: &str) -> bool
     name == "dryRun"
 }
 
-fn is_of_no_collection(name: &str) -> bool
-    ensures { result ≡ list_any (bytes_eq name.now) (names_seen Names.OfNoCollection) }
+fn is_of_no_list(name: &str) -> bool
+    ensures { result ≡ list_any (bytes_eq name.now) (names_seen Names.OfNoList) }
 {
-    matches!(name, "dryRun" | "sendInitialEvents")
-}
-
-fn is_of_no_watch(name: &str) -> bool
-    ensures { result ≡ list_any (bytes_eq name.now) (names_seen Names.OfNoWatch) }
-{
-    name == "resourceVersionMatch"
+    name == "sendInitialEvents"
 }
 
 /// Returns whether a parameter has one of these names.
@@ -128,6 +120,36 @@ pub(crate) fn version(alloc: Global, query: &[u8]) -> Result<Option<u64>, Member
     match version_of(parameter(alloc, query, "resourceVersion")?) {
         Some(version) => Ok(version),
         None => Err(MemberFault::BadQuery),
+    }
+}
+
+/// Returns the match that a name says; no name says none.
+fn match_of(name: Option<CowStr<'_>>) -> Option<Match>
+    ensures { result ≡ match_of (option_map cow_str_bytes name.entry) }
+{
+    match name {
+        None => Match::read(None),
+        Some(name) => Match::read(Some(name.as_str())),
+    }
+}
+
+/// Returns how a query wants the revision to be matched.
+pub(crate) fn matched(alloc: Global, query: &[u8]) -> Result<Match, MemberFault>
+    ensures { Reads (match_of (parameter (codes "resourceVersionMatch") (raw_pairs query.now))) result }
+{
+    match match_of(parameter(alloc, query, "resourceVersionMatch")?) {
+        Some(matched) => Ok(matched),
+        None => Err(MemberFault::BadQuery),
+    }
+}
+
+/// Returns whether a query names initial events, and then whether it wants them.
+pub(crate) fn initial(alloc: Global, query: &[u8]) -> Result<Option<bool>, AllocError>
+    ensures { IfOk result (λ o. o ≡ initial_of (parameter (codes "sendInitialEvents") (raw_pairs query.now))) }
+{
+    match parameter(alloc, query, "sendInitialEvents")? {
+        None => Ok(None),
+        Some(value) => Ok(Some(is_true(value.as_str()))),
     }
 }
 

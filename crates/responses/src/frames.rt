@@ -1,6 +1,6 @@
 //! Frames of watches, added to a text as chunks, so that many of them go out in one write. The error of each function is out of
 //! memory; some of the frames may then have been added.
-ghost use Rattle.std.specs.Prelude.{◌≡◌, ◌++◌, OnOk, map, false};
+ghost use Rattle.std.specs.Prelude.{◌≡◌, ◌++◌, OnOk, map, false, true};
 ghost use Rattle.chunked.specs.Bodies.{chunk_text};
 ghost use Rattle.definitions.specs.Frames.{frame_text, bookmark_frame, error_frame};
 ghost use Rattle.keys.specs.Faults.{refusal_of};
@@ -51,6 +51,20 @@ pub fn push_bookmark(
         ≡ text.old.items ++ chunk_text (frame_text (bookmark_frame kind false revision))) }
 {
     let line = framing::bookmark_text(alloc, kind, false, revision)?;
+    push_chunk(alloc, text, line.as_bytes())
+}
+
+/// Adds the frame of the bookmark that closes the initial events of a watch.
+pub fn push_closing(
+    alloc: Global,
+    text: &mut Vec<u8>,
+    kind: Kind,
+    revision: u64,
+) -> Result<(), AllocError>
+    ensures { OnOk result (text.new.items
+        ≡ text.old.items ++ chunk_text (frame_text (bookmark_frame kind true revision))) }
+{
+    let line = framing::bookmark_text(alloc, kind, true, revision)?;
     push_chunk(alloc, text, line.as_bytes())
 }
 

@@ -11,7 +11,7 @@ use Rattle.definitions.specs.Verbs.{Outcome}
 use Rattle.definitions.specs.Versions.{Listed, Watched, once_present, listed_at, watched}
 use Rattle.definitions.specs.Lists.{list_answer}
 use Rattle.definitions.specs.Streams.{Line}
-use Rattle.definitions.specs.WatchReplies.{lines_by}
+use Rattle.definitions.specs.WatchReplies.{Initial, initial_from, lines_by}
 use Rattle.definitions.specs.Windows.{Change}
 use Rattle.server_state.specs.Snapshots.{Snapshot, empty, snapshot, written}
 use Rattle.server_state.specs.Recorded.{Window, opened, recorded, compacted_to, recorded_since, recorded_list, IsWindowAfter}
@@ -74,9 +74,13 @@ watch_by s v a n = result_map_both (watched s.snapshot.revision a n) (λ f. f) (
 abbrev pub list_served : Server → View → ListOptions → Outcome
 list_served s v o = list_answer v o (list_by s v o.at)
 
+-- the initial events of a view, and the revision at which they are
+abbrev pub initial_by : Server → View → Option ℕ → Result Initial Refusal
+initial_by s v least = initial_from s.snapshot.revision (viewed v s.snapshot.members) least
+
 -- the lines of a watch up to the present revision
 abbrev pub watch_served : Server → View → WatchOptions → Result (List Line) Refusal
-watch_served s v o = lines_by (viewed v s.snapshot.members) (λ a. watch_by s v a s.snapshot.revision) o.bookmarks o.from
+watch_served s v o = lines_by s.snapshot.revision (viewed v s.snapshot.members) (λ a. watch_by s v a s.snapshot.revision) o.bookmarks o.start
 
 -- the server after a compaction to r, which may not be above the present revision
 abbrev pub compact_by : Server → ℕ → Result Server Refusal

@@ -3,13 +3,14 @@ use crate::effects::{Effect, Prepared};
 use asked::{Asked, read_request};
 use definitions::methods::Method;
 use definitions::refusals::Part;
-use desk::Server;
+use definitions::versions::Start;
+use desk::{InitialEvents, Server};
 use keys::Fault;
 use line_service::LineService;
 use meta::Write;
 use reply::Reply;
 use reply_lines::lines::{
-    change_lines, fault_line, initial_lines, line, refusal_line, success_line,
+    change_lines, fault_line, initial_lines, line, opening_lines, refusal_line, success_line,
 };
 use reply_lines::no_memory_line;
 use requests::Request;
@@ -43,14 +44,17 @@ impl Model for Session {
 }
 
 impl Session {
-    ghost use Rattle.std.specs.Prelude.{◌≡◌, IfOk, OnOk, OnErr, false};
+    ghost use Rattle.std.specs.Prelude.{◌≡◌, IfOk, OnOk, OnErr, false, map};
+    ghost use Rattle.definitions.specs.History.{viewed};
+    ghost use Rattle.desk.specs.Initials.{initial_of};
+    ghost use Rattle.meta.specs.Members.{member_of};
     ghost use Rattle.answers.specs.Serves as answers;
     ghost use Rattle.desk.specs.Replies.{Lists};
     ghost use Rattle.revisions.specs.Watches.{watched_of};
     ghost use Rattle.watch_cache.specs.Served.{Serves};
     ghost use Rattle.definitions.specs.Replies.{outcome, watch_reply};
     ghost use Rattle.line_protocol.specs.Lines.{reply_text};
-    ghost use Rattle.server_state.specs.Servers.{list_served, after_write, compact_by, watch_by, watch_served};
+    ghost use Rattle.server_state.specs.Servers.{list_served, after_write, compact_by, initial_by, watch_by, watch_served};
     ghost use Rattle.definitions.specs.Targets as targets;
     ghost use Rattle.definitions.specs.Verbs as outcomes;
     ghost use Rattle.definitions.specs.Verbs.{overflows};
@@ -124,21 +128,81 @@ impl Session {
         self.server.watch_from(alloc, view, from, most)
     }
 
+    /// Returns what is there of a view, lent, not older than the revision that is named, if one is.
+    fn initial<'a>(
+        &'a self,
+        alloc: Global,
+        view: &View,
+        least: Option<u64>,
+    ) -> Result<InitialEvents<'a>, Fault>
+        ensures events { Serves initial_of (initial_by self.entry.now.server (view_of view.entry.now) least) result }
+        ensures members { IfOk result (λ i. map member_of i.members.items
+            ≡ viewed (view_of view.entry.now) self.entry.now.server.snapshot.members) }
+        ensures revision { IfOk result (λ i. i.revision ≡ self.entry.now.server.snapshot.revision) }
+    {
+        self.server.initial(alloc, view, least)
+    }
+
+    /// Returns the lines of a watch from a revision: the changes after it.
+    fn show_changes(
+        &self,
+        alloc: Global,
+        view: &View,
+        bookmarks: bool,
+        from: u64,
+    ) -> Result<Vec<u8>, AllocError>
+        ensures { IfOk result (λ l. l.items ≡ reply_text (watch_reply view.now.kind
+            (watch_served self.now.server (view_of view.now) (record { start = Start.After from; bookmarks = bookmarks })))) }
+    {
+        match self.watched(alloc, view, from) {
+            Ok(watched) => {
+                let bookmark = last_bookmark(bookmarks, from, &watched);
+                change_lines(alloc, view.kind, &watched.events, bookmark)
+            }
+            Err(fault) => fault_line(alloc, &fault),
+        }
+    }
+
+    /// Returns the lines of a watch that begins with initial events, not older than the revision that is named, if one is.
+    fn show_initial(
+        &self,
+        alloc: Global,
+        view: &View,
+        bookmarks: bool,
+        least: Option<u64>,
+    ) -> Result<Vec<u8>, AllocError>
+        ensures { IfOk result (λ l. l.items ≡ reply_text (watch_reply view.now.kind
+            (watch_served self.now.server (view_of view.now) (record { start = Start.Streamed least; bookmarks = bookmarks })))) }
+    {
+        match self.initial(alloc, view, least) {
+            Ok(initial) => opening_lines(
+                alloc,
+                view.kind,
+                bookmarks,
+                &initial.members,
+                initial.revision,
+            ),
+            Err(fault) => fault_line(alloc, &fault),
+        }
+    }
+
     /// Returns the lines of a watch: what is there, or the changes after a revision.
     fn show(&self, alloc: Global, view: &View, options: WatchOptions) -> Result<Vec<u8>, AllocError>
         ensures { IfOk result (λ l. l.items
             ≡ reply_text (watch_reply view.now.kind (watch_served self.now.server (view_of view.now) (watch_seen options)))) }
     {
-        let Some(from) = options.from else {
-            let members = self.server.added(alloc, view)?;
-            return initial_lines(alloc, view.kind, &members);
-        };
-        match self.watched(alloc, view, from) {
-            Ok(watched) => {
-                let bookmark = last_bookmark(options.bookmarks, from, &watched);
-                change_lines(alloc, view.kind, &watched.events, bookmark)
+        let bookmarks = options.bookmarks;
+        match options.start {
+            Start::After(revision) => self.show_changes(alloc, view, bookmarks, revision),
+            Start::Listed => {
+                let members = self.server.added(alloc, view)?;
+                initial_lines(alloc, view.kind, &members)
             }
-            Err(fault) => fault_line(alloc, &fault),
+            Start::Streamed(least) => self.show_initial(alloc, view, bookmarks, least),
+            Start::Present => {
+                let present = self.server.revision();
+                self.show_changes(alloc, view, bookmarks, present)
+            }
         }
     }
 

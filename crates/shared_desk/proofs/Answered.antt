@@ -1,18 +1,18 @@
 -- A server that is what a history gives answers as the history does.
-use Rattle.std.proofs.Common.{◌≡◌, ◌⊎◌, inl, inr, ℕ, List, [], sym, ap, ◌∙◌, subst, Result, Ok, Err}
+use Rattle.std.proofs.Common.{◌≡◌, ◌⊎◌, inl, inr, ℕ, List, [], Option, sym, ap, ◌∙◌, subst, Result, Ok, Err}
 use Rattle.definitions.specs.ListQueries.{ListOptions}
 use Rattle.definitions.specs.History.{History, present, View, viewed}
 use Rattle.definitions.specs.Lists.{list_outcome}
 use Rattle.definitions.specs.ObjectRequests.{Request}
 use Rattle.definitions.specs.Refusals.{Refusal, no_memory}
 use Rattle.definitions.specs.Verbs.{accept, accept_at}
-use Rattle.definitions.specs.Versions.{Listed, listed_as, watched_from}
+use Rattle.definitions.specs.Versions.{Listed, watched_from}
 use Rattle.keys.specs.declared.fault.Fault.{Fault}
 use Rattle.laws.proofs.ServerAnswers.{pages_held, watches_held}
 use Rattle.laws.proofs.ServerHistories.{opened_holds, entries_hold, accepted_holds}
 use Rattle.server_state.specs.Servers.{Server, opened_server, after_entries, list_served, watch_by, IsServerAfter}
 use Rattle.sites.specs.Alone.{BeginsAlone}
-use Rattle.watch_service.specs.Given.{GivesBegun}
+use Rattle.watch_service.specs.Given.{GivesBegun, there_from}
 use Rattle.watch_service.specs.declared.begun.Begun.{Begun}
 use Rattle.shared_desk.specs.Told.{IsThere}
 
@@ -35,13 +35,13 @@ pub same_present : (size : ℕ) (h : History) (s : Server) → IsAfter size h s 
 same_present size h s is = ap (λ z. z.revision) (follows size h s is).0
 
 -- what is there is what the history left there
-there : (size : ℕ) (h : History) (s : Server) (v : View) (l : Result Listed Refusal) → IsAfter size h s → BeginsAlone s v l s → IsThere h v l
-there size h s v l is begins = by begins.0
+there : (size : ℕ) (h : History) (s : Server) (v : View) (least : Option ℕ) (l : Result Listed Refusal) → IsAfter size h s → BeginsAlone s v least l s → IsThere h v least l
+there size h s v least l is begins = by begins.0
   where
-    by : ((l ≡ Ok (listed_as s.snapshot.revision (viewed v s.snapshot.members))) ⊎ (l ≡ Err no_memory)) → IsThere h v l
-    by (inl same) = inl (same ∙ ap (λ z. Ok (listed_as z.revision (viewed v z.members))) (follows size h s is).0)
+    by : ((l ≡ there_from s.snapshot.revision (viewed v s.snapshot.members) least) ⊎ (l ≡ Err no_memory)) → IsThere h v least l
+    by (inl same) = inl (same ∙ ap (λ z. there_from z.revision (viewed v z.members) least) (follows size h s is).0)
     by (inr none) = inr none
 
-pub begun_there : (size : ℕ) (h : History) (s : Server) (v : View) (r : Result Begun Fault) → IsAfter size h s → GivesBegun (λ l. BeginsAlone s v l s) r → GivesBegun (IsThere h v) r
-begun_there size h s v (Ok b) is g = (g.0, g.1, there size h s v _ is g.2)
-begun_there size h s v (Err e) is g = there size h s v _ is g
+pub begun_there : (size : ℕ) (h : History) (s : Server) (v : View) (least : Option ℕ) (r : Result Begun Fault) → IsAfter size h s → GivesBegun (λ l. BeginsAlone s v least l s) r → GivesBegun (IsThere h v least) r
+begun_there size h s v least (Ok b) is g = (g.0, g.1, there size h s v least _ is g.2)
+begun_there size h s v least (Err e) is g = there size h s v least _ is g

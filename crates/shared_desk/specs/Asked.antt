@@ -29,8 +29,8 @@ module _ (may_ask : Request → Type 0) where
   abbrev pub WatchesAt : Known Server Entry → View → ℕ → ℕ → Result Watched Refusal → Known Server Entry → Type 0
   WatchesAt v view after most r w = Sees (λ size h. (r ≡ watched_from size h view after most) ⊎ (r ≡ Err no_memory)) v w
 
-  abbrev pub BeginsAt : Known Server Entry → View → Result Listed Refusal → Known Server Entry → Type 0
-  BeginsAt v view l w = Step may_ask v (λ h. None) (λ h. IsThere h view l) w
+  abbrev pub BeginsAt : Known Server Entry → View → Option ℕ → Result Listed Refusal → Known Server Entry → Type 0
+  BeginsAt v view least l w = Step may_ask v (λ h. None) (λ h. IsThere h view least l) w
 
 module _ {L : Type 0} (hears : Kind → L → L → Type 0) where
   -- a listener hears of the kind of what was written, and of nothing else

@@ -1,5 +1,5 @@
 -- What is asked at a seat, as a relation between the seat before and after.
-use Rattle.std.specs.Prelude.{◌≡◌, ℕ, List, Result}
+use Rattle.std.specs.Prelude.{◌≡◌, ℕ, List, Option, Result}
 use Rattle.baton.specs.declared.views.Known.{Known}
 use Rattle.definitions.specs.declared.kinds.Kind.{Kind}
 use Rattle.definitions.specs.ListQueries.{ListOptions}
@@ -44,5 +44,5 @@ module _ {A L R : Type 0} (may_ask : Request → Type 0) where
   abbrev pub Watches : Seat A L R → View → ℕ → ℕ → Result Watched Refusal → Seat A L R → Type 0
   Watches s view after most r t = WatchesAt may_ask (known_at s) view after most r (known_at t) × IsQuiet s t
 
-  abbrev pub Begins : Seat A L R → View → Result Listed Refusal → Seat A L R → Type 0
-  Begins s view l t = BeginsAt may_ask (known_at s) view l (known_at t) × IsQuiet s t
+  abbrev pub Begins : Seat A L R → View → Option ℕ → Result Listed Refusal → Seat A L R → Type 0
+  Begins s view least l t = BeginsAt may_ask (known_at s) view least l (known_at t) × IsQuiet s t

@@ -3,10 +3,11 @@ use Rattle.std.specs.Prelude.{◌≡◌, ◌⊎◌, ◌∷◌, ◌++◌, [], ℕ
 use Rattle.definitions.specs.History.{History, Entry, View, compaction, present, list}
 use Rattle.definitions.specs.Refusals.{Refusal, no_memory}
 use Rattle.definitions.specs.Verbs.{Outcome, write_of}
-use Rattle.definitions.specs.Versions.{Listed, listed_as, compacts}
+use Rattle.definitions.specs.Versions.{Listed, compacts}
 use Rattle.desk.specs.Replies.{Replies}
 use Rattle.keys.specs.Faults.{refusal_of}
 use Rattle.keys.specs.declared.fault.Fault.{Fault}
+use Rattle.watch_service.specs.Given.{there_from}
 use Rattle.shared_desk.specs.declared.served.Served.{Served}
 
 -- what a result changes: an error nothing
@@ -24,6 +25,6 @@ abbrev pub Compacts : History → ℕ → Result (Unit {0}) Fault → Type 0
 Compacts h r (Ok u) = compacts h r ≡ Ok (h ++ compaction r ∷ [])
 Compacts h r (Err e) = compacts h r ≡ Err (refusal_of e)
 
--- what is there at the present revision; or out of memory
-abbrev pub IsThere : History → View → Result Listed Refusal → Type 0
-IsThere h v l = (l ≡ Ok (listed_as (present h) (list h v (present h)))) ⊎ (l ≡ Err no_memory)
+-- what is there at the present revision, which may not be older than the one that is named, if one is; or out of memory
+abbrev pub IsThere : History → View → Option ℕ → Result Listed Refusal → Type 0
+IsThere h v least l = (l ≡ there_from (present h) (list h v (present h)) least) ⊎ (l ≡ Err no_memory)

@@ -69,22 +69,23 @@ impl<A: Asking> Desk<A> {
         watched
     }
 
-    /// Returns what is there of a view, with which a watch begins that names no revision. The pass has then seen all that had
-    /// happened. The error is out of memory.
-    pub fn begin<R: Wait>(
+    /// Returns what is there of a view as a watch begins with it, not older than a revision, if one is named. The pass has then
+    /// seen all that had happened. The errors are a revision above the present one and out of memory.
+    pub fn initial<R: Wait>(
         &self,
         rt: &R,
         alloc: Global,
         pass: &mut StorePass,
         view: &View,
+        least: Option<u64>,
     ) -> Result<Begun, Fault>
         requires { IsPassAt self.now pass.old }
         ensures pass { IsPassAt self.now pass.new }
-        ensures begin { Step A.MayAsk (known pass.old) (λ h. None)
-            (λ h. GivesBegun (IsThere h (view_of view.now)) result) (known pass.new) }
+        ensures initial { Step A.MayAsk (known pass.old) (λ h. None)
+            (λ h. GivesBegun (IsThere h (view_of view.now) least) result) (known pass.new) }
     {
         let held = self.take(rt, pass);
-        let begun = alone::begin(alloc, held.get(), view);
+        let begun = alone::initial(alloc, held.get(), view, least);
         self.give_back(rt, pass, held);
         begun
     }

@@ -97,8 +97,11 @@ impl<'a, A: Asking, L: Listener, R: Wait> WatchSource for Seat<'a, A, L, R> {
         }
     }
 
-    fn begin(&mut self, alloc: Global, view: &View) -> Result<Begun, Fault> {
-        match self.desk.begin(self.rt, alloc, &mut self.pass, view) {
+    fn initial(&mut self, alloc: Global, view: &View, least: Option<u64>) -> Result<Begun, Fault> {
+        match self
+            .desk
+            .initial(self.rt, alloc, &mut self.pass, view, least)
+        {
             Ok(begun) => Ok(begun),
             Err(fault) => Err(fault),
         }

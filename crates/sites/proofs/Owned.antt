@@ -1,17 +1,24 @@
 -- What the owner of a server is told.
-use Rattle.std.proofs.Common.{◌≡◌, ◌⊎◌, inl, ℕ, List, Ok, map, refl, sym, ap, ◌∙◌}
+use Rattle.std.proofs.Common.{◌≡◌, ◌⊎◌, inl, inr, ℕ, List, Option, Some, None, Result, Ok, Err, map, refl, sym, ap, ◌∙◌}
 use Rattle.std.proofs.lemmas.Simd.{map-map}
-use Rattle.definitions.specs.History.{View, viewed}
+use Rattle.definitions.specs.History.{View, Entries, viewed}
 use Rattle.definitions.specs.ObjectRequests.{Request}
-use Rattle.definitions.specs.Refusals.{no_memory}
+use Rattle.definitions.specs.Refusals.{Refusal, no_memory}
 use Rattle.definitions.specs.Verbs.{Outcome, answered, refused, write_of, accept_at}
-use Rattle.definitions.specs.Versions.{listed_as}
+use Rattle.definitions.specs.Versions.{Listed, listed_as, once_present}
+use Rattle.definitions.specs.WatchReplies.{initial_from}
+use Rattle.desk.proofs.Begun.{served_once, refused_once}
+use Rattle.desk.specs.Initials.{initial_of}
 use Rattle.desk.specs.Replies.{Replies}
 use Rattle.meta.specs.Members.{member_of}
-use Rattle.meta.specs.declared.lent_members.Member.{Member}
+use Rattle.desk.specs.declared.initials.InitialEvents.{InitialEvents}
+use Rattle.keys.specs.Faults.{refusal_of}
+use Rattle.keys.specs.declared.fault.Fault.{Fault}
+use Rattle.keys.specs.declared.fault.Fault.TheVariants as fault
+use Rattle.watch_cache.specs.Served.{Serves}
 use Rattle.reply.specs.declared.reply.Reply.{Reply}
-use Rattle.server_state.specs.Servers.{Server, after_writing}
-use Rattle.watch_service.specs.Given.{GivesBegun}
+use Rattle.server_state.specs.Servers.{Server, after_writing, initial_by}
+use Rattle.watch_service.specs.Given.{GivesBegun, there_from}
 use Rattle.watch_service.specs.declared.begun.Begun.{Begun}
 use Rattle.sites.specs.Alone.{CallsAlone, BeginsAlone}
 use Rattle.sites.specs.Told.{Tells}
@@ -31,9 +38,29 @@ call_answered s t q moment r says made =
 
 -- ---- what is there
 
-pub begun : (s : Server) (v : View) (found : List Member) (b : Begun) → map member_of found ≡ viewed v s.snapshot.members
-    → map (λ o. o.value) b.objects.items ≡ map (λ m. (member_of m).1) found → b.revision ≡ s.snapshot.revision → GivesBegun (λ l. BeginsAlone s v l s) (Ok b)
-begun s v found b is copied present =
+-- what is given is there
+given : (now : ℕ) (ms : Entries) (least : Option ℕ) (i : InitialEvents) → Serves initial_of (initial_from now ms least) (Ok i) → there_from now ms least ≡ Ok (listed_as now ms)
+given now ms None i is = refl
+given now ms (Some r) i is = served_once now r ms i (listed_as now ms) is
+
+pub begun : (s : Server) (v : View) (least : Option ℕ) (i : InitialEvents) (b : Begun) → Serves initial_of (initial_by s v least) (Ok i) → map member_of i.members.items ≡ viewed v s.snapshot.members
+    → map (λ o. o.value) b.objects.items ≡ map (λ m. (member_of m).1) i.members.items → b.revision ≡ s.snapshot.revision → GivesBegun (λ l. BeginsAlone s v least l s) (Ok b)
+begun s v least i b gives is copied present =
     let ms = viewed v s.snapshot.members in
-    let shown : map (λ m. m.1) ms ≡ map (λ o. o.value) b.objects.items = ap (map (λ m. m.1)) (sym is) ∙ map-map (λ m. m.1) member_of found ∙ sym copied in
-    (ms, shown, (inl (ap (λ r. Ok (listed_as r ms)) present), refl))
+    let shown : map (λ m. m.1) ms ≡ map (λ o. o.value) b.objects.items = ap (map (λ m. m.1)) (sym is) ∙ map-map (λ m. m.1) member_of i.members.items ∙ sym copied in
+    (ms, shown, (inl (ap (λ r. Ok (listed_as r ms)) present ∙ sym (given s.snapshot.revision ms least i gives)), refl))
+
+abbrev refusing : Fault → Result Listed Refusal
+refusing e = Err (refusal_of e)
+
+refuses : (now : ℕ) (ms : Entries) (least : Option ℕ) (e : Fault) → Serves initial_of (initial_from now ms least) (Err e) → (refusing e ≡ there_from now ms least) ⊎ (refusing e ≡ Err no_memory)
+refuses now ms None e is = inr (ap refusing is)
+refuses now ms (Some r) e is = by (refused_once now r ms e (listed_as now ms) is)
+  where
+    by : (once_present now r (listed_as now ms) ≡ refusing e) ⊎ (e ≡ fault.NoMemory) → (refusing e ≡ once_present now r (listed_as now ms)) ⊎ (refusing e ≡ Err no_memory)
+    by (inl above) = inl (sym above)
+    by (inr none) = inr (ap refusing none)
+
+-- why nothing is given
+pub not_begun : (s : Server) (v : View) (least : Option ℕ) (e : Fault) → Serves initial_of (initial_by s v least) (Err e) → GivesBegun (λ l. BeginsAlone s v least l s) (Err e)
+not_begun s v least e is = (refuses s.snapshot.revision (viewed v s.snapshot.members) least e is, refl)

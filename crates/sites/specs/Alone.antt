@@ -1,12 +1,13 @@
 -- What a server answers that one thread owns: what its state says, or that memory ran out, which changes nothing.
-use Rattle.std.specs.Prelude.{◌≡◌, ◌⊎◌, ℕ, List, Result, Ok, Err}
+use Rattle.std.specs.Prelude.{◌≡◌, ◌⊎◌, ℕ, List, Option, Result, Err}
 use Rattle.definitions.specs.ListQueries.{ListOptions}
 use Rattle.definitions.specs.History.{View, viewed}
 use Rattle.server_state.specs.Servers.{list_served, Server, after_writing, watch_by}
 use Rattle.definitions.specs.Refusals.{Refusal, no_memory}
 use Rattle.definitions.specs.Verbs.{Outcome, refused, write_of, accept_at}
 use Rattle.definitions.specs.ObjectRequests.{Request}
-use Rattle.definitions.specs.Versions.{Listed, listed_as, Watched}
+use Rattle.definitions.specs.Versions.{Listed, Watched}
+use Rattle.watch_service.specs.Given.{there_from}
 
 -- the outcome of a request, whose write is then written
 abbrev pub CallsAlone : Server → Request → List ℕ → Outcome → Server → Type 0
@@ -19,5 +20,5 @@ ListsAlone s v options o t = ((o ≡ list_served s v options) ⊎ (o ≡ refused
 abbrev pub WatchesAlone : Server → View → ℕ → ℕ → Result Watched Refusal → Server → Type 0
 WatchesAlone s v after most r t = ((r ≡ watch_by s v after most) ⊎ (r ≡ Err no_memory)) × (t ≡ s)
 
-abbrev pub BeginsAlone : Server → View → Result Listed Refusal → Server → Type 0
-BeginsAlone s v r t = ((r ≡ Ok (listed_as s.snapshot.revision (viewed v s.snapshot.members))) ⊎ (r ≡ Err no_memory)) × (t ≡ s)
+abbrev pub BeginsAlone : Server → View → Option ℕ → Result Listed Refusal → Server → Type 0
+BeginsAlone s v least r t = ((r ≡ there_from s.snapshot.revision (viewed v s.snapshot.members) least) ⊎ (r ≡ Err no_memory)) × (t ≡ s)

@@ -79,17 +79,25 @@ fn copies_of(alloc: Global, members: &[Member<'_>]) -> Result<Vec<StoredObject>,
     Ok(copies)
 }
 
-/// Gives what is there of a view, for a watch that begins with it. The error is out of memory.
-pub fn begin(alloc: Global, server: &Server, view: &View) -> Result<Begun, Fault>
-    ensures { GivesBegun (λ l. BeginsAlone server.now (view_of view.now) l server.now) result }
+/// Gives what is there of a view, for a watch that begins with it, not older than a revision, if one is named. The errors are a
+/// revision above the present one and out of memory.
+pub fn initial(
+    alloc: Global,
+    server: &Server,
+    view: &View,
+    least: Option<u64>,
+) -> Result<Begun, Fault>
+    ensures { GivesBegun (λ l. BeginsAlone server.now (view_of view.now) least l server.now) result }
 {
-    let revision = server.revision();
-    let members = match server.added(alloc, view) {
-        Ok(members) => members,
-        Err(_) => return Err(Fault::NoMemory),
+    let initial = match server.initial(alloc, view, least) {
+        Ok(initial) => initial,
+        Err(fault) => return Err(fault),
     };
-    match copies_of(alloc, &members) {
-        Ok(objects) => Ok(Begun { objects, revision }),
+    match copies_of(alloc, &initial.members) {
+        Ok(objects) => Ok(Begun {
+            objects,
+            revision: initial.revision,
+        }),
         Err(_) => Err(Fault::NoMemory),
     }
 }

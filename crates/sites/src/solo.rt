@@ -61,8 +61,8 @@ impl WatchSource for Solo {
         }
     }
 
-    fn begin(&mut self, alloc: Global, view: &View) -> Result<Begun, Fault> {
-        match alone::begin(alloc, &self.server, view) {
+    fn initial(&mut self, alloc: Global, view: &View, least: Option<u64>) -> Result<Begun, Fault> {
+        match alone::initial(alloc, &self.server, view, least) {
             Ok(begun) => Ok(begun),
             Err(fault) => Err(fault),
         }

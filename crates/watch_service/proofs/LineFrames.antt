@@ -1,15 +1,18 @@
 -- Frames of lines, by their parts.
-use Rattle.std.proofs.Common.{◌≡◌, ℕ, List, [], ◌∷◌, ◌++◌, map, Option, Some, None, Result, Ok, Err, OnOk, false, refl, sym, ap, subst, ◌∙◌, append_assoc, append-nil}
+use Rattle.std.proofs.Common.{◌≡◌, ℕ, Bool, List, [], ◌∷◌, ◌++◌, map, Option, Some, None, Result, Ok, Err, OnOk, false, refl, sym, ap, subst, ◌∙◌, append_assoc, append-nil}
 use Rattle.definitions.specs.declared.kinds.Kind.{Kind}
 use Rattle.definitions.specs.declared.frames.FrameKind.TheVariants.{Added}
 use Rattle.definitions.specs.Events.{Event}
 use Rattle.definitions.specs.Frames.{frame_text, bookmark_frame}
 use Rattle.definitions.specs.History.{Entries}
 use Rattle.definitions.specs.Streams.{Line, event, frame_of, added_lines}
+use Rattle.definitions.specs.WatchReplies.{opening_lines, closing_lines}
 use Rattle.chunked.specs.Bodies.{chunk_text}
 use Rattle.connections.specs.Replies.{frames_text}
 use Rattle.responses.specs.Frames.{change_frames, object_frames}
 use Rattle.revisions.specs.Watches.{last_bookmark}
+use Rattle.watch_service.specs.Given.{Shows}
+use Rattle.watch_service.specs.declared.begun.Begun.{Begun}
 
 pub frames-append : (k : Kind) (ls ms : List Line) → frames_text k (ls ++ ms) ≡ frames_text k ls ++ frames_text k ms
 frames-append k [] ms = refl
@@ -22,6 +25,17 @@ frames-of_changes k (c ∷ cs) = ap (λ t. chunk_text (frame_text (frame_of k (e
 pub frames-of_members : (k : Kind) (ms : Entries) → frames_text k (added_lines ms) ≡ object_frames (map (λ m. m.1) ms)
 frames-of_members k [] = refl
 frames-of_members k (m ∷ ms) = ap (λ t. chunk_text (frame_text (record { kind = Added; object = m.1 })) ++ t) (frames-of_members k ms)
+
+-- what is there, and then the bookmark that closes it, or none
+pub frames-of_opening : (k : Kind) (bookmarks : Bool) (r : ℕ) (ms : Entries) → frames_text k (opening_lines bookmarks r ms) ≡ object_frames (map (λ m. m.1) ms) ++ frames_text k (closing_lines bookmarks r)
+frames-of_opening k bookmarks r ms = frames-append k (added_lines ms) (closing_lines bookmarks r) ∙ ap (λ t. t ++ frames_text k (closing_lines bookmarks r)) (frames-of_members k ms)
+
+-- the text of a head, of what is there, and of the bookmark that closes it
+pub opening_is : (k : Kind) (bookmarks : Bool) (b : Begun) (ms : Entries) (head text : List ℕ) → Shows ms b
+    → text ≡ (head ++ object_frames (map (λ o. o.value) b.objects.items)) ++ frames_text k (closing_lines bookmarks b.revision) → text ≡ head ++ frames_text k (opening_lines bookmarks b.revision ms)
+opening_is k bookmarks b ms head text shown is =
+    let closing = frames_text k (closing_lines bookmarks b.revision) in
+    is ∙ append_assoc head (object_frames (map (λ o. o.value) b.objects.items)) closing ∙ ap (λ t. head ++ t) (sym (frames-of_opening k bookmarks b.revision ms ∙ ap (λ d. object_frames d ++ closing) shown))
 
 -- changes, and then a bookmark or none
 pub frames-of_look : (k : Kind) (cs : List Event) (b : Option ℕ) → frames_text k (map event cs ++ last_bookmark b) ≡ change_frames cs ++ frames_text k (last_bookmark b)

@@ -1,8 +1,8 @@
 -- What is given, as the definitions say it.
-use Rattle.std.specs.Prelude.{◌≡◌, map, Result, Ok, Err}
+use Rattle.std.specs.Prelude.{◌≡◌, ℕ, map, Option, Some, None, Result, Ok, Err}
 use Rattle.definitions.specs.History.{Entries}
 use Rattle.definitions.specs.Refusals.{Refusal}
-use Rattle.definitions.specs.Versions.{Listed, listed_as}
+use Rattle.definitions.specs.Versions.{Listed, listed_as, once_present}
 use Rattle.keys.specs.Faults.{refusal_of}
 use Rattle.keys.specs.declared.fault.Fault.{Fault}
 use Rattle.watch_service.specs.declared.begun.Begun.{Begun}
@@ -20,3 +20,8 @@ Shows ms b = map (λ m. m.1) ms ≡ map (λ o. o.value) b.objects.items
 abbrev pub GivesBegun : (Result Listed Refusal → Type 0) → Result Begun Fault → Type 0
 GivesBegun is_so (Ok b) = (ms : Entries) × Shows ms b × is_so (Ok (listed_as b.revision ms))
 GivesBegun is_so (Err e) = is_so (Err (refusal_of e))
+
+-- what is there at the present revision, which may not be older than the one that is named, if one is
+abbrev pub there_from : ℕ → Entries → Option ℕ → Result Listed Refusal
+there_from now ms None = Ok (listed_as now ms)
+there_from now ms (Some r) = once_present now r (listed_as now ms)

@@ -1,5 +1,6 @@
 -- What becomes of a watch.
 use Rattle.std.specs.Prelude.{◌≡◌, ◌⊎◌, ℕ, List, ◌++◌, Bool, true, false, Option, Result, Ok, Err}
+use Rattle.definitions.specs.declared.versions.Start.{Start}
 use Rattle.definitions.specs.History.{View}
 use Rattle.definitions.specs.Refusals.{Refusal}
 use Rattle.definitions.specs.Versions.{Listed}
@@ -33,12 +34,12 @@ module _ {S D : Type 0} (watches : S → View → ℕ → ℕ → Look → S →
   Follows s t before after opening at idle (Err c) =
       (looks : List Look) × Looks watches v s at looks t × IsLeft before after opening at idle looks × (has_failed after ≡ has_writer_failed c)
 
-module _ {S D : Type 0} (begins : S → View → Result Listed Refusal → S → Type 0) (watches : S → View → ℕ → ℕ → Look → S → Type 0) (v : View) (bookmarks : Bool)
+module _ {S D : Type 0} (begins : S → View → Option ℕ → Result Listed Refusal → S → Type 0) (watches : S → View → ℕ → ℕ → Look → S → Type 0) (v : View) (bookmarks : Bool)
     (contents : D → Option (List ℕ)) where
   -- the watch opened and went on; or it was refused, and nothing was written
-  abbrev pub Serves : S → S → Watched D → Watched D → Option ℕ → Result (Unit {0}) WatchFault → Type 0
-  Serves s t before after from (Ok u) =
-      (o : Opening) × (mid : S) × Opens begins watches v bookmarks s from (Ok o) mid × Follows watches v bookmarks contents mid t before after (opening_text v.kind o) o.stands o.idle (Ok u)
-  Serves s t before after from (Err (left.Cut c)) =
-      (o : Opening) × (mid : S) × Opens begins watches v bookmarks s from (Ok o) mid × Follows watches v bookmarks contents mid t before after (opening_text v.kind o) o.stands o.idle (Err c)
-  Serves s t before after from (Err (left.Refused e)) = Refuses begins watches v bookmarks s t from e × (after ≡ before)
+  abbrev pub Serves : S → S → Watched D → Watched D → Start → Result (Unit {0}) WatchFault → Type 0
+  Serves s t before after start (Ok u) =
+      (o : Opening) × (mid : S) × Opens begins watches v bookmarks s start (Ok o) mid × Follows watches v bookmarks contents mid t before after (opening_text v.kind o) o.stands o.idle (Ok u)
+  Serves s t before after start (Err (left.Cut c)) =
+      (o : Opening) × (mid : S) × Opens begins watches v bookmarks s start (Ok o) mid × Follows watches v bookmarks contents mid t before after (opening_text v.kind o) o.stands o.idle (Err c)
+  Serves s t before after start (Err (left.Refused e)) = Refuses begins watches v bookmarks s t start e × (after ≡ before)

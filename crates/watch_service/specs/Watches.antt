@@ -1,13 +1,15 @@
 -- A watch as its looks give it, and what is written for them.
-use Rattle.std.specs.Prelude.{◌≡◌, ◌≤◌, ◌<◌, ◌+◌, ℕ, List, [], ◌∷◌, ◌++◌, Bool, Option, Some, None, Result, Ok, Err}
+use Rattle.std.specs.Prelude.{◌≡◌, ◌≤◌, ◌<◌, ◌+◌, ℕ, List, [], ◌∷◌, ◌++◌, Bool, Option, None, Result, Ok, Err}
 use Rattle.std.specs.Result.{result_map_both}
 use Rattle.definitions.specs.declared.kinds.Kind.{Kind}
+use Rattle.definitions.specs.declared.versions.Start.{Start}
+use Rattle.definitions.specs.declared.versions.Start.TheVariants as start
 use Rattle.definitions.specs.Frames.{frame_text, error_frame}
 use Rattle.definitions.specs.History.{View}
 use Rattle.definitions.specs.Refusals.{Refusal}
 use Rattle.definitions.specs.Streams.{Line, added_lines}
 use Rattle.definitions.specs.Versions.{Listed, Watched}
-use Rattle.definitions.specs.WatchReplies.{told_lines}
+use Rattle.definitions.specs.WatchReplies.{told_lines, opening_lines}
 use Rattle.chunked.specs.Bodies.{chunk_text, last_chunk}
 use Rattle.connections.specs.Replies.{watch_head, frames_text}
 
@@ -44,6 +46,14 @@ pub record Opening : Type 0 where
 abbrev pub opening_with : Listed → Opening
 opening_with l = record { lines = added_lines l.members; stands = l.revision; idle = 0 }
 
+-- one that begins with initial events opens with what is there, and the bookmark that closes it, if bookmarks are asked for; that is no look
+abbrev pub opening_closed : Bool → Listed → Opening
+opening_closed bookmarks l = record { lines = opening_lines bookmarks l.revision l.members; stands = l.revision; idle = 0 }
+
+-- one that wants none of these opens with nothing, at the present revision
+abbrev pub opening_after : Listed → Opening
+opening_after l = record { lines = []; stands = l.revision; idle = 0 }
+
 -- one that names a revision opens with the first look from there
 abbrev pub opening_at : Bool → ℕ → Watched → Opening
 opening_at bookmarks at w = record { lines = told_lines bookmarks at w; stands = w.stands; idle = idle_after 0 (told_lines bookmarks at w) }
@@ -76,8 +86,10 @@ module _ {S : Type 0} (watches : S → View → ℕ → ℕ → Look → S → T
   Looks s at [] t = t ≡ s
   Looks s at (w ∷ looks) t = (mid : S) × watches s v at most_changes w mid × Looks mid (stands_after at w) looks t
 
-module _ {S : Type 0} (begins : S → View → Result Listed Refusal → S → Type 0) (watches : S → View → ℕ → ℕ → Look → S → Type 0) (v : View) (bookmarks : Bool) where
-  -- a watch from a revision, or from what is there, opens so, or is refused
-  abbrev pub Opens : S → Option ℕ → Result Opening Refusal → S → Type 0
-  Opens s None o t = (l : Result Listed Refusal) × begins s v l t × (o ≡ result_map_both opening_with (λ f. f) l)
-  Opens s (Some at) o t = (w : Look) × watches s v at most_changes w t × (o ≡ result_map_both (opening_at bookmarks at) (λ f. f) w)
+module _ {S : Type 0} (begins : S → View → Option ℕ → Result Listed Refusal → S → Type 0) (watches : S → View → ℕ → ℕ → Look → S → Type 0) (v : View) (bookmarks : Bool) where
+  -- a watch opens so, by how it begins, or is refused
+  abbrev pub Opens : S → Start → Result Opening Refusal → S → Type 0
+  Opens s start.Listed o t = (l : Result Listed Refusal) × begins s v None l t × (o ≡ result_map_both opening_with (λ f. f) l)
+  Opens s (start.Streamed least) o t = (l : Result Listed Refusal) × begins s v least l t × (o ≡ result_map_both (opening_closed bookmarks) (λ f. f) l)
+  Opens s (start.After at) o t = (w : Look) × watches s v at most_changes w t × (o ≡ result_map_both (opening_at bookmarks at) (λ f. f) w)
+  Opens s start.Present o t = (l : Result Listed Refusal) × begins s v None l t × (o ≡ result_map_both opening_after (λ f. f) l)

@@ -1,7 +1,7 @@
 //! What a watch begins with.
 use meta::StoredObject;
 
-/// What is there of a view, with which a watch begins that names no revision.
+/// What is there of a view as a watch begins.
 #[derive(Drop)]
 pub struct Begun {
     /// The objects, in the order of keys.

@@ -1,20 +1,23 @@
 //! How a watch opens.
-ghost use Rattle.std.specs.Prelude.{◌≡◌, ◌++◌, IfOk, None, Some, false, map};
+ghost use Rattle.std.specs.Prelude.{◌≡◌, ◌++◌, IfOk, OnOk, false, map};
 ghost use Rattle.connections.specs.Replies.{watch_head, frames_text};
 ghost use Rattle.definitions.specs.Streams.{event};
+ghost use Rattle.definitions.specs.WatchReplies.{closing_lines};
 ghost use Rattle.responses.specs.Frames.{object_frames};
 ghost use Rattle.revisions.specs.Watches.{watched_of, last_bookmark};
 ghost use Rattle.selector.specs.Views.{view_of};
 ghost use Rattle.watch_service.specs.Opened.{IsOpened};
 
+use crate::begun::Begun;
 use crate::frames::{idle_after, push_look};
 use crate::looking::MOST_CHANGES;
 use crate::source::WatchSource;
 use crate::standing::Standing;
 use definitions::kinds::Kind;
+use definitions::versions::Start;
 use keys::Fault;
 use meta::StoredObject;
-use responses::{push_objects, watch_head};
+use responses::{push_closing, push_objects, watch_head};
 use revisions::Watched;
 use revisions::watched::last_bookmark;
 use selector::View;
@@ -29,12 +32,20 @@ pub struct Opened {
     pub text: Vec<u8>,
 }
 
+/// Returns the head of a watch.
+fn head_text(alloc: Global) -> Result<Vec<u8>, AllocError>
+    ensures { IfOk result (λ text. text.items ≡ watch_head) }
+{
+    let mut text = Vec::new(alloc);
+    text.extend_from_slice(watch_head())?;
+    Ok(text)
+}
+
 /// Returns the head of a watch and the frames of what is there.
 fn beginning_text(alloc: Global, objects: &[StoredObject]) -> Result<Vec<u8>, AllocError>
     ensures { IfOk result (λ text. text.items ≡ watch_head ++ object_frames (map (λ o. o.value) objects.now)) }
 {
-    let mut text = Vec::new(alloc);
-    text.extend_from_slice(watch_head())?;
+    let mut text = head_text(alloc)?;
     push_objects(alloc, &mut text, objects)?;
     Ok(text)
 }
@@ -49,26 +60,104 @@ fn first_text(
     ensures { IfOk result (λ text. text.items
         ≡ watch_head ++ frames_text kind (map event (watched_of watched.now).events ++ last_bookmark bookmark)) }
 {
-    let mut text = Vec::new(alloc);
-    text.extend_from_slice(watch_head())?;
+    let mut text = head_text(alloc)?;
     push_look(alloc, &mut text, kind, watched, bookmark)?;
     Ok(text)
 }
 
+/// Adds the frame of the bookmark that closes what is there, if bookmarks are shown.
+fn push_end(
+    alloc: Global,
+    text: &mut Vec<u8>,
+    kind: Kind,
+    bookmarks: bool,
+    revision: u64,
+) -> Result<(), AllocError>
+    ensures { OnOk result (text.new.items ≡ text.old.items ++ frames_text kind (closing_lines bookmarks revision)) }
+{
+    if bookmarks {
+        push_closing(alloc, text, kind, revision)?;
+    }
+    Ok(())
+}
+
+/// Returns the head of a watch, the frames of what is there and, if bookmarks are shown, that of the bookmark which closes it.
+fn closed_text(
+    alloc: Global,
+    kind: Kind,
+    bookmarks: bool,
+    begun: &Begun,
+) -> Result<Vec<u8>, AllocError>
+    ensures { IfOk result (λ text. text.items
+        ≡ (watch_head ++ object_frames (map (λ o. o.value) begun.now.objects.items)) ++ frames_text kind (closing_lines bookmarks begun.now.revision)) }
+{
+    let mut text = beginning_text(alloc, &begun.objects)?;
+    push_end(alloc, &mut text, kind, bookmarks, begun.revision)?;
+    Ok(text)
+}
+
+/// Returns where a watch stands that has begun, before any look.
+fn standing_at(begun: &Begun) -> Standing
+    ensures revision { result.revision ≡ begun.now.revision }
+    ensures idle { result.idle ≡ 0 }
+{
+    Standing {
+        revision: begun.revision,
+        idle: 0,
+    }
+}
+
 /// Opens a watch with what is there.
 fn open_with<S: WatchSource>(alloc: Global, source: &mut S, view: &View) -> Result<Opened, Fault>
-    ensures { IsOpened S.Begins S.Watches (view_of view.now) false None source.old source.new result }
+    ensures { IsOpened S.Begins S.Watches (view_of view.now) false Start.Listed source.old source.new result }
 {
-    let begun = match source.begin(alloc, view) {
+    let begun = match source.initial(alloc, view, None) {
         Ok(begun) => begun,
         Err(fault) => return Err(fault),
     };
     match beginning_text(alloc, &begun.objects) {
         Ok(text) => Ok(Opened {
-            at: Standing {
-                revision: begun.revision,
-                idle: 0,
-            },
+            at: standing_at(&begun),
+            text,
+        }),
+        Err(_) => Err(Fault::NoMemory),
+    }
+}
+
+/// Opens a watch with initial events: what is there, not older than a revision, if one is named, and the bookmark that closes it.
+fn open_closed<S: WatchSource>(
+    alloc: Global,
+    source: &mut S,
+    view: &View,
+    bookmarks: bool,
+    least: Option<u64>,
+) -> Result<Opened, Fault>
+    ensures { IsOpened S.Begins S.Watches (view_of view.now) bookmarks (Start.Streamed least) source.old source.new result }
+{
+    let begun = match source.initial(alloc, view, least) {
+        Ok(begun) => begun,
+        Err(fault) => return Err(fault),
+    };
+    match closed_text(alloc, view.kind, bookmarks, &begun) {
+        Ok(text) => Ok(Opened {
+            at: standing_at(&begun),
+            text,
+        }),
+        Err(_) => Err(Fault::NoMemory),
+    }
+}
+
+/// Opens a watch after the present revision.
+fn open_after<S: WatchSource>(alloc: Global, source: &mut S, view: &View) -> Result<Opened, Fault>
+    ensures { IsOpened S.Begins S.Watches (view_of view.now) false Start.Present source.old source.new result }
+{
+    let begun = match source.initial(alloc, view, None) {
+        Ok(begun) => begun,
+        Err(fault) => return Err(fault),
+    };
+    match head_text(alloc) {
+        Ok(text) => Ok(Opened {
+            at: standing_at(&begun),
             text,
         }),
         Err(_) => Err(Fault::NoMemory),
@@ -83,7 +172,7 @@ fn open_at<S: WatchSource>(
     bookmarks: bool,
     from: u64,
 ) -> Result<Opened, Fault>
-    ensures { IsOpened S.Begins S.Watches (view_of view.now) bookmarks (Some from) source.old source.new result }
+    ensures { IsOpened S.Begins S.Watches (view_of view.now) bookmarks (Start.After from) source.old source.new result }
 {
     let watched = match source.watch_from(alloc, view, from, MOST_CHANGES) {
         Ok(watched) => watched,
@@ -103,19 +192,21 @@ fn open_at<S: WatchSource>(
     }
 }
 
-/// Opens a watch of a view, from a revision or, without one, from what is there. The first look decides whether it is refused; nothing
-/// is to be written then. Else what it opens with is to be written at once, and then the frames of each look from where it stands.
+/// Opens a watch of a view that begins so. The first look decides whether it is refused; nothing is to be written then. Else what it
+/// opens with is to be written at once, and then the frames of each look from where it stands.
 pub fn open<S: WatchSource>(
     alloc: Global,
     source: &mut S,
     view: &View,
     bookmarks: bool,
-    from: Option<u64>,
+    start: Start,
 ) -> Result<Opened, Fault>
-    ensures { IsOpened S.Begins S.Watches (view_of view.now) bookmarks from source.old source.new result }
+    ensures { IsOpened S.Begins S.Watches (view_of view.now) bookmarks start source.old source.new result }
 {
-    match from {
-        None => open_with(alloc, source, view),
-        Some(revision) => open_at(alloc, source, view, bookmarks, revision),
+    match start {
+        Start::After(revision) => open_at(alloc, source, view, bookmarks, revision),
+        Start::Listed => open_with(alloc, source, view),
+        Start::Streamed(least) => open_closed(alloc, source, view, bookmarks, least),
+        Start::Present => open_after(alloc, source, view),
     }
 }

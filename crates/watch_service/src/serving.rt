@@ -13,6 +13,7 @@ use crate::opening::{Opened, open};
 use crate::source::{Pace, WatchSource};
 use crate::standing::Standing;
 use chunked::Watched as Device;
+use definitions::versions::Start;
 use responses::last_chunk;
 use selector::View;
 use std::alloc::Global;
@@ -91,7 +92,7 @@ pub fn go_on<S: WatchSource, P: Pace, W: Write + Drop>(
     }
 }
 
-/// Serves a watch of a view, from a revision or, without one, from what is there. The first look decides whether it is refused;
+/// Serves a watch of a view that begins so. The first look decides whether it is refused;
 /// then nothing is written. Else the head is written at once, with the first frames, and then the frames of each look as they
 /// come, those of one look in one write. The watch is over after 1,024 looks in a row that gave no line, or by a refusal, which
 /// is its last frame. Only a watch that is over has an end: one that is left, because the writer fails or out of memory, is
@@ -101,14 +102,14 @@ pub fn serve_watch<S: WatchSource, P: Pace, W: Write + Drop>(
     source: &mut S,
     view: &View,
     bookmarks: bool,
-    from: Option<u64>,
+    start: Start,
     pace: &mut P,
     writer: &mut Device<W>,
 ) -> Result<(), WatchFault>
     ensures { Serves S.Begins S.Watches (view_of view.now) bookmarks W.contents source.old source.new writer.old writer.new
-        from result }
+        start result }
 {
-    let opened = match open(alloc, source, view, bookmarks, from) {
+    let opened = match open(alloc, source, view, bookmarks, start) {
         Ok(opened) => opened,
         Err(fault) => return Err(WatchFault::Refused(fault)),
     };

@@ -1,5 +1,5 @@
 //! What watches are served over.
-ghost use Rattle.std.specs.Prelude.{ℕ, Result};
+ghost use Rattle.std.specs.Prelude.{ℕ, Option, Result};
 ghost use Rattle.definitions.specs.History as history;
 ghost use Rattle.definitions.specs.Refusals.{Refusal};
 ghost use Rattle.definitions.specs.Versions as versions;
@@ -21,8 +21,8 @@ pub trait WatchSource {
     /// A watch of a view from a revision is given this, of which so many events at most.
     ghost Watches: { Self → history.View → ℕ → ℕ → Result versions.Watched Refusal → Self → Type 0 };
 
-    /// A watch of a view that names no revision begins with this.
-    ghost Begins: { Self → history.View → Result Listed Refusal → Self → Type 0 };
+    /// A watch of a view begins with this, not older than a revision, if one is named.
+    ghost Begins: { Self → history.View → Option ℕ → Result Listed Refusal → Self → Type 0 };
 
     /// Returns the first events of a view after a revision, at most so many.
     fn watch_from(
@@ -34,9 +34,9 @@ pub trait WatchSource {
     ) -> Result<Watched, Fault>
         ensures watches { Gives watched_of (λ w. Watches self.old (view_of view.now) after most w self.new) result };
 
-    /// Returns what is there of a view.
-    fn begin(&mut self, alloc: Global, view: &View) -> Result<Begun, Fault>
-        ensures begins { GivesBegun (λ l. Begins self.old (view_of view.now) l self.new) result };
+    /// Returns what is there of a view, not older than a revision, if one is named.
+    fn initial(&mut self, alloc: Global, view: &View, least: Option<u64>) -> Result<Begun, Fault>
+        ensures begins { GivesBegun (λ l. Begins self.old (view_of view.now) least l self.new) result };
 }
 
 /// What is done between a look that gave nothing and the next one.

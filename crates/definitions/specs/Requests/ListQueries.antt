@@ -1,5 +1,5 @@
 -- What the query of a collection asks: which objects, and whether they are listed or watched (Kubernetes API reference, ListOptions).
-use Rattle.std.specs.Prelude.{ℕ, zero, suc, List, [], ◌∷◌, Bool, ◌&&◌, ◌||◌, ◌==◌, length, nat_le, nat_lt, Option, Some, None, option_map, unwrap_or, Result, Ok, Err, codes, if◌then◌else◌}
+use Rattle.std.specs.Prelude.{ℕ, zero, suc, List, [], ◌∷◌, Bool, true, false, ◌&&◌, ◌||◌, ◌==◌, length, nat_le, nat_lt, Option, Some, None, option_map, unwrap_or, Result, Ok, Err, codes, if◌then◌else◌}
 use Rattle.std.specs.List.{list_all}
 use Rattle.std.specs.Map.{lookup}
 use Rattle.std.specs.Result.{result_map_both}
@@ -19,6 +19,8 @@ use Rattle.definitions.specs.declared.versions.At.{At}
 use Rattle.definitions.specs.declared.versions.Match.{Match}
 use Rattle.definitions.specs.declared.versions.Match.TheVariants as match
 use Rattle.definitions.specs.declared.versions.At.TheVariants.{Present, NotOlder, Exact}
+use Rattle.definitions.specs.declared.versions.Start.{Start}
+use Rattle.definitions.specs.declared.versions.Start.TheVariants as begins
 
 -- what is made of a value, if it is understood; else the query is at fault
 abbrev pub understood : {A B : Type 0} → Option A → (A → Result B Part) → Result B Part
@@ -78,9 +80,9 @@ list_options pairs =
 
 -- ---- a watch
 
--- a watch: after which revision (none: what is there comes first, then what happens after it), and whether with bookmarks
+-- a watch: how it begins, and whether with bookmarks
 pub record WatchOptions : Type 0 where
-  pub from : Option ℕ
+  pub start : Start
   pub bookmarks : Bool
 
 -- a revision that is unset or 0 is none (Kubernetes API Concepts, Semantics for watch)
@@ -88,17 +90,40 @@ abbrev pub watch_from : Option ℕ → Option ℕ
 watch_from (Some (suc r)) = Some (suc r)
 watch_from version = None
 
+-- where nothing is said of initial events: after a revision, or, where it is unset or 0, with what is there, and then what happens after it
+-- (Kubernetes API Concepts, Semantics for watch)
+abbrev pub plain_start : Option ℕ → Start
+plain_start (Some (suc r)) = begins.After (suc r)
+plain_start version = begins.Listed
+
+-- where initial events are not wanted: after a revision, or, where it is unset or 0, after the present one
+abbrev pub later_start : Option ℕ → Start
+later_start (Some (suc r)) = begins.After (suc r)
+later_start version = begins.Present
+
+-- how a watch begins, by whether initial events are named and wanted, by the match, and by the revision that is named: who speaks of initial
+-- events names the match NotOlderThan, and who does not names none (Kubernetes API Concepts, Streaming lists)
+abbrev pub start_of : Option Bool → Match → Option ℕ → Option Start
+start_of None match.Unset version = Some (plain_start version)
+start_of (Some true) match.NotOlderThan version = Some (begins.Streamed (watch_from version))
+start_of (Some false) match.NotOlderThan version = Some (later_start version)
+start_of initial matched version = None
+
 -- whether a parameter is there, and is `true`, `True` or `1`
 abbrev pub is_true_value : Option (List ℕ) → Bool
 is_true_value value = bytes_eq (or_empty value) (codes "true") || bytes_eq (or_empty value) (codes "True") || bytes_eq (or_empty value) (codes "1")
 
--- the options of a watch; it may not name how its revision is to be matched, and limits and tokens are ignored
+-- whether initial events are named, and then whether they are wanted
+abbrev pub initial_of : Option (List ℕ) → Option Bool
+initial_of value = option_map (λ t. is_true_value (Some t)) value
+
+-- the options of a watch; limits and tokens are ignored
 abbrev pub watch_options : Pairs → Result WatchOptions Part
 watch_options pairs =
-    if has_any (codes "resourceVersionMatch" ∷ []) pairs then Err part.Query
-    else
     understood (version_of (parameter (codes "resourceVersion") pairs)) (λ version.
-    Ok (record { from = watch_from version; bookmarks = is_true_value (parameter (codes "allowWatchBookmarks") pairs) }))
+    understood (match_of (parameter (codes "resourceVersionMatch") pairs)) (λ matched.
+    understood (start_of (initial_of (parameter (codes "sendInitialEvents") pairs)) matched version) (λ start.
+    Ok (record { start = start; bookmarks = is_true_value (parameter (codes "allowWatchBookmarks") pairs) }))))
 
 -- ---- the query of a collection
 
@@ -116,17 +141,17 @@ pub record Collection : Type 0 where
 abbrev pub everything : Collection
 everything = record { labels = []; fields = []; read = list (record { at = Present; limit = 0; after = None }) }
 
--- whether it is listed or watched (Kubernetes API Concepts, Efficient detection of changes)
+-- whether it is listed or watched (Kubernetes API Concepts, Efficient detection of changes); a list has no initial events
 abbrev pub read_by : Pairs → Result Read Part
 read_by pairs =
     if is_true_value (parameter (codes "watch") pairs) then result_map_both watch (λ p. p) (watch_options pairs)
-    else result_map_both list (λ p. p) (list_options pairs)
+    else (if has_any (codes "sendInitialEvents" ∷ []) pairs then Err part.Query else result_map_both list (λ p. p) (list_options pairs))
 
 -- the query of a list or a watch, or which part of it is not understood; a token is looked at last. It may not ask for a dry run
--- (Kubernetes API Concepts, Dry-run), and streaming lists are not served so far (Streaming lists)
+-- (Kubernetes API Concepts, Dry-run)
 abbrev pub collection_of : Pairs → Result Collection Part
 collection_of pairs =
-    if has_any (codes "sendInitialEvents" ∷ codes "dryRun" ∷ []) pairs then Err part.Query
+    if has_any (codes "dryRun" ∷ []) pairs then Err part.Query
     else
     understood (selector_of_text (or_empty (parameter (codes "labelSelector") pairs))) (λ labels.
     understood (fields_of_text (or_empty (parameter (codes "fieldSelector") pairs))) (λ fields.

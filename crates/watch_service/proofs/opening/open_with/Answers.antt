@@ -12,8 +12,8 @@ returns-in-Ok-beginning_text g c =
     let l = listed_as c.in-Ok.begun.revision h.0 in (
       opening_with l,
       (Ok l, h.2, refl),
-      refl,
-      refl,
+      c.standing_at.ensures.revision,
+      c.standing_at.ensures.idle,
       (rw c.deref.ensures.value at c.in-Ok-beginning_text.ensures) ∙ ap (λ t. watch_head ++ t) (sym (frames-of_members c.args.view.now.kind h.0 ∙ ap object_frames h.1)),
     )
 

@@ -1,0 +1,5 @@
+use Rattle.laws.proofs.InitialStreams.{openings}
+use Rattle.laws.proofs.stream_laws.openings_are_lists.Goals as goal
+
+pub returns : goal.returns
+returns c = openings
