@@ -14,13 +14,19 @@ REPLICAS = 2
 # Followers ask again after 0.8 seconds and more, all at once: what one was answered all were by then.
 ALL_ANSWERED_SECONDS = 0.3
 GARBAGE = b"\x00\x1b[31mno reply\xff\r\n"
-NODES = json.dumps({"kind": "NodeList", "apiVersion": "v1", "metadata": {"resourceVersion": "7", "continue": "x" * 100}, "items": []}).encode()
+NODES = json.dumps({"kind": "NodeList", "apiVersion": "v1", "metadata": {"resourceVersion": "7", "continue": "x" * 100}, "items": []}).encode() + b"\n"
 SHOWN = 100
 
 
 def reply(status, body):
     """Returns a reply of HTTP."""
     return f"HTTP/1.1 {status}\r\nContent-Type: application/json\r\nContent-Length: {len(body)}\r\nConnection: close\r\n\r\n".encode() + body
+
+
+def stream(line):
+    """Returns a reply of HTTP as a watch is answered, with one line, and its end."""
+    head = b"HTTP/1.1 200 OK\r\nContent-Type: application/json\r\nTransfer-Encoding: chunked\r\n\r\n"
+    return head + b"%x\r\n%s\r\n0\r\n\r\n" % (len(line), line)
 
 
 class Pretender(CuttingProxy):
@@ -50,7 +56,7 @@ def check_told(controlling, port, texts):
 
 
 def not_understood(program):
-    """What comes is no HTTP, then a failure, then a list of something else, and then it is a server's."""
+    """What comes is no HTTP, then a failure, then a list of something else in the place of initial events, and then it is a server's."""
     serving = server(program)
     pretender = Pretender(serving.port)
     with Ending(serving, control(program, pretender.port)) as running:
@@ -58,7 +64,7 @@ def not_understood(program):
         for answer, texts in (
             (GARBAGE, ["is not understood: \\x00\\x1b[31mno reply\\xff\\x0d\\x0a"]),
             (reply("503 Service Unavailable", b"{}"), ["answers 503"]),
-            (reply("200 OK", NODES), ["answers again", f"is not understood: {NODES.decode()[:SHOWN]}"]),
+            (stream(NODES), ["answers again", f"is not understood: {NODES.decode()[:SHOWN]}"]),
             (None, ["is understood again"]),
         ):
             pretender.answer_all = answer

@@ -1,8 +1,11 @@
 """A proxy before a server that cuts connections, and at times takes none."""
+import collections
 import contextlib
 import random
 import socket
 import threading
+
+from asking import LIST, STREAM, WATCH, asked_for, refusal
 
 PIECE = 4096
 # What a reply says where what was asked for is no longer known, in its head or in an event.
@@ -10,12 +13,13 @@ EXPIRED = (b"HTTP/1.1 410 ", b'"code":410')
 
 
 class Proxy:
-    """Relays connections to a port in pieces of random sizes, the first few lists but in part. It counts the lists, watches and expiries
-    that go over it."""
+    """Relays connections to a port in pieces of random sizes, the first few lists and streams of initial events but in part. It counts what is
+    asked over it, and the expiries. Where a status code is given, it answers streams by itself with that, as a server that refuses them."""
 
-    def __init__(self, port, seed, cut_lists):
-        self.cut_lists, self.upstream, self.rolls, self.lock, self.is_down = cut_lists, port, random.Random(seed), threading.Lock(), False
-        self.open, self.lists, self.watches, self.expiries, self.cuts = {}, 0, 0, 0, 0
+    def __init__(self, port, seed, cut_lists, refusal_code=None):
+        self.cut_lists, self.refusal_code, self.upstream, self.is_down = cut_lists, refusal_code, port, False
+        self.rolls, self.lock = random.Random(seed), threading.Lock()
+        self.open, self.asked, self.expiries, self.cuts = {}, collections.Counter(), 0, 0
         self.listener = socket.create_server(("127.0.0.1", 0))
         self.port = self.listener.getsockname()[1]
         threading.Thread(target=self.accept, daemon=True).start()
@@ -32,17 +36,21 @@ class Proxy:
 
     def relay(self, taken):
         """Relays one request and its reply."""
-        with contextlib.suppress(OSError), taken, socket.create_connection(("127.0.0.1", self.upstream)) as server:
+        with contextlib.suppress(OSError), taken:
             request = taken.recv(65536)
-            is_watch = b"watch=true" in request.split(b"\r\n", 1)[0]
+            what = asked_for(request)
             with self.lock:
-                self.watches, self.lists = self.watches + is_watch, self.lists + (not is_watch)
-            server.sendall(request)
-            self.answer(taken, server, is_watch)
+                self.asked[what] += 1
+            if what == STREAM and self.refusal_code:
+                return taken.sendall(refusal(self.refusal_code))
+            with socket.create_connection(("127.0.0.1", self.upstream)) as server:
+                server.sendall(request)
+                self.answer(taken, server, what)
         with self.lock:
             self.open.pop(taken, None)
+        return None
 
-    def answer(self, taken, server, is_watch):
+    def answer(self, taken, server, what):
         """Relays what a server answers, in pieces of random sizes."""
         relayed, last, is_expired = 0, b"", False
         while (got := server.recv(self.rolls.choice((1, 7, 100, PIECE)))) and not self.is_down:
@@ -51,11 +59,11 @@ class Proxy:
                 is_expired, self.expiries = True, self.expiries + 1
             taken.sendall(got)
             relayed += len(got)
-            if not is_watch and self.cut_lists and relayed > 100:
+            if what in (LIST, STREAM) and self.cut_lists and relayed > 100:
                 self.cut_lists, self.cuts = self.cut_lists - 1, self.cuts + 1
                 break
             # The head of a watch takes fewer bytes: past these it has shown a change.
-            if is_watch and relayed > 600:
+            if what in (WATCH, STREAM) and relayed > 600:
                 with self.lock:
                     self.open[taken] = server
 

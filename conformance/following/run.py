@@ -1,9 +1,10 @@
 #!/usr/bin/env python3
 """Has a follower keep a copy of the ConfigMaps of a `kcp serve` while clients write and a proxy between cuts its connections.
 
-The follower is the program `watch_example`. Meanwhile clients create, replace and delete ConfigMaps, each under names of its own, and
-the proxy relays in pieces of random sizes, cuts watches anywhere and a list, and at times takes no connections, until what the follower
-asks for is no longer known and it has to list again. Each write takes one revision, so that the last is known. At the end the follower's copy
+The follower is the program `watch_example`. It follows twice: once it is given streams of initial events, and once they are refused, as by a
+server that knows none, so that it lists. Meanwhile clients create, replace and delete ConfigMaps, each under names of its own, and
+the proxy relays in pieces of random sizes, cuts watches anywhere and what they begin with, and at times takes no connections, until what the
+follower asks for is no longer known and it has to take in all again. Each write takes one revision, so that the last is known. At the end the follower's copy
 is compared with the server's list, and the changes that it told with both.
 Usage: run.py --program PATH [--follower PATH] [--writes N] [--cuts N] [--clients N] [--rate N] [--seed N] [--short]
 """
@@ -18,6 +19,7 @@ import sys
 import threading
 import time
 
+from asking import LIST, STREAM, WATCH
 from proxy import Proxy
 
 ROOT = pathlib.Path(__file__).resolve().parent.parent.parent
@@ -34,6 +36,8 @@ CUTTING = 0.6
 # How long a client waits with a write where the cuts are behind, and how often it looks meanwhile.
 BEHIND_SECONDS, BEHIND_PAUSE_SECONDS = 0.25, 0.005
 LIMIT_SECONDS = 600
+# How streams of initial events are answered: they are given, or refused with a status code.
+WAYS = {"by streams": None, "by lists, as streams are refused": 422}
 BUILD_SECONDS = 3600
 
 
@@ -159,9 +163,9 @@ def listed(port):
     return rows, int(value["metadata"]["resourceVersion"])
 
 
-def follow(asked, port, follower):
+def follow(asked, port, follower, refuses):
     """Has the follower follow while clients write, and returns its lines, its status, the clients and the proxy."""
-    proxy, until = Proxy(port, asked.seed, 0 if asked.short else 1), listed(port)[1] + asked.writes
+    proxy, until = Proxy(port, asked.seed, 0 if asked.short else 1, refuses), listed(port)[1] + asked.writes
     words = [follower, "--server", f"127.0.0.1:{proxy.port}", "ConfigMap", "--until", str(until)]
     started = subprocess.Popen(words, stdout=subprocess.PIPE, text=True, encoding="utf-8")
     lines, each = [], asked.writes // asked.clients
@@ -187,20 +191,20 @@ def follow(asked, port, follower):
     return lines, status, clients, proxy
 
 
-def main():
-    parser = argparse.ArgumentParser(description=__doc__.splitlines()[0])
-    parser.add_argument("--program", required=True)
-    parser.add_argument("--follower")
-    parser.add_argument("--short", action="store_true", help="1,500 writes and 12 cuts, in about 5 seconds")
-    for name, default in (("writes", 10_000), ("cuts", 100), ("clients", 8), ("rate", 400), ("seed", 1)):
-        parser.add_argument(f"--{name}", type=int, default=default)
-    asked = parser.parse_args()
-    if asked.short:
-        asked.writes, asked.cuts = 1_500, 12
-    follower, began = built(asked.follower), time.monotonic()
+def took_in_again(proxy):
+    """Returns whether what the follower asked for was no longer known, and it took in all again: by a stream, or by a list where one was refused
+    right before."""
+    streams, lists = proxy.asked[STREAM], proxy.asked[LIST]
+    again = 1 < streams <= lists if proxy.refusal_code else 1 < streams and lists == 0
+    return proxy.expiries > 0 and again
+
+
+def passes(way, asked, follower, refuses):
+    """Has the follower follow one way, says what came of it, and returns what was checked, and whether it holds."""
+    began = time.monotonic()
     server, port = serve(asked.program)
     try:
-        lines, status, clients, proxy = follow(asked, port, follower)
+        lines, status, clients, proxy = follow(asked, port, follower, refuses)
         rows, revision = listed(port)
     finally:
         server.terminate()
@@ -214,18 +218,34 @@ def main():
         "the changes that it told make that list": made == rows,
         "each change fits what was there, and no revision falls": not wrong,
         "watches were cut": proxy.cuts >= asked.cuts,
-        "what it asked for was no longer known, and it listed again": proxy.expiries > 0 and proxy.lists > 1,
+        "what it asked for was no longer known, and it took in all again": took_in_again(proxy),
     }
     for what in (what for what, holds in checks.items() if not holds):
-        print(f"FAILED {what}")
+        print(f"FAILED {way}: {what}")
     for line in wrong[:10]:
         print(f"  {line}")
+    counts = ", ".join(f"{proxy.asked[what]} {plural}" for what, plural in ((STREAM, "streams"), (LIST, "lists"), (WATCH, "watches")))
     print(
-        f"{asked.writes} writes, {proxy.cuts} cuts, {proxy.lists} lists, {proxy.watches} watches, {proxy.expiries} expiries, {len(revisions)} publishes,"
-        f" {len(rows)} objects, {time.monotonic() - began:.1f} s"
+        f"{way}: {asked.writes} writes, {proxy.cuts} cuts, {counts}, {proxy.expiries} expiries, {len(revisions)} publishes, {len(rows)} objects,"
+        f" {time.monotonic() - began:.1f} s"
     )
-    print(f"{sum(checks.values())} passed, {len(checks) - sum(checks.values())} failed")
-    return 0 if all(checks.values()) else 1
+    return list(checks.values())
+
+
+def main():
+    parser = argparse.ArgumentParser(description=__doc__.splitlines()[0])
+    parser.add_argument("--program", required=True)
+    parser.add_argument("--follower")
+    parser.add_argument("--short", action="store_true", help="1,500 writes and 12 cuts each way, in about 10 seconds")
+    for name, default in (("writes", 10_000), ("cuts", 100), ("clients", 8), ("rate", 400), ("seed", 1)):
+        parser.add_argument(f"--{name}", type=int, default=default)
+    asked = parser.parse_args()
+    if asked.short:
+        asked.writes, asked.cuts = 1_500, 12
+    follower = built(asked.follower)
+    checks = [it for way, refuses in WAYS.items() for it in passes(way, asked, follower, refuses)]
+    print(f"{sum(checks)} passed, {len(checks) - sum(checks)} failed")
+    return 0 if all(checks) else 1
 
 
 if __name__ == "__main__":

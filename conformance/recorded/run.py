@@ -1,9 +1,11 @@
 #!/usr/bin/env python3
 """Replays the recorded bytes of a real API server to a follower, in pieces of many sizes and cut at many places.
 
-The follower is the program `watch_example`. Each case is a list and the watches after it. What the follower has at the end is compared
-with what this script makes of the same list and frames, and the number of lists says whether it could read what came: after what it
-cannot read it lists again.
+The follower is the program `watch_example`. Each case is a list and the watches after it. The server that was recorded refuses streams of
+initial events, so that the follower lists; each case is tried with either code by which servers refuse, and once more as a later server would
+answer: the list's objects come as initial events, with the bookmark that closes them. What the follower has at the end is compared
+with what this script makes of the same list and frames, and the number of lists or streams says whether it could read what came: after what
+it cannot read it asks for all again.
 Usage: run.py [--follower PATH] [--seed N]
 """
 import argparse
@@ -18,10 +20,17 @@ import sys
 import threading
 
 HERE = pathlib.Path(__file__).resolve().parent
+sys.dont_write_bytecode = True
+sys.path[1:1] = [str(HERE.parent / "following")]
+from asking import LIST, LOOK, STREAM, WATCH, asked_for, refusal
+
 CRATES = HERE.parent.parent / "crates"
 LIMIT_SECONDS = 60
 BUILD_SECONDS = 3600
 CUTS = 12
+# How streams of initial events are answered: they are given, or refused with a status code.
+WAYS = {"streamed": None, "refused with 422": 422, "refused with 400": 400}
+API_VERSIONS = {"ConfigMap": "v1", "Pod": "v1", "Deployment": "apps/v1"}
 
 
 def recorded(name):
@@ -61,9 +70,18 @@ def expected(lists, watches):
     return {f"{namespace}/{name}": version for (namespace, name), version in there.items()}, revision
 
 
-def asks_first(target):
-    """Returns whether what is asked for is the first object at a revision."""
-    return "limit=1&" in target and "resourceVersionMatch=Exact" in target
+def initial_events(kind, head, body):
+    """Returns the reply of a later server that is asked for a stream of initial events: the objects of a list, the bookmark that closes them, and
+    the end that a time-out puts."""
+    value, named = json.loads(body), {"kind": kind, "apiVersion": API_VERSIONS[kind]}
+    closing = {"resourceVersion": value["metadata"]["resourceVersion"], "creationTimestamp": None, "annotations": {"k8s.io/initial-events-end": "true"}}
+    events = [{"type": "ADDED", "object": named | it} for it in value["items"]] + [{"type": "BOOKMARK", "object": named | {"metadata": closing}}]
+    return chunked(head, [json.dumps(it, separators=(",", ":")).encode() + b"\n" for it in events])
+
+
+def revision_of(target):
+    """Returns the revision that a target names."""
+    return int(re.search(rb"resourceVersion=(\d+)", target)[1])
 
 
 def first_at(lists, frames, revision):
@@ -81,11 +99,12 @@ def first_at(lists, frames, revision):
 
 
 class Player:
-    """A server that answers each list with the same bytes, and watches with replies in their order, each in pieces, or cut. Who asks whether it
-    is still the same server, by the first object at a revision, is answered as that server would."""
+    """A server that answers each list with the same bytes, each stream of initial events likewise, and watches with replies in their order, each
+    in pieces, or cut. Who asks whether it is still the same server, by the first object at a revision, is answered as that server would."""
 
-    def __init__(self, listing, body, frames, watches, piece):
-        self.listing, self.body, self.frames, self.watches, self.piece, self.asked = listing, body, frames, list(watches), piece, []
+    def __init__(self, listing, stream, body, frames, watches, piece):
+        self.listing, self.stream, self.body, self.frames, self.watches, self.piece = listing, stream, body, frames, list(watches), piece
+        self.asked = []
         self.listener = socket.create_server(("127.0.0.1", 0))
         self.port = self.listener.getsockname()[1]
         threading.Thread(target=self.run, daemon=True).start()
@@ -101,20 +120,24 @@ class Player:
     def answer(self, taken):
         """Answers a request."""
         taken.setsockopt(socket.IPPROTO_TCP, socket.TCP_NODELAY, 1)
-        target = taken.recv(65536).split(b" ")[1].decode()
-        self.asked.append(target)
-        text = self.listing
-        if "watch=true" in target:
-            revision = int(re.search(r"resourceVersion=(\d+)", target)[1])
-            text = self.watches.pop(0)(revision) if self.watches else b""
-        elif asks_first(target):
-            text = first_at(self.body, self.frames, int(re.search(r"resourceVersion=(\d+)", target)[1]))
+        target = taken.recv(65536).split(b" ")[1]
+        self.asked.append(target.decode())
+        text = self.text(target)
         for start in range(0, len(text), self.piece):
             taken.sendall(text[start : start + self.piece])
 
-    def lists(self):
-        """Returns how many lists were asked for."""
-        return sum("watch=true" not in target and not asks_first(target) for target in self.asked)
+    def text(self, target):
+        """Returns what a target is answered."""
+        what = asked_for(target)
+        if what == STREAM:
+            return self.stream
+        if what == WATCH:
+            return self.watches.pop(0)(revision_of(target)) if self.watches else b""
+        return first_at(self.body, self.frames, revision_of(target)) if what == LOOK else self.listing
+
+    def count(self, what):
+        """Returns how often something was asked for."""
+        return sum(asked_for(target.encode()) == what for target in self.asked)
 
 
 def follow(follower, kind, player, until):
@@ -131,17 +154,18 @@ def follow(follower, kind, player, until):
 
 
 def cases(seed):
-    """Returns the cases: what each is called, its kind, list with its body and the frames after it, watches and size of pieces, what is expected
-    of it, and how many lists it takes."""
+    """Returns the cases: what each is called, its kind, list with its head and body, frames after it, watches and size of pieces, what is expected
+    of it, and how often it takes in all."""
     rolls = random.Random(seed)
     for kind, name in (("ConfigMap", "configmaps"), ("Deployment", "deployments"), ("Pod", "pods")):
-        listing, _, body = recorded(f"list-{name}")
+        listing = recorded(f"list-{name}")
+        body = listing[2]
         if kind == "Pod":
-            yield "a list of pods", kind, (listing, body, []), [], 5, expected(body, []), 1
+            yield "a list of pods", kind, listing, [], [], 5, expected(body, []), 1
             continue
         text, head, events = recorded(f"watch-{name}")
         frames, expired, none = frames_of(events), recorded("watch-expired")[0], recorded("watch-too-new")[0]
-        wanted, sent = expected(body, frames), (listing, body, frames)
+        wanted = expected(body, frames)
 
         def whole(revision, text=text):
             return text
@@ -150,13 +174,24 @@ def cases(seed):
             return chunked(head, [line for line, at in frames if revision < at])
 
         for piece in (3, 100, 1_000_000):
-            yield f"{name}, in pieces of {piece}", kind, sent, [whole], piece, wanted, 1
+            yield f"{name}, in pieces of {piece}", kind, listing, frames, [whole], piece, wanted, 1
         for _ in range(CUTS):
             # Past the first frame, since a watch that gave nothing is asked for again after a pause.
             at = rolls.randrange(text.index(frames[0][0]) + len(frames[0][0]), len(text))
-            yield f"{name}, cut after {at} bytes", kind, sent, [lambda revision, at=at, text=text: text[:at], rest], 1000, wanted, 1
-        yield f"{name}, expired", kind, sent, [lambda revision, text=expired: text, whole], 50, wanted, 2
-        yield f"{name}, a watch of nothing", kind, sent, [lambda revision, text=none: text, whole], 50, wanted, 1
+            yield f"{name}, cut after {at} bytes", kind, listing, frames, [lambda revision, at=at, text=text: text[:at], rest], 1000, wanted, 1
+        yield f"{name}, expired", kind, listing, frames, [lambda revision, text=expired: text, whole], 50, wanted, 2
+        yield f"{name}, a watch of nothing", kind, listing, frames, [lambda revision, text=none: text, whole], 50, wanted, 1
+
+
+def fault(follower, refuses, case):
+    """Tries a case, with streams of initial events refused with a status code or given, and returns what is wrong, if something is."""
+    _, kind, (listing, head, body), frames, watches, piece, (there, until), times = case
+    player = Player(listing, refusal(refuses) if refuses else initial_events(kind, head, body), body, frames, watches, piece)
+    found, is_well = follow(follower, kind, player, until)
+    streams, lists = player.count(STREAM), player.count(LIST)
+    if is_well and found == there and (streams, lists) == (times, times if refuses else 0):
+        return None
+    return f"ended well {is_well}, same copy {found == there}, asked {player.asked}"
 
 
 def built(path):
@@ -174,14 +209,13 @@ def main():
     parser.add_argument("--seed", type=int, default=1)
     asked = parser.parse_args()
     follower, passed, failed = built(asked.follower), 0, 0
-    for what, kind, sent, watches, piece, (there, until), lists in cases(asked.seed):
-        player = Player(*sent, watches, piece)
-        found, is_well = follow(follower, kind, player, until)
-        if is_well and found == there and player.lists() == lists:
-            passed += 1
-        else:
-            failed += 1
-            print(f"FAILED {what}: ended well {is_well}, same copy {found == there}, asked {player.asked}")
+    for way, refuses in WAYS.items():
+        for case in cases(asked.seed):
+            if wrong := fault(follower, refuses, case):
+                failed += 1
+                print(f"FAILED {case[0]}, {way}: {wrong}")
+            else:
+                passed += 1
     print(f"{passed} passed, {failed} failed")
     return 0 if failed == 0 else 1
 

@@ -204,5 +204,5 @@ const SCENES: [Scene; 10] = [
 
 #[test]
 fn servers_are_known_again(rt: HostRuntime) {
-    assert_eq!(rt; first_unlike(rt.alloc(), &SCENES), None);
+    assert_eq!(rt; first_unlike(rt.alloc(), &SCENES, false), None);
 }

@@ -204,5 +204,5 @@ const SCENES: [Scene; 12] = [
 
 #[test]
 fn scripts_are_followed(rt: HostRuntime) {
-    assert_eq!(rt; first_unlike(rt.alloc(), &SCENES), None);
+    assert_eq!(rt; first_unlike(rt.alloc(), &SCENES, false), None);
 }

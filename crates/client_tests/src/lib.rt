@@ -17,4 +17,6 @@ mod scenes;
 #[cfg(test)]
 mod scripts;
 #[cfg(test)]
+mod streams;
+#[cfg(test)]
 mod watches;

@@ -71,8 +71,18 @@ pub struct Scene {
     pub told: (usize, usize),
 }
 
+/// Returns a follower that asks for lists, or for streams of initial events.
+fn begin(alloc: Global, is_streaming: bool) -> Follower<PlainInformer> {
+    let informer = PlainInformer::new(alloc);
+    if is_streaming {
+        Follower::streaming(alloc, Kind::ConfigMap, informer)
+    } else {
+        Follower::new(alloc, Kind::ConfigMap, informer)
+    }
+}
+
 /// Returns whether a script is followed as it says.
-pub fn is_followed(alloc: Global, scene: &Scene) -> bool {
+fn is_followed(alloc: Global, scene: &Scene, is_streaming: bool) -> bool {
     let mut script = Script {
         lists: scene.lists,
         firsts: scene.firsts,
@@ -99,7 +109,7 @@ pub fn is_followed(alloc: Global, scene: &Scene) -> bool {
         objects: 0,
         others: 0,
     };
-    let mut follower = Follower::new(alloc, Kind::ConfigMap, PlainInformer::new(alloc));
+    let mut follower = begin(alloc, is_streaming);
     follow(
         alloc,
         Kind::ConfigMap,
@@ -115,10 +125,10 @@ pub fn is_followed(alloc: Global, scene: &Scene) -> bool {
         && (script.not_understood, seen.others) == scene.told
 }
 
-/// Returns the first script that is not followed as it says.
-pub fn first_unlike(alloc: Global, scenes: &[Scene]) -> Option<usize> {
+/// Returns the first script that is not followed as it says, with streams of initial events or with lists.
+pub fn first_unlike(alloc: Global, scenes: &[Scene], is_streaming: bool) -> Option<usize> {
     for (place, scene) in scenes.iter().enumerate() {
-        if !is_followed(alloc, scene) {
+        if !is_followed(alloc, scene, is_streaming) {
             return Some(place);
         }
     }

@@ -8,7 +8,10 @@ use remote::{Api, Opened};
 use requests::Request;
 use std::alloc::{AllocError, Global};
 
-/// What is answered to who asks for a watch: what becomes of it, and the pieces that it gives before it is cut, or ends.
+/// What is recorded where a stream of initial events is asked for.
+pub const STREAM: u64 = 1_000;
+
+/// What is answered to who asks for a watch, or for a stream of initial events: what becomes of it, and the pieces that it gives before it is cut, or ends.
 #[derive(Clone, Copy)]
 pub struct Watch<'a> {
     pub opened: Opened,
@@ -43,7 +46,7 @@ pub struct Script<'a> {
     pub looked: usize,
     pub opened: usize,
     pub given: usize,
-    /// What was asked: 0 for a list, the revision for a watch, and 100 more for the first object at it.
+    /// What was asked: 0 for a list, `STREAM` for a stream, the revision for a watch, and 100 more for the first object at it.
     pub asked: Vec<u64>,
     /// How often what came was understood, and how often not.
     pub understood: usize,
@@ -89,6 +92,10 @@ impl<'a> Api for Script<'a> {
         self.opened = self.opened.saturating_add(1);
         self.given = 0;
         opened
+    }
+
+    fn open_stream(&mut self, alloc: Global, kind: Kind) -> Opened {
+        self.open_watch(alloc, kind, STREAM)
     }
 
     fn more(&mut self, buf: &mut [u8]) -> More {

@@ -1,5 +1,5 @@
--- A reflector: what it takes in of lists and of watches (client-go, tools/cache, Reflector).
-use Rattle.std.specs.Prelude.{ℕ, ◌==◌, ◌&&◌, ◌||◌, ◌++◌, List, [], ◌∷◌, map, nat_lt, nat_le, Bool, false, bytes_eq, is_some, codes, Option, Some, None, option_map, option_and_then, unwrap_or, Result, Ok, Err, if◌then◌else◌}
+-- A reflector: what it takes in of lists and of watches, and of watches that begin with all objects (client-go, tools/cache, Reflector).
+use Rattle.std.specs.Prelude.{ℕ, ◌==◌, ◌&&◌, ◌||◌, ◌++◌, List, [], ◌∷◌, map, max, nat_lt, nat_le, Bool, true, false, bytes_eq, is_some, codes, Option, Some, None, option_map, option_and_then, unwrap_or, Result, Ok, Err, if◌then◌else◌}
 use Rattle.std.specs.List.{list_any}
 use Rattle.std.specs.Str.{is_utf8}
 use Rattle.serde_json.specs.Data.{Data, Items, no_items, item}
@@ -13,7 +13,7 @@ use Rattle.controllers.specs.declared.frame_fault.FrameFault.{FrameFault}
 use Rattle.controllers.specs.declared.reflectors.Ask.{Ask}
 use Rattle.controllers.specs.declared.reflectors.Ask.TheVariants as ask
 use Rattle.controllers.specs.declared.reflectors.Phase.{Phase}
-use Rattle.controllers.specs.declared.reflectors.Phase.TheVariants.{Listing, Watching}
+use Rattle.controllers.specs.declared.reflectors.Phase.TheVariants.{Listing, Streaming, Watching}
 use Rattle.controllers.specs.declared.reflectors.End.{End}
 use Rattle.controllers.specs.declared.reflectors.End.TheVariants.{Expired, Unreadable}
 use Rattle.definitions.specs.Texts.Kinds.{api_version, kind_text, list_kind}
@@ -203,30 +203,122 @@ abbrev pub run : Kind → ℕ → List Frame → Run
 run k last [] = record { deltas = []; revision = last; ended = None }
 run k last (e ∷ es) = going_on last (λ r. run k r es) (step k last e)
 
+-- ---- initial events (Kubernetes API Concepts, Streaming lists)
+
+-- the map that the initial events make so far, and the highest of their revisions
+pub record Initial : Type 0 where
+  pub members : Entries
+  pub highest : ℕ
+
+-- none came yet
+abbrev pub none_yet : Initial
+none_yet = record { members = []; highest = 0 }
+
+-- one more is played on the map
+abbrev pub played : Initial → Step → Initial
+played i t = record { members = apply_delta i.members t.delta; highest = max i.highest t.revision }
+
+-- the objects of a map, in the order of their keys
+abbrev pub objects_of : Entries → List Object
+objects_of ms = map (λ m. record { kind = m.0.kind; value = m.1 }) ms
+
+-- whether a bookmark says that the initial events end with it
+abbrev pub is_closing : Data → Bool
+is_closing d = unwrap_or (option_map (says (codes "k8s.io/initial-events-end") (codes "true")) (option_and_then (get (codes "annotations")) (get (codes "metadata") d))) false
+
+-- what a frame among them does: there are these now, or they are all there, at a revision
+pub data Opening : Type 0 where
+  under_way : Initial → Opening
+  closed : ℕ → Opening
+
+abbrev pub opening : Option Opening → Result Opening End
+opening None = Err Unreadable
+opening (Some o) = Ok o
+
+-- the closing bookmark names a revision that none of them is above; another bookmark is passed over
+abbrev pub bookmark_opening : Bool → Kind → Initial → Data → Option Opening
+bookmark_opening true k i d = option_map closed (marked k i.highest d)
+bookmark_opening false k i d = option_map (λ r. under_way i) (marked k 0 d)
+
+-- what a frame does to the initial events so far; the revisions of initial events need not rise
+abbrev pub opening_by : FrameKind → Kind → Initial → Data → Result Opening End
+opening_by Added k i d = opening (option_map (λ s. under_way (played i (put_step s))) (shown k d))
+opening_by Modified k i d = opening (option_map (λ s. under_way (played i (put_step s))) (shown k d))
+opening_by Deleted k i d = opening (option_map (λ s. under_way (played i (remove_step s))) (shown k d))
+opening_by Bookmark k i d = opening (bookmark_opening (is_closing d) k i d)
+opening_by Error k i d = Err (error_end d)
+
+abbrev pub opening_step : Kind → Initial → Frame → Result Opening End
+opening_step k i e = opening_by e.kind k i e.object
+
+-- what frames gave, how far a reflector is then, and the initial events that are under way then
+pub record Course : Type 0 where
+  pub run : Run
+  pub phase : Phase
+  pub initial : Initial
+
+abbrev pub stays : Phase → ℕ → Initial → Option End → Course
+stays p last i e = record { run = record { deltas = []; revision = last; ended = e }; phase = p; initial = i }
+
+-- the initial events are the whole map at their revision, and a watch goes on from there
+abbrev pub closes : ℕ → Initial → Run → Course
+closes r i t = record { run = first_delta (replace r (objects_of i.members)) t; phase = Watching; initial = none_yet }
+
+abbrev pub opens_on : ℕ → Initial → (Initial → Course) → (ℕ → Run) → Result Opening End → Course
+opens_on last i on watch (Err e) = stays Streaming last i (Some e)
+opens_on last i on watch (Ok (under_way j)) = on j
+opens_on last i on watch (Ok (closed r)) = closes r i (watch r)
+
+-- frames in order, up to the first that is an end: until the closing bookmark nothing is given, and the revision stays
+abbrev pub open_run : Kind → ℕ → Initial → List Frame → Course
+open_run k last i [] = stays Streaming last i None
+open_run k last i (e ∷ es) = opens_on last i (λ j. open_run k last j es) (λ r. run k r es) (opening_step k i e)
+
+-- frames where a reflector is so far
+abbrev pub course : Phase → Kind → ℕ → Initial → List Frame → Course
+course Listing k last i es = stays Listing last i None
+course Streaming k last i es = open_run k last i es
+course Watching k last i es = record { run = run k last es; phase = Watching; initial = i }
+
 -- ---- a reflector
 
--- of a kind: the last revision, how far it is, and the bytes buffered of a frame that is not whole yet
+-- of a kind: the last revision, how far it is, the bytes buffered of a frame that is not whole yet, whether it asks for streams
+-- of initial events in place of lists, and the initial events under way
 pub record Reflector : Type 0 where
   pub kind : Kind
   pub revision : ℕ
   pub phase : Phase
   pub buffered : List ℕ
+  pub is_streaming : Bool
+  pub initial : Initial
+
+-- where the whole map is to come from
+abbrev pub first_phase : Bool → Phase
+first_phase false = Listing
+first_phase true = Streaming
 
 -- nothing was taken in yet
+abbrev pub begun_by : Bool → Kind → Reflector
+begun_by b k = record { kind = k; revision = 0; phase = first_phase b; buffered = []; is_streaming = b; initial = none_yet }
+
 abbrev pub begun : Kind → Reflector
-begun k = record { kind = k; revision = 0; phase = Listing; buffered = [] }
+begun k = begun_by false k
+
+abbrev pub begun_streaming : Kind → Reflector
+begun_streaming k = begun_by true k
 
 abbrev pub ask_at : Phase → ℕ → Ask
 ask_at Listing r = ask.List
+ask_at Streaming r = ask.Stream
 ask_at Watching r = ask.Watch r
 
--- what it asks for: a list at first, after an expiry and after what could not be read; else a watch
+-- what it asks for: the whole map at first, after an expiry and after what could not be read; else a watch
 abbrev pub asks : Reflector → Ask
 asks s = ask_at s.phase s.revision
 
--- the reflector at a revision, with nothing buffered
+-- the reflector at a revision, with nothing buffered and no initial events
 abbrev pub turned : Phase → ℕ → Reflector → Reflector
-turned p r s = record { kind = s.kind; revision = r; phase = p; buffered = [] }
+turned p r s = record { kind = s.kind; revision = r; phase = p; buffered = []; is_streaming = s.is_streaming; initial = none_yet }
 
 -- a list that was read is taken in; another changes nothing
 abbrev pub with_list : Option Listed → Reflector → Reflector
@@ -236,13 +328,23 @@ with_list (Some l) s = turned Watching l.revision s
 abbrev pub list_delta : Listed → Delta
 list_delta l = replace l.revision l.objects
 
--- the frame that is not whole is dropped
+-- the frame that is not whole is dropped, and so are initial events that are not closed
 abbrev pub cut : Reflector → Reflector
 cut s = turned s.phase s.revision s
 
--- a list is asked for again
+-- a list that is asked for is asked for until it comes
+abbrev pub anew : Phase → Bool → Phase
+anew Listing b = Listing
+anew Streaming b = first_phase b
+anew Watching b = first_phase b
+
+-- the whole map is asked for again
 abbrev pub expired : Reflector → Reflector
-expired s = turned Listing s.revision s
+expired s = turned (anew s.phase s.is_streaming) s.revision s
+
+-- a stream is refused: a list is asked for
+abbrev pub refused : Reflector → Reflector
+refused s = turned Listing s.revision s
 
 -- what bytes gave: deltas in order, the end if they came to one, and the reflector from then on
 pub record Fed : Type 0 where
@@ -259,43 +361,47 @@ end_of (Some e) fault = Some e
 end_of None (Some f) = Some Unreadable
 end_of None None = None
 
--- after an end a list is asked for
-abbrev pub phase_after : Option End → Phase
-phase_after (Some e) = Listing
-phase_after None = Watching
+-- after an end the whole map is asked for
+abbrev pub phase_after : Bool → Phase → Option End → Phase
+phase_after b p (Some e) = first_phase b
+phase_after b p None = p
+
+-- and the initial events are dropped
+abbrev pub initial_after : Option End → Initial → Initial
+initial_after (Some e) i = none_yet
+initial_after None i = i
 
 -- and the buffered bytes are dropped
 abbrev pub held_after : Option End → List ℕ → List ℕ
 held_after (Some e) buffered = []
 held_after None buffered = buffered
 
-abbrev pub left_by : Option End → ℕ → List ℕ → Reflector → Reflector
-left_by e r buffered s = record { kind = s.kind; revision = r; phase = phase_after e; buffered = held_after e buffered }
+abbrev pub left_by : Option End → Course → List ℕ → Reflector → Reflector
+left_by e c buffered s =
+    record { kind = s.kind; revision = c.run.revision; phase = phase_after s.is_streaming c.phase e; buffered = held_after e buffered; is_streaming = s.is_streaming; initial = initial_after e c.initial }
 
-abbrev pub ran : Run → Read → Reflector → Fed
-ran t r s = record { deltas = t.deltas; ended = end_of t.ended r.fault; after = left_by (end_of t.ended r.fault) t.revision r.buffered s }
+abbrev pub ran : Course → Read → Reflector → Fed
+ran c r s = record { deltas = c.run.deltas; ended = end_of c.run.ended r.fault; after = left_by (end_of c.run.ended r.fault) c r.buffered s }
 
-abbrev pub watched : Read → Reflector → Fed
-watched r s = ran (run s.kind s.revision r.events) r s
+abbrev pub watched : Phase → Read → Reflector → Fed
+watched p r s = ran (course p s.kind s.revision s.initial r.events) r s
 
 -- bytes after those buffered; while a list is asked for they are ignored
 abbrev pub fed_in : Phase → List ℕ → Reflector → Fed
 fed_in Listing bytes s = nothing s
-fed_in Watching bytes s = watched (frames.reading bytes) s
+fed_in Streaming bytes s = watched Streaming (frames.reading bytes) s
+fed_in Watching bytes s = watched Watching (frames.reading bytes) s
 
 abbrev pub fed : Reflector → List ℕ → Fed
 fed s piece = fed_in s.phase (s.buffered ++ piece) s
 
--- ---- pieces one after another
+-- ---- the pieces of one answer, one after another
 
-abbrev pub or_later : Option End → Option End → Option End
-or_later None e = e
-or_later (Some e) later = Some e
-
--- all that came of two in a row
-abbrev pub joined : Fed → Fed → Fed
-joined f g = record { deltas = f.deltas ++ g.deltas; ended = or_later f.ended g.ended; after = g.after }
+-- after an end nothing more is taken in
+abbrev pub joined : Option End → Fed → Fed → Fed
+joined (Some e) f g = f
+joined None f g = record { deltas = f.deltas ++ g.deltas; ended = g.ended; after = g.after }
 
 abbrev pub all_fed : Reflector → List (List ℕ) → Fed
 all_fed s [] = nothing s
-all_fed s (p ∷ ps) = joined (fed s p) (all_fed (fed s p).after ps)
+all_fed s (p ∷ ps) = joined (fed s p).ended (fed s p) (all_fed (fed s p).after ps)

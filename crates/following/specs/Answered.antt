@@ -1,5 +1,5 @@
 -- What a follower makes of what a server answers (client-go, tools/cache, Reflector).
-use Rattle.std.specs.Prelude.{◌≡◌, ◌⊎◌, ℕ, List, length, take, nat_eq, nat_lt, nat_le, if◌then◌else◌, Bool, true, false, not, Option, Some, None, option_and_then}
+use Rattle.std.specs.Prelude.{◌≡◌, ◌⊎◌, ◌||◌, ℕ, List, length, take, nat_eq, nat_lt, nat_le, if◌then◌else◌, Bool, true, false, not, Option, Some, None, option_and_then}
 use Rattle.definitions.specs.declared.kinds.Kind.{Kind}
 use Rattle.controllers.specs.Reflectors.{Listed, list_of, fed}
 use Rattle.controllers.specs.declared.reflectors.End.{End}
@@ -12,7 +12,7 @@ use Rattle.client.specs.declared.more.More.{More}
 use Rattle.client.specs.declared.more.More.TheVariants as more
 use Rattle.remote.specs.declared.api.Opened.{Opened}
 use Rattle.remote.specs.declared.api.Opened.TheVariants as opened
-use Rattle.following.specs.Followers.{Follower, after_bytes, after_cut, after_expiry}
+use Rattle.following.specs.Followers.{Follower, after_bytes, after_cut, after_expiry, after_refusal}
 use Rattle.following.specs.Recognized.{is_refusal}
 use Rattle.following.specs.declared.tries.Piece.{Piece}
 use Rattle.following.specs.declared.tries.Piece.TheVariants as piece
@@ -42,6 +42,16 @@ after_opened opened.Open f = f
 after_opened opened.Expired f = after_expiry f
 after_opened (opened.Refused code) f = if nat_eq code 429 then f else after_expiry f
 after_opened opened.Lost f = f
+
+-- where a server does not know such streams, or refuses what is asked with them, a list is asked for until one is taken in; else as a watch
+abbrev pub is_refusal_of_streams : ℕ → Bool
+is_refusal_of_streams code = nat_eq code 400 || nat_eq code 422
+
+abbrev pub after_stream_opened : Opened → Follower → Follower
+after_stream_opened opened.Open f = f
+after_stream_opened opened.Expired f = after_expiry f
+after_stream_opened (opened.Refused code) f = if is_refusal_of_streams code then after_refusal f else after_opened (opened.Refused code) f
+after_stream_opened opened.Lost f = f
 
 -- the bytes that came, at the front of a buffer
 abbrev pub piece_in : More → List ℕ → Option (List ℕ)

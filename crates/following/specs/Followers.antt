@@ -17,6 +17,10 @@ pub record Follower : Type 0 where
 abbrev pub begun_over : Kind → Informer → Follower
 begun_over k i = record { reflector = reflectors.begun k; informer = i }
 
+-- nothing was taken in, and a stream of initial events is asked for in place of a list
+abbrev pub begun_streaming_over : Kind → Informer → Follower
+begun_streaming_over k i = record { reflector = reflectors.begun_streaming k; informer = i }
+
 -- a list that was read replaces the whole map at the next publish; another body changes nothing
 abbrev pub after_list : Option Listed → Follower → Follower
 after_list None f = f
@@ -36,6 +40,10 @@ after_cut f = record { reflector = reflectors.cut f.reflector; informer = f.info
 -- after an expiry a list is asked for
 abbrev pub after_expiry : Follower → Follower
 after_expiry f = record { reflector = reflectors.expired f.reflector; informer = f.informer }
+
+-- after a stream is refused a list is asked for
+abbrev pub after_refusal : Follower → Follower
+after_refusal f = record { reflector = reflectors.refused f.reflector; informer = f.informer }
 
 -- all that waits is published at once
 abbrev pub published : Follower → Follower

@@ -1,7 +1,7 @@
 //! What a follower makes of what a server answers.
 ghost use Rattle.std.specs.Prelude.{◌≡◌, OnOk, OnErr, IfErr, IsSome, option_map};
 ghost use Rattle.following.specs.Followers.{after_list};
-ghost use Rattle.following.specs.Answered.{body_in, is_left_open, listed_in, RefusesAnswer, after_opened, piece_in, IsPieceTaken};
+ghost use Rattle.following.specs.Answered.{body_in, is_left_open, listed_in, RefusesAnswer, after_opened, is_refusal_of_streams, after_stream_opened, piece_in, IsPieceTaken};
 
 use crate::follower::Follower;
 use crate::recognizing::is_refusal;
@@ -17,6 +17,18 @@ const OK: u16 = 200;
 
 /// The status code by which a server asks for patience (RFC 6585, 429 Too Many Requests).
 const TOO_MANY_REQUESTS: u16 = 429;
+
+/// The status codes by which a server refuses streams of initial events (RFC 9110, 400 Bad Request and 422 Unprocessable Content).
+const BAD_REQUEST: u16 = 400;
+
+const UNPROCESSABLE: u16 = 422;
+
+/// Returns whether a server refuses streams of initial events by a status code.
+fn is_refusal_of_streams(code: u16) -> bool
+    ensures { result ≡ is_refusal_of_streams code }
+{
+    code == BAD_REQUEST || code == UNPROCESSABLE
+}
 
 /// Returns the bytes that came, at the front of the buffer, if some did.
 pub(crate) fn piece_in(more: More, buffer: &[u8]) -> Option<&[u8]>
@@ -82,6 +94,17 @@ impl<I: Publishing> Follower<I> {
                     self.on_expired();
                 }
             }
+        }
+    }
+
+    /// Takes in what became of the request for a stream of initial events. Where the server refuses such streams, a list is asked for next; else as
+    /// for a watch.
+    pub(crate) fn on_stream_opened(&mut self, opened: Opened)
+        ensures { self.new ≡ after_stream_opened opened self.old }
+    {
+        match opened {
+            Opened::Refused(code) if is_refusal_of_streams(code) => self.on_refused(),
+            _ => self.on_opened(opened),
         }
     }
 

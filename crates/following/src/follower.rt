@@ -31,7 +31,7 @@ impl<I: Publishing> Follower<I> {
     ghost use Rattle.controllers.specs.Reflectors.{asks, fed, list_of};
     ghost use Rattle.indexer.specs.Shifted.{shift_of};
     ghost use Rattle.reflector.specs.Deltas.{RefusesList};
-    ghost use Rattle.following.specs.Followers.{begun_over, after_list, after_bytes, after_cut, after_expiry, published, changes_of};
+    ghost use Rattle.following.specs.Followers.{begun_over, begun_streaming_over, after_list, after_bytes, after_cut, after_expiry, after_refusal, published, changes_of};
 
     /// Returns a follower of a kind that took nothing in yet, over an informer: it asks for a list.
     pub fn new(alloc: Global, kind: Kind, informer: I) -> Follower<I>
@@ -39,6 +39,16 @@ impl<I: Publishing> Follower<I> {
     {
         Follower {
             reflector: Reflector::new(alloc, kind),
+            informer,
+        }
+    }
+
+    /// Returns a follower of a kind that took nothing in yet, over an informer: it asks for a stream of initial events in place of a list.
+    pub fn streaming(alloc: Global, kind: Kind, informer: I) -> Follower<I>
+        ensures { result ≡ begun_streaming_over kind (I.informer_of informer) }
+    {
+        Follower {
+            reflector: Reflector::streaming(alloc, kind),
             informer,
         }
     }
@@ -104,6 +114,13 @@ impl<I: Publishing> Follower<I> {
         ensures { self.new ≡ after_expiry self.old }
     {
         self.reflector.on_expired();
+    }
+
+    /// Takes in that the server refuses a stream of initial events: a list is asked for, until one is taken in. It takes no memory.
+    pub fn on_refused(&mut self)
+        ensures { self.new ≡ after_refusal self.old }
+    {
+        self.reflector.on_refused();
     }
 
     /// Publishes all that waits, and returns what that changes, in order; none where nothing waits, as before the first list. The error

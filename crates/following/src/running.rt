@@ -24,7 +24,24 @@ struct Known {
     is_in_doubt: bool,
 }
 
-/// Asks for what the follower is to ask next, and takes in what comes.
+/// Reads the watch that was asked for to its end, if it is open. Returns what came of it, and whether it may be another server that is asked next.
+fn read_on<I: Publishing, A: Api, T: Timer, S: Sink>(
+    alloc: Global,
+    opened: Opened,
+    follower: &mut Follower<I>,
+    owed: &mut Owed,
+    api: &mut A,
+    timer: &mut T,
+    sink: &mut S,
+) -> (Tried, bool) {
+    if opened == Opened::Open {
+        watch(alloc, follower, owed, api, timer, sink)
+    } else {
+        (Tried::Failed, is_left_open(opened))
+    }
+}
+
+/// Asks for what the follower is to ask next, and takes in what comes. A list follows at once where streams of initial events are refused.
 fn ask<I: Publishing, A: Api, T: Timer, S: Sink>(
     alloc: Global,
     kind: Kind,
@@ -40,14 +57,20 @@ fn ask<I: Publishing, A: Api, T: Timer, S: Sink>(
             let tried = list(alloc, kind, follower, owed, api, sink);
             (tried, follower.next() == Ask::List)
         }
+        Ask::Stream => {
+            let opened = api.open_stream(alloc, kind);
+            follower.on_stream_opened(opened);
+            match follower.next() {
+                Ask::List => (Tried::Done, false),
+                Ask::Stream | Ask::Watch(_) => {
+                    read_on(alloc, opened, follower, owed, api, timer, sink)
+                }
+            }
+        }
         Ask::Watch(revision) => {
             let opened = api.open_watch(alloc, kind, revision);
             follower.on_opened(opened);
-            if opened == Opened::Open {
-                watch(alloc, follower, owed, api, timer, sink)
-            } else {
-                (Tried::Failed, is_left_open(opened))
-            }
+            read_on(alloc, opened, follower, owed, api, timer, sink)
         }
     };
     known.is_in_doubt = is_in_doubt;

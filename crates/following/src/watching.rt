@@ -11,6 +11,7 @@ use crate::tails::Tail;
 use crate::timers::Timer;
 use crate::tries::{Left, Piece, Tried};
 use client::More;
+use controllers::reflectors::Ask;
 use informer::Publishing;
 use remote::Api;
 use std::alloc::Global;
@@ -28,7 +29,7 @@ fn note<A: Api>(api: &mut A, piece: Piece, bytes: &[u8]) {
 }
 
 /// Takes in bytes of a watch, after those of a frame that is not whole, and returns what came of them. Where they name a revision below the one
-/// that was taken in last, it is another server that sends them.
+/// that was taken in last, it is another server that sends them, but not where initial events are under way, which may name any.
 fn take_in<I: Publishing, A: Api, S: Sink>(
     alloc: Global,
     bytes: &[u8],
@@ -37,9 +38,10 @@ fn take_in<I: Publishing, A: Api, S: Sink>(
     api: &mut A,
     sink: &mut S,
 ) -> Piece {
+    let is_opening = follower.next() == Ask::Stream;
     let last = follower.look().revision();
     let piece = follower.on_piece(alloc, bytes);
-    if piece == Piece::Unreadable && tail.falls(alloc, bytes, last) {
+    if piece == Piece::Unreadable && !is_opening && tail.falls(alloc, bytes, last) {
         sink.other_server();
         return piece;
     }
@@ -81,7 +83,7 @@ fn over(more: More, gave: bool) -> Left
     }
 }
 
-/// Reads the watch that is open to its end, or to what cannot be taken in.
+/// Reads the watch that is open to its end, or to what cannot be taken in. It has given nothing while initial events are under way.
 fn read<I: Publishing, A: Api, S: Sink>(
     alloc: Global,
     follower: &mut Follower<I>,
@@ -101,7 +103,7 @@ fn read<I: Publishing, A: Api, S: Sink>(
         if let Some(left) = leaves(piece, follower, owed, sink) {
             return left;
         }
-        gave = true;
+        gave = follower.next() != Ask::Stream;
     }
     Left::Ended(gave)
 }

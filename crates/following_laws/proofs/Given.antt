@@ -6,7 +6,7 @@ use Rattle.controllers.specs.Reflectors.{Delta, Listed, list_of, apply_delta, ap
 use Rattle.controllers.specs.Shifts.{Shift, shifts_of, all_shifts}
 use Rattle.informer_laws.proofs.Publishing.{applied_both, applied_members}
 use Rattle.following.specs.Followers.{Follower, after_list, changes_in, published_unless, owed_after}
-use Rattle.following_laws.specs.GivenLaws.{Told, Step, listed, bytes, cut, expired, publish, give, after_step, after_steps, owed_in, told_nothing, IsGivenOnce, ChangesAreGivenOnce}
+use Rattle.following_laws.specs.GivenLaws.{Told, Step, listed, bytes, cut, expired, refused, publish, give, after_step, after_steps, owed_in, told_nothing, IsGivenOnce, ChangesAreGivenOnce}
 
 shifts_both : (ms : Entries) (ds es : List Delta) → all_shifts ms (ds ++ es) ≡ all_shifts ms ds ++ all_shifts (apply_deltas ms ds) es
 shifts_both ms [] es = refl
@@ -43,6 +43,7 @@ kept i (listed body) t is = record { deltas = is.deltas; published = list_publis
 kept i (bytes piece) t is = record { deltas = is.deltas; published = is.published; changes = is.changes }
 kept i cut t is = record { deltas = is.deltas; published = is.published; changes = is.changes }
 kept i expired t is = record { deltas = is.deltas; published = is.published; changes = is.changes }
+kept i refused t is = record { deltas = is.deltas; published = is.published; changes = is.changes }
 kept i publish t is = published_kept i t.follower t.owed t.taken is.deltas is.published is.changes
 kept i give t is = record { deltas = is.deltas; published = is.published; changes = append-nil (t.taken ++ owed_in t.owed) ∙ is.changes }
 
@@ -51,4 +52,4 @@ all_kept i [] t is = is
 all_kept i (s ∷ ss) t is = all_kept i ss (after_step s t) (kept i s t is)
 
 pub given_once : ChangesAreGivenOnce
-given_once k i ss = all_kept i ss (told_nothing k i) (record { deltas = []; published = refl; changes = refl })
+given_once f ss = all_kept f.informer ss (told_nothing f) (record { deltas = []; published = refl; changes = refl })

@@ -1,12 +1,12 @@
 -- Laws of what followers publish.
-use Rattle.std.specs.Prelude.{◌≡◌, ◌≤◌, ℕ, List, [], ◌∷◌, ◌++◌, flat_map}
+use Rattle.std.specs.Prelude.{◌≡◌, ◌≤◌, ◌⊎◌, ℕ, List, [], ◌∷◌, ◌++◌, flat_map}
 use Rattle.definitions.specs.declared.kinds.Kind.{Kind}
 use Rattle.definitions.specs.History.{History, list}
 use Rattle.definitions.specs.Reached.{IsReached}
 use Rattle.definitions.specs.Streams.{Line, text_of_lines}
 use Rattle.controllers.specs.Reflectors.{list_of}
 use Rattle.laws.specs.SentLaws.{whole, IsListText}
-use Rattle.reflector.specs.Laws.{IsAt, IsServed}
+use Rattle.reflector.specs.Laws.{IsAt, IsAtStart, IsServed, IsServedInitial}
 use Rattle.following.specs.Followers.{Follower, after_list, after_bytes, after_cut, published}
 
 -- of a kind, it has published the server's list at a revision, from which it watches, and nothing waits
@@ -35,3 +35,22 @@ PiecesAreShown =
     → (let g = after_pieces f pieces in (a ≤ g.reflector.revision) × (g.reflector.revision ≤ b)
     × (g.informer.published ≡ record { members = list h (whole k) g.reflector.revision; revision = g.reflector.revision })
     × Shows h k g.reflector.revision (after_cut g))
+
+-- of a kind, it asks for a stream of initial events, has published what its reflector was given, and nothing waits
+pub record Starts (k : Kind) (f : Follower) : Type 0 where
+  pub kind : f.reflector.kind ≡ k
+  pub at : IsAtStart f.reflector
+  pub named : f.informer.published.revision ≡ f.reflector.revision
+  pub pending : f.informer.pending ≡ []
+
+-- whoever asked a server: who asks for a stream of initial events, and takes in whatever part of the one from a, in whatever pieces, has published
+-- what it had, and where the stream is cut then, it asks for one anew; or it has published the list at the revision named, and where it is cut
+-- then, it shows that list
+abbrev pub InitialStreamsAreShown : Type 0
+InitialStreamsAreShown =
+    (h : History) (k : Kind) (a b : ℕ) (ls : List Line) (f : Follower) (pieces : List (List ℕ)) (more : List ℕ) → Starts k f → IsServedInitial h k a b ls
+    → flat_map (λ p. p) pieces ++ more ≡ text_of_lines k ls
+    → (let g = after_pieces f pieces in ((g.informer.published ≡ f.informer.published) × Starts k (after_cut g))
+    ⊎ ((a ≤ g.reflector.revision) × (g.reflector.revision ≤ b)
+    × (g.informer.published ≡ record { members = list h (whole k) g.reflector.revision; revision = g.reflector.revision })
+    × Shows h k g.reflector.revision (after_cut g)))

@@ -1,5 +1,5 @@
 //! Laws of what followers publish.
-ghost use Rattle.following_laws.specs.FollowerLaws.{ListsAreShown, PiecesAreShown};
+ghost use Rattle.following_laws.specs.FollowerLaws.{ListsAreShown, PiecesAreShown, InitialStreamsAreShown};
 ghost use Rattle.following_laws.specs.GivenLaws.{ChangesAreGivenOnce};
 
 /// Whoever asked a server: a follower that takes in its list and publishes has the server's list at that revision, whatever it had
@@ -15,8 +15,14 @@ pub fn pieces_are_shown()
     ensures { PiecesAreShown }
 {}
 
-/// Whatever lists, bytes, cuts and expiries come, and whenever a sink takes what it is owed: deltas lead from the map that the informer began with
-/// to what is published, and what the sink has taken and then what it is owed are their changes, in order, each once.
+/// Whoever asked a server: a follower that asks for a stream of initial events, and takes in whatever part of it, in whatever pieces, publishing
+/// after each, shows what it showed until the initial events are closed, and from then on the server's list at the revision that it names.
+pub fn initial_streams_are_shown()
+    ensures { InitialStreamsAreShown }
+{}
+
+/// Whatever lists, bytes, cuts, expiries and refusals come, and whenever a sink takes what it is owed: deltas lead from the map that the informer
+/// began with to what is published, and what the sink has taken and then what it is owed are their changes, in order, each once.
 pub fn changes_are_given_once()
     ensures { ChangesAreGivenOnce }
 {}

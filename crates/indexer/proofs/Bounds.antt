@@ -15,7 +15,7 @@ use Rattle.keys.proofs.KeyOrder.{key_cmp-name_cmp}
 use Rattle.indexer.specs.Links.{link_of, link_cmp, first_name, first_link}
 use Rattle.indexer.specs.declared.links.Link.{Link}
 use Rattle.indexer.proofs.LinkSets.{pair_cmp, link_cmp-pair}
-use Rattle.indexer.proofs.SeenMaps.{key_cmp}
+use Rattle.reflector.proofs.SeenMaps.{key_cmp}
 
 -- ---- texts
 

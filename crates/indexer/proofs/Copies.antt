@@ -5,9 +5,9 @@ use Rattle.definitions.specs.Keys.{key_cmp as name_cmp}
 use Rattle.keys.specs.Keys.{key_of}
 use Rattle.keys.specs.declared.key.Key.{Key}
 use Rattle.controllers.specs.Shifts.{overlaid}
-use Rattle.indexer.specs.Seen.{members_seen}
+use Rattle.reflector.specs.Seen.{members_seen}
 use Rattle.reflector.specs.declared.shared_objects.SharedObject.{SharedObject}
-use Rattle.indexer.proofs.SeenMaps.{key_cmp, seen-put_entry}
+use Rattle.reflector.proofs.SeenMaps.{key_cmp, seen-put_entry}
 use Rattle.shared_map.specs.Entries.{put_entry}
 
 -- one more entry is laid

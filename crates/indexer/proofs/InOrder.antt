@@ -8,8 +8,8 @@ use Rattle.keys.specs.Keys.{key_of}
 use Rattle.keys.specs.declared.key.Key.{Key}
 use Rattle.keys.proofs.KeyOrder.{key_cmp-name_cmp}
 use Rattle.reflector.specs.declared.shared_objects.SharedObject.{SharedObject}
-use Rattle.indexer.specs.Seen.{members_seen}
-use Rattle.indexer.proofs.SeenMaps.{key_cmp}
+use Rattle.reflector.specs.Seen.{members_seen}
+use Rattle.reflector.proofs.SeenMaps.{key_cmp}
 
 above_seen : (k : Key) (es : List (Key × SharedObject)) → AllByRecursion (λ (y : Key). key_cmp k y ≡ Less) (keys_of es) → AllByRecursion (λ (y : Name). name_cmp (key_of k) y ≡ Less) (keys_of (members_seen es))
 above_seen k [] h = tt

@@ -19,10 +19,11 @@ use Rattle.keys.specs.declared.key.Key.{Key}
 use Rattle.keys.proofs.KeyOrder.{key_cmp-name_cmp}
 use Rattle.reflector.specs.declared.shared_objects.SharedObject.{SharedObject}
 use Rattle.indexer.specs.Links.{link_of, link_to, links_at, has_link, IsIndexOf, Relinks}
-use Rattle.indexer.specs.Seen.{members_seen}
+use Rattle.reflector.specs.Seen.{members_seen}
 use Rattle.indexer.specs.declared.links.Link.{Link}
 use Rattle.indexer.proofs.LinkSets.{pair_cmp, link_cmp-pair, is-Equal, is_eq-reverse}
-use Rattle.indexer.proofs.SeenMaps.{key_cmp, data_of, seen-lookup}
+use Rattle.reflector.proofs.SeenMaps.{key_cmp, data_of}
+use Rattle.indexer.proofs.SeenMaps.{seen-lookup}
 
 -- ---- the links of one object
 

@@ -24,11 +24,12 @@ use Rattle.keys.specs.declared.key.Key.{Key}
 use Rattle.keys.proofs.KeyOrder.{key_cmp-name_cmp}
 use Rattle.reflector.specs.declared.shared_objects.SharedObject.{SharedObject}
 use Rattle.indexer.specs.Links.{link_of, link_cmp, has_link, IsIndexOf}
-use Rattle.indexer.specs.Seen.{members_seen}
+use Rattle.reflector.specs.Seen.{members_seen}
 use Rattle.indexer.specs.declared.links.Link.{Link}
 use Rattle.indexer.proofs.LinkSets.{link_cmp-pair, is-Equal}
 use Rattle.indexer.proofs.LinkIndex.{is_pair}
-use Rattle.indexer.proofs.SeenMaps.{key_cmp, data_of, seen-lookup}
+use Rattle.reflector.proofs.SeenMaps.{key_cmp, data_of}
+use Rattle.indexer.proofs.SeenMaps.{seen-lookup}
 use Rattle.indexer.proofs.Walks.{picked, passing, walked}
 use Rattle.std.proofs.lemmas.Map.Text.{is_eq-slice_cmp}
 

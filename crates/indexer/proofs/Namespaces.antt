@@ -18,7 +18,8 @@ use Rattle.controllers.specs.Informers.{of_namespace}
 use Rattle.keys.specs.Keys.{key_of}
 use Rattle.keys.specs.declared.key.Key.{Key}
 use Rattle.reflector.specs.declared.shared_objects.SharedObject.{SharedObject}
-use Rattle.indexer.specs.Seen.{members_seen, of_kind}
+use Rattle.reflector.specs.Seen.{members_seen}
+use Rattle.indexer.specs.Seen.{of_kind}
 use Rattle.indexer.proofs.LinkSets.{is_eq-reverse}
 
 -- ---- one kind after another

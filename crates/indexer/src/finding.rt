@@ -5,7 +5,8 @@ ghost use Rattle.keys.specs.Keys.{key_of};
 ghost use Rattle.controllers.specs.Informers.{of_namespace, of_owner};
 ghost use Rattle.turns.specs.Entries.{entry_of};
 ghost use Rattle.indexer.specs.Links.{link_of, first_name, first_link, IsIndexOf};
-ghost use Rattle.indexer.specs.Seen.{members_seen, of_kind};
+ghost use Rattle.reflector.specs.Seen.{members_seen};
+ghost use Rattle.indexer.specs.Seen.{of_kind};
 
 use crate::links::Link;
 use definitions::kinds::Kind;

@@ -23,7 +23,7 @@ impl Model for ObjectMap {
     ghost use Rattle.std.specs.Map.{keys_of};
     ghost use Rattle.server_state.specs.Codes.{coded_members};
     ghost use Rattle.indexer.specs.Links.{IsIndexOf};
-    ghost use Rattle.indexer.specs.Seen.{members_seen};
+    ghost use Rattle.reflector.specs.Seen.{members_seen};
 
     ghost Value = { Entries };
 
@@ -41,7 +41,7 @@ impl ObjectMap {
     ghost use Rattle.definitions.specs.Keys.{key_cmp};
     ghost use Rattle.controllers.specs.Informers.{of_namespace, of_owner};
     ghost use Rattle.controllers.specs.Shifts.{overlaid};
-    ghost use Rattle.indexer.specs.Seen.{members_seen};
+    ghost use Rattle.reflector.specs.Seen.{members_seen};
     ghost use Rattle.turns.specs.Entries.{entry_of};
     ghost use Rattle.keys.specs.Keys.{key_of};
     ghost use Rattle.definitions.specs.History.{found, put_or_remove};

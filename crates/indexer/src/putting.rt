@@ -7,7 +7,7 @@ ghost use Rattle.controllers.specs.Shifts.{overlaid};
 ghost use Rattle.std.specs.BTreeMap.{insert_entry};
 ghost use Rattle.std.specs.Map.{keys_of};
 ghost use Rattle.indexer.specs.Links.{link_of, links_at, IsIndexOf};
-ghost use Rattle.indexer.specs.Seen.{members_seen};
+ghost use Rattle.reflector.specs.Seen.{members_seen};
 
 use crate::links::{Link, links_of, relink, relinked};
 use keys::Key;

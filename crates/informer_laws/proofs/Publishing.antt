@@ -10,10 +10,10 @@ use Rattle.definitions.specs.Reading.{reading}
 use Rattle.server_state.specs.Snapshots.{Snapshot}
 use Rattle.controllers.specs.declared.reflectors.End.{End}
 use Rattle.controllers.specs.declared.reflectors.Phase.{Phase}
-use Rattle.controllers.specs.declared.reflectors.Phase.TheVariants.{Listing, Watching}
+use Rattle.controllers.specs.declared.reflectors.Phase.TheVariants.{Listing, Streaming, Watching}
 use Rattle.controllers.specs.Informers.{revision_after, applied, all_applied}
 use Rattle.controllers.specs.ReadFrames as frames
-use Rattle.controllers.specs.Reflectors.{Reflector, Delta, Shown, Step, revision, has_identity, shown, shown_read, shown_above, if_above, or_unreadable, put_step, remove_step, mark_step, marked, step, step_by, run, going_on, fed, fed_in, all_fed, apply_deltas, list_delta, with_list}
+use Rattle.controllers.specs.Reflectors.{Reflector, Delta, replace, objects_of, Shown, Step, revision, has_identity, shown, shown_read, shown_above, if_above, or_unreadable, put_step, remove_step, mark_step, marked, step, step_by, run, going_on, Initial, Opening, under_way, closed, opening_step, opens_on, open_run, Fed, fed, fed_in, joined, all_fed, apply_deltas, list_delta, with_list}
 use Rattle.reflector.proofs.Served.{list_served}
 use Rattle.informer_laws.specs.PublishLaws.{InformersShowLists}
 
@@ -69,11 +69,23 @@ run_names (e ∷ es) k last m at = by (λ (t : Step) (named : revision_after m.r
     by more (Err x) is = at
     by more (Ok t) is = more t (step_names e.kind k last e.object m.revision t is)
 
+-- until the closing bookmark nothing is named, and then its revision
+opened_names : (es : List Frame) (k : Kind) (last : ℕ) (i : Initial) (m : Snapshot) → m.revision ≡ last → (all_applied m (open_run k last i es).run.deltas).revision ≡ (open_run k last i es).run.revision
+opened_names [] k last i m at = at
+opened_names (e ∷ es) k last i m at = by (opening_step k i e) (λ j. opened_names es k last j m at)
+  where
+    by : (o : Result Opening End) → ((j : Initial) → (all_applied m (open_run k last j es).run.deltas).revision ≡ (open_run k last j es).run.revision)
+        → (let c = opens_on last i (λ j. open_run k last j es) (λ r. run k r es) o in (all_applied m c.run.deltas).revision ≡ c.run.revision)
+    by (Err x) more = at
+    by (Ok (under_way j)) more = more j
+    by (Ok (closed r)) more = run_names es k r (applied m (replace r (objects_of i.members))) refl
+
 pub fed_names : (s : Reflector) (piece : List ℕ) (m : Snapshot) → m.revision ≡ s.revision → (all_applied m (fed s piece).deltas).revision ≡ (fed s piece).after.revision
 fed_names s piece m at = by s.phase
   where
     by : (p : Phase) → (all_applied m (fed_in p (s.buffered ++ piece) s).deltas).revision ≡ (fed_in p (s.buffered ++ piece) s).after.revision
     by Listing = at
+    by Streaming = opened_names (frames.reading (s.buffered ++ piece)).events s.kind s.revision s.initial m at
     by Watching = run_names (frames.reading (s.buffered ++ piece)).events s.kind s.revision m at
 
 pub applied_both : (m : Snapshot) (ds es : List Delta) → all_applied m (ds ++ es) ≡ all_applied (all_applied m ds) es
@@ -82,8 +94,12 @@ applied_both m (d ∷ ds) es = applied_both (applied m d) ds es
 
 pub all_fed_names : (ps : List (List ℕ)) (s : Reflector) (m : Snapshot) → m.revision ≡ s.revision → (all_applied m (all_fed s ps).deltas).revision ≡ (all_fed s ps).after.revision
 all_fed_names [] s m at = at
-all_fed_names (p ∷ ps) s m at =
-    ap (λ (m : Snapshot). m.revision) (applied_both m (fed s p).deltas (all_fed (fed s p).after ps).deltas) ∙ all_fed_names ps (fed s p).after (all_applied m (fed s p).deltas) (fed_names s p m at)
+all_fed_names (p ∷ ps) s m at = by (fed s p) (all_fed (fed s p).after ps) (fed s p).ended (fed_names s p m at) (λ n there. all_fed_names ps (fed s p).after n there)
+  where
+    by : (f g : Fed) (e : Option End) → (all_applied m f.deltas).revision ≡ f.after.revision → ((n : Snapshot) → n.revision ≡ f.after.revision → (all_applied n g.deltas).revision ≡ g.after.revision)
+        → (all_applied m (joined e f g).deltas).revision ≡ (joined e f g).after.revision
+    by f g (Some e) here more = here
+    by f g None here more = ap (λ (m : Snapshot). m.revision) (applied_both m f.deltas g.deltas) ∙ more (all_applied m f.deltas) here
 
 pub applied_members : (m : Snapshot) (ds : List Delta) → (all_applied m ds).members ≡ apply_deltas m.members ds
 applied_members m [] = refl

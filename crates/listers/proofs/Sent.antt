@@ -1,4 +1,4 @@
--- Listers and informers may be sent to threads.
+-- Listers, informers and reflectors may be sent to threads.
 use denote.RattleType.{RattleType}
 use denote.Hole.{as_row}
 use denote.Ref.{NamedLft, ShrRef}
@@ -32,6 +32,10 @@ use Rattle.indexer.specs.contracts.objects.ObjectMap.TheInside as ObjectsInside
 use Rattle.indexer.specs.contracts.indexed.Indexed as Indexed
 use Rattle.indexer.specs.contracts.indexed.Indexed.TheInside as IndexedInside
 use Rattle.reflector.specs.contracts.deltas.Delta as Delta
+use Rattle.reflector.specs.contracts.initials.Initial as Initial
+use Rattle.reflector.specs.contracts.initials.Initial.TheInside as InitialInside
+use Rattle.reflector.specs.contracts.reflectors.Reflector as Reflector
+use Rattle.reflector.specs.contracts.reflectors.Reflector.TheInside as ReflectorInside
 use Rattle.listers.specs.contracts.published.Published as Published
 use Rattle.listers.specs.contracts.views.View as View
 use Rattle.listers.specs.contracts.published.PublishedAbsorbSharedDelta.TheImpl as absorbs
@@ -151,6 +155,18 @@ indexed_send = search (indexed_inside_send, view_send)
 
 indexed_sync : IsSync Indexed.the_row
 indexed_sync = search (indexed_inside_sync, view_sync)
+
+initial_inside_send : IsSend InitialInside.the_row
+initial_inside_send = search (map_send, key_send, key_sync, shared_send, shared_sync, heap.send, sendable) depth 40
+
+initial_send : IsSend Initial.the_row
+initial_send = search (initial_inside_send, view_send)
+
+reflector_inside_send : IsSend ReflectorInside.the_row
+reflector_inside_send = search (initial_send, kind.the_field_send, heap.crosses, sendable) depth 40
+
+pub reflector_send : IsSend Reflector.the_row
+reflector_send = search (reflector_inside_send, view_send)
 
 published_send : IsSend Published.the_row
 published_send = search (indexed_send, sendable) depth 30

@@ -1,5 +1,6 @@
 -- What one connection makes of what answers it, as a relation between its seat before and after, whatever is written.
-use Rattle.std.specs.Prelude.{◌≡◌, ◌⊎◌, ℕ, List, Bool, Option, Ok}
+use Rattle.std.specs.Prelude.{◌≡◌, ◌⊎◌, ℕ, List, Bool, Ok}
+use Rattle.definitions.specs.declared.versions.Start.{Start}
 use Rattle.definitions.specs.History.{View}
 use Rattle.definitions.specs.ListQueries.{ListOptions}
 use Rattle.definitions.specs.ObjectRequests.{Request}
@@ -27,14 +28,14 @@ module _ {R : Type 0} where
   IsListed s t = (v : View) × (options : ListOptions) × (o : Outcome) × Lists IsAny s v options o t
 
   -- a watch opens there, and then looks some times, each time from where it stands after the look before
-  abbrev pub IsFollowed : View → Bool → Option ℕ → Seat Anything Ringer R → Seat Anything Ringer R → Type 0
-  IsFollowed v bookmarks from s t =
-      (o : Opening) × (mid : Seat Anything Ringer R) × (looks : List Look) × Opens (Begins IsAny) (Watches IsAny) v bookmarks s from (Ok o) mid × Looks (Watches IsAny) v mid o.stands looks t
+  abbrev pub IsFollowed : View → Bool → Start → Seat Anything Ringer R → Seat Anything Ringer R → Type 0
+  IsFollowed v bookmarks start s t =
+      (o : Opening) × (mid : Seat Anything Ringer R) × (looks : List Look) × Opens (Begins IsAny) (Watches IsAny) v bookmarks s start (Ok o) mid × Looks (Watches IsAny) v mid o.stands looks t
 
   -- it is asked for some watch, which is refused or followed
   abbrev pub IsWatched : Seat Anything Ringer R → Seat Anything Ringer R → Type 0
   IsWatched s t =
-      (v : View) × (bookmarks : Bool) × (from : Option ℕ) × (((e : Fault) × Refuses (Begins IsAny) (Watches IsAny) v bookmarks s t from e) ⊎ IsFollowed v bookmarks from s t)
+      (v : View) × (bookmarks : Bool) × (start : Start) × (((e : Fault) × Refuses (Begins IsAny) (Watches IsAny) v bookmarks s t start e) ⊎ IsFollowed v bookmarks start s t)
 
   -- one connection does nothing at a seat, or asks one thing: a request, a list or a watch
   abbrev pub IsServed : Seat Anything Ringer R → Seat Anything Ringer R → Type 0

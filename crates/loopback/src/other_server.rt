@@ -41,6 +41,20 @@ impl<R: Net<Stream = TcpStream> + Eprint, A: Api + Drop> OtherServer<'_, R, A> {
         }
         answer
     }
+
+    /// Looks at the server where a watch was asked for and nothing was answered, and notes the code that it was answered with. A reply of success
+    /// that is no watch is not understood.
+    fn look_after(&self, opened: Opened) {
+        match opened {
+            Opened::Lost => self.connector.look(),
+            Opened::Refused(code) if code == OK => {
+                self.connector.teller().note(Trouble::Unreadable)
+            }
+            Opened::Refused(code) => self.connector.teller().note_answered(code),
+            Opened::Expired => {}
+            Opened::Open => self.connector.teller().note_answered(OK),
+        }
+    }
 }
 
 impl<R: Net<Stream = TcpStream> + Eprint, A: Api + Drop> Api for OtherServer<'_, R, A> {
@@ -65,12 +79,13 @@ impl<R: Net<Stream = TcpStream> + Eprint, A: Api + Drop> Api for OtherServer<'_,
 
     fn open_watch(&mut self, alloc: Global, kind: Kind, revision: u64) -> Opened {
         let opened = self.api.open_watch(alloc, kind, revision);
-        match opened {
-            Opened::Lost => self.connector.look(),
-            Opened::Refused(code) => self.connector.teller().note_answered(code),
-            Opened::Expired => {}
-            Opened::Open => self.connector.teller().note_answered(OK),
-        }
+        self.look_after(opened);
+        opened
+    }
+
+    fn open_stream(&mut self, alloc: Global, kind: Kind) -> Opened {
+        let opened = self.api.open_stream(alloc, kind);
+        self.look_after(opened);
         opened
     }
 

@@ -123,6 +123,10 @@ impl<R: Wait + Clock, C: Connect + Drop> Api for OwnServer<'_, R, C> {
         self.remote.open_watch(alloc, kind, revision)
     }
 
+    fn open_stream(&mut self, alloc: Global, kind: Kind) -> Opened {
+        self.remote.open_stream(alloc, kind)
+    }
+
     fn more(&mut self, buf: &mut [u8]) -> More {
         self.remote.more(buf)
     }

@@ -5,7 +5,7 @@ use denote.Hole.{as_row}
 use denote.Ref.{NamedLft, ShrRef}
 use denote.Struct.Field as Field
 use denote.Struct.Field.{usize-field, u64-field}
-use denote.Param.Send.{IsSend, IsSync, sendable}
+use denote.Param.Send.{IsSend, IsSync, sendable, view_send}
 use denote.Param.SendFields.{VariantsHave, declared_send, variants_send, as_row_send}
 use Rattle.core.specs.declared.sync.Wait as Wait
 use Rattle.std.proofs.Crossing as heap
@@ -20,10 +20,14 @@ use Rattle.control_desk.proofs.board.Board.TheSendSync as board
 use Rattle.control_desk.specs.contracts.board.Board as Board
 use Rattle.definitions.proofs.kinds.Kind.TheSendSync as kind
 use Rattle.definitions.specs.contracts.kinds.Kind as Kind
-use Rattle.following.proofs.follower.Follower.TheSendSync as follower_of
+use Rattle.following.specs.contracts.follower.Follower as Follower
+use Rattle.following.specs.contracts.follower.Follower.TheInside as FollowerInside
 use Rattle.indexer.specs.contracts.indexed.Indexed as Indexed
-use Rattle.listers.proofs.Sent.{lister, indexed_send, shared_informer}
+use Rattle.listers.proofs.Sent.{lister, indexed_send, reflector_send, shared_informer}
 use Rattle.listers.specs.contracts.listers.Lister as Lister
+use Rattle.listers.specs.contracts.shared.SharedInformer as SharedInformer
+use Rattle.listers.specs.contracts.shared.SharedInformerPublishing.TheImpl as publishes
+use Rattle.reflector.specs.contracts.reflectors.Reflector as Reflector
 use Rattle.shared_board.proofs.desks.ControlDesk.TheSendSync as desk
 use Rattle.shared_board.specs.contracts.desks.ControlDesk as ControlDesk
 use Rattle.shared_board.specs.contracts.entries.Entry as Entry
@@ -82,9 +86,16 @@ module _ (a : NamedLft) (R : RattleType) (r : IsSync R) where
     api : IsSend (as_row (Field.row_field A))
     api = search (s, sendable)
 
+    follower_inside : IsSend (FollowerInside.the_row (SharedInformer.the_row a R) (publishes.ghosts R w publishes.no_dict))
+    follower_inside = declared_send (FollowerInside.the_type (SharedInformer.the_row a R) (publishes.ghosts R w publishes.no_dict))
+        (as_row_send Reflector.the_field reflector_send, (as_row_send (Field.row_field (SharedInformer.the_row a R)) (shared_informer a R r), tt))
+
+    follower : IsSend (Follower.the_row (SharedInformer.the_row a R) (publishes.ghosts R w publishes.no_dict))
+    follower = search (follower_inside, view_send)
+
     reflecting : IsSend (Reflecting.the_row a R A w)
     reflecting = declared_send (Reflecting.the_type a R A w)
-        (runtime, (alloc, (kind_sent, (lent_signals, (follower_of.the_send _ _ (shared_informer a R r), (api, (handler, tt)))))))
+        (runtime, (alloc, (kind_sent, (lent_signals, (as_row_send (Follower.the_field (SharedInformer.the_row a R) (publishes.ghosts R w publishes.no_dict)) follower, (api, (handler, tt)))))))
 
     module _ (G : RattleType) (g : IsSync G) where
       works : IsSend (Worker.the_row a R Listers.the_row A G)

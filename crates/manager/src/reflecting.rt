@@ -1,4 +1,7 @@
 //! A thread that follows a kind.
+ghost use Rattle.std.specs.Prelude.{◌≡◌};
+ghost use Rattle.controllers.specs.Reflectors.{begun_streaming};
+
 use crate::handling::Handler;
 use crate::timing::Wall;
 use definitions::kinds::Kind;
@@ -13,16 +16,39 @@ use worker_turns::Signals;
 /// What follows a kind at the server: a reflector and an informer, and what handles each change once it is published.
 #[derive(Drop)]
 pub struct Reflecting<'a, R: Wait, A: Drop> {
-    pub rt: &'a R,
-    pub alloc: Global,
-    pub kind: Kind,
-    pub signals: &'a Signals,
-    pub follower: Follower<SharedInformer<'a, R>>,
-    pub api: A,
-    pub handler: Handler<'a, R>,
+    rt: &'a R,
+    alloc: Global,
+    kind: Kind,
+    signals: &'a Signals,
+    follower: Follower<SharedInformer<'a, R>>,
+    api: A,
+    handler: Handler<'a, R>,
 }
 
-impl<R: Wait + Clock, A: Api + Drop> Reflecting<'_, R, A> {
+impl<'a, R: Wait + Clock, A: Api + Drop> Reflecting<'a, R, A> {
+    /// Returns what follows a kind of which nothing was taken in yet, over an informer: it asks for a stream of initial events in place of a list.
+    pub fn new(
+        rt: &'a R,
+        alloc: Global,
+        kind: Kind,
+        signals: &'a Signals,
+        informer: SharedInformer<'a, R>,
+        api: A,
+        handler: Handler<'a, R>,
+    ) -> Reflecting<'a, R, A>
+        ensures { result.follower.reflector ≡ begun_streaming kind }
+    {
+        Reflecting {
+            rt,
+            alloc,
+            kind,
+            signals,
+            follower: Follower::streaming(alloc, kind, informer),
+            api,
+            handler,
+        }
+    }
+
     /// Follows the kind until all is to stop.
     pub fn run(&mut self) {
         let mut wall = Wall::new(self.rt, &self.signals.stop);

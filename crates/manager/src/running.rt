@@ -8,7 +8,6 @@ use crate::members::Member;
 use crate::reflecting::Reflecting;
 use crate::ticking::Ticker;
 use definitions::kinds::Kind;
-use following::Follower;
 use listers::{Informer, SharedInformer};
 use remote::Api;
 use shared_board::{ControlDesk, WorkPass};
@@ -93,15 +92,16 @@ impl<'a, R: Threads + Wait + Clock + Sync, G: Gate> Floor<'a, R, G> {
     ) -> Member<'a, R, A, G>
         requires { IsNewAt self.now.desk.now pass }
     {
-        Member::Follows(Reflecting {
-            rt: self.rt,
-            alloc: self.alloc,
+        let handler = Handler::new(self.rt, self.alloc, self.desk, pass, self.signals, listers);
+        Member::Follows(Reflecting::new(
+            self.rt,
+            self.alloc,
             kind,
-            signals: self.signals,
-            follower: Follower::new(self.alloc, kind, informer),
+            self.signals,
+            informer,
             api,
-            handler: Handler::new(self.rt, self.alloc, self.desk, pass, self.signals, listers),
-        })
+            handler,
+        ))
     }
 
     /// Returns a worker.

@@ -162,6 +162,20 @@ impl<R: Wait + Clock> Api for SharedServer<'_, R> {
         }
     }
 
+    fn open_stream(&mut self, alloc: Global, kind: Kind) -> Opened {
+        let view = View::unfiltered(alloc, kind, None);
+        let Ok(begun) = self.seat.initial(alloc, &view, None) else {
+            return Opened::Lost;
+        };
+        match Watch::streaming(alloc, kind, &begun) {
+            Ok(watch) => {
+                self.watch = watch;
+                Opened::Open
+            }
+            Err(_) => Opened::Lost,
+        }
+    }
+
     fn more(&mut self, buf: &mut [u8]) -> More {
         for _ in self.rt.forever() {
             let seen = self.environment.bell.count();

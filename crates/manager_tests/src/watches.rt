@@ -1,8 +1,9 @@
 //! A watch, as who reads it sees it.
 use definitions::kinds::Kind;
-use framing::frame_text;
+use framing::{added_text, bookmark_text, frame_text};
 use revisions::{Event, Watched};
 use std::alloc::{AllocError, Global};
+use watch_service::Begun;
 
 /// A watch of a kind: after which revision it goes on, and what is still to be read of the lines that it was given.
 #[derive(Drop)]
@@ -24,6 +25,18 @@ fn lines(alloc: Global, events: &[Event]) -> Result<Vec<u8>, AllocError> {
     Ok(text)
 }
 
+/// Returns the lines of what is there of a kind as a watch begins, and of the bookmark that closes them. The error is running out of memory.
+fn initial_lines(alloc: Global, kind: Kind, begun: &Begun) -> Result<Vec<u8>, AllocError> {
+    let mut text = Vec::new(alloc);
+    for object in &begun.objects {
+        let line = added_text(alloc, object)?;
+        text.extend_from_slice(line.as_bytes())?;
+    }
+    let line = bookmark_text(alloc, kind, true, begun.revision)?;
+    text.extend_from_slice(line.as_bytes())?;
+    Ok(text)
+}
+
 impl Watch {
     /// Returns a watch of a kind after a revision, which was given nothing yet.
     pub fn new(alloc: Global, kind: Kind, after: u64) -> Watch {
@@ -33,6 +46,16 @@ impl Watch {
             text: Vec::new(alloc),
             read: 0,
         }
+    }
+
+    /// Returns a watch of a kind that begins with what is there of it. The error is running out of memory.
+    pub fn streaming(alloc: Global, kind: Kind, begun: &Begun) -> Result<Watch, AllocError> {
+        Ok(Watch {
+            kind,
+            after: begun.revision,
+            text: initial_lines(alloc, kind, begun)?,
+            read: 0,
+        })
     }
 
     /// Reads on in the lines, and returns how many bytes came: none where all were read.

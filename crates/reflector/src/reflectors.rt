@@ -2,8 +2,10 @@
 
 use crate::deltas::{Delta, Fed};
 use crate::faults::ListFault;
+use crate::initials::Initial;
 use crate::lists::{Listed, read_list};
-use crate::pieces::take_in;
+use crate::openings::Place;
+use crate::pieces::{first_phase, take_in};
 use controllers::reflectors::{Ask, Phase};
 use framing::Want;
 use framing::lines::keep_last;
@@ -12,13 +14,16 @@ use std::alloc::{AllocError, Global};
 use std::marker::Model;
 
 /// What is known of the objects of one kind, in all namespaces: the revision up to which lists and watches were taken in,
-/// and the bytes of a frame that is not whole yet. The objects are with whoever applies the deltas.
+/// the bytes of a frame that is not whole yet, and the initial events of a stream that are not closed yet. The objects are with
+/// whoever applies the deltas.
 #[derive(Drop)]
 pub struct Reflector {
     kind: Kind,
     revision: u64,
     phase: Phase,
     buffered: Vec<u8>,
+    is_streaming: bool,
+    initial: Initial,
 }
 
 impl Model for Reflector {
@@ -32,27 +37,43 @@ impl Model for Reflector {
 
     ghost coded = { coded_reflector };
 
-    ghost view = { λ s. record { kind = s.kind; revision = s.revision; phase = s.phase; buffered = s.buffered.items } };
+    ghost view = { λ s. record { kind = s.kind; revision = s.revision; phase = s.phase; buffered = s.buffered.items; is_streaming = s.is_streaming; initial = s.initial } };
 
     ghost invariant = { λ s. IsPartial s.buffered.items × (length s.buffered.items < longest_frame) };
 }
 
 impl Reflector {
-    ghost use Rattle.std.specs.Prelude.{◌≡◌, ◌<◌, length, Some, IfOk, IfErr, OnOk, OnErr, IsSome, option_map};
+    ghost use Rattle.std.specs.Prelude.{◌≡◌, ◌≢◌, ◌<◌, length, Some, IfOk, IfErr, OnOk, OnErr, IsSome, option_map};
     ghost use Rattle.controllers.specs.ReadFrames.{longest_frame};
-    ghost use Rattle.controllers.specs.Reflectors.{begun, asks, list_of, list_delta, with_list, cut, expired, turned, fed};
-    ghost use Rattle.controllers.specs.declared.reflectors.Phase.TheVariants.{Watching};
+    ghost use Rattle.controllers.specs.Reflectors.{list_of, list_delta, begun, begun_streaming, begun_by, asks, with_list, cut, expired, refused, anew, turned, fed, fed_in};
+    ghost use Rattle.controllers.specs.declared.reflectors.Phase.TheVariants.{Listing};
     ghost use Rattle.reflector.specs.Deltas.{delta_of, deltas_of, RefusesList};
 
     /// Returns a reflector that took nothing in yet: it wants a list, and its revision is 0.
     pub fn new(alloc: Global, kind: Kind) -> Reflector
         ensures { result ≡ begun kind }
     {
+        Reflector::begin(alloc, kind, false)
+    }
+
+    /// Returns a reflector that took nothing in yet and wants a stream of initial events in place of a list: its revision is 0.
+    pub fn streaming(alloc: Global, kind: Kind) -> Reflector
+        ensures { result ≡ begun_streaming kind }
+    {
+        Reflector::begin(alloc, kind, true)
+    }
+
+    /// Returns a reflector that took nothing in yet.
+    fn begin(alloc: Global, kind: Kind, is_streaming: bool) -> Reflector
+        ensures { result ≡ begun_by is_streaming kind }
+    {
         Reflector {
             kind,
             revision: 0,
-            phase: Phase::Listing,
+            phase: first_phase(is_streaming),
             buffered: Vec::new(alloc),
+            is_streaming,
+            initial: Initial::new(alloc),
         }
     }
 
@@ -65,6 +86,8 @@ impl Reflector {
             revision: self.revision,
             phase: self.phase,
             buffered: self.buffered.clone()?,
+            is_streaming: self.is_streaming,
+            initial: self.initial.try_copy()?,
         })
     }
 
@@ -74,12 +97,13 @@ impl Reflector {
     {
         match self.phase {
             Phase::Listing => Ask::List,
+            Phase::Streaming => Ask::Stream,
             Phase::Watching => Ask::Watch(self.revision),
         }
     }
 
-    /// Returns the revision of the last list, event or bookmark that was taken in; 0 before the first list. It takes no
-    /// memory.
+    /// Returns the revision of the last list, closed initial events, event or bookmark that was taken in; 0 before the first of
+    /// these. It takes no memory.
     pub fn revision(&self) -> u64
         ensures { result ≡ self.now.revision }
     {
@@ -102,9 +126,10 @@ impl Reflector {
         }
     }
 
-    /// Takes in the next piece of a watch, cut anywhere, and returns a delta for each frame that is whole now. While a list is
-    /// asked for, what comes is ignored. An end asks for a list, and drops what is buffered of a frame; the frames before it
-    /// are taken in. The error is running out of memory, and changes nothing: the same piece can be fed again.
+    /// Takes in the next piece of a watch, cut anywhere, and returns a delta for each frame that is whole now; of initial events none until
+    /// the bookmark that closes them, and then the one that replaces the whole map. While a list is asked for, what comes is ignored. An end
+    /// asks for a list, or for a stream, and drops what is buffered of a frame and initial events that are not closed; the frames before it are
+    /// taken in. The error is running out of memory, and changes nothing: the same piece can be fed again.
     pub fn feed(&mut self, alloc: Global, piece: &[u8]) -> Result<Fed, Want>
         ensures deltas { IfOk result (λ f. deltas_of f.deltas.items ≡ (fed self.old piece.now).deltas) }
         ensures end { IfOk result (λ f. f.end ≡ (fed self.old piece.now).ended) }
@@ -117,32 +142,39 @@ impl Reflector {
                 deltas: Vec::new(alloc),
                 end: None,
             }),
-            Phase::Watching => self.watch(alloc, piece),
+            Phase::Streaming | Phase::Watching => self.watch(alloc, piece),
         }
     }
 
     /// Takes in the next piece, where no list is asked for.
     fn watch(&mut self, alloc: Global, piece: &[u8]) -> Result<Fed, Want>
-        requires { self.old.phase ≡ Watching }
+        requires { self.old.phase ≢ Listing }
         ensures deltas { IfOk result (λ f. deltas_of f.deltas.items ≡ (fed self.old piece.now).deltas) }
         ensures end { IfOk result (λ f. f.end ≡ (fed self.old piece.now).ended) }
         ensures after { OnOk result (self.new ≡ (fed self.old piece.now).after) }
         ensures err { OnErr result (self.new ≡ self.old) }
         ensures bounded { length self.new.buffered < longest_frame }
     {
+        let place = Place {
+            phase: self.phase,
+            revision: self.revision,
+            initial: self.initial.try_copy()?,
+        };
         let known = self.buffered.len();
         self.buffered.extend_from_slice(piece)?;
         match take_in(
             alloc,
             self.kind,
-            self.revision,
+            self.is_streaming,
+            place,
             self.buffered.as_slice(),
             known,
         ) {
             Ok(taken) => {
                 keep_last(&mut self.buffered, taken.kept);
-                self.revision = taken.revision;
-                self.phase = taken.phase;
+                self.revision = taken.place.revision;
+                self.phase = taken.place.phase;
+                self.initial = taken.place.initial;
                 Ok(Fed {
                     deltas: taken.deltas,
                     end: taken.end,
@@ -163,18 +195,30 @@ impl Reflector {
         self.turn(self.phase, self.revision);
     }
 
-    /// Takes in that the server no longer has the events that were asked for: a list is asked for. It takes no memory.
+    /// Takes in that the server no longer has the events that were asked for: a list is asked for, or a stream. It takes no memory.
     pub fn on_expired(&mut self)
         ensures { self.new ≡ expired self.old }
+    {
+        let phase = match self.phase {
+            Phase::Listing => Phase::Listing,
+            _ => first_phase(self.is_streaming),
+        };
+        self.turn(phase, self.revision);
+    }
+
+    /// Takes in that the server refuses a stream of initial events: a list is asked for, until one is taken in. It takes no memory.
+    pub fn on_refused(&mut self)
+        ensures { self.new ≡ refused self.old }
     {
         self.turn(Phase::Listing, self.revision);
     }
 
-    /// Goes on from a revision, with nothing buffered of a frame.
+    /// Goes on from a revision, with nothing buffered of a frame, and no initial events.
     fn turn(&mut self, phase: Phase, revision: u64)
         ensures { self.new ≡ turned phase revision self.old }
     {
         self.buffered.clear();
+        self.initial.clear();
         self.phase = phase;
         self.revision = revision;
     }

@@ -10,7 +10,7 @@ use definitions::kinds::Kind;
 use requests::Request;
 use std::alloc::Global;
 
-/// What became of the request for a watch.
+/// What became of the request for a watch, or for a stream of initial events.
 #[derive(Debug, Clone, Copy, PartialEq, Eq)]
 pub enum Opened {
     /// The watch is open.
@@ -47,6 +47,10 @@ pub trait Api {
 
     /// Asks for a watch of a kind, of all namespaces, after a revision. A watch that was open is left.
     fn open_watch(&mut self, alloc: Global, kind: Kind, revision: u64) -> Opened;
+
+    /// Asks for a stream of a kind, of all namespaces, in place of a list: the present objects come as initial events, and a watch goes on
+    /// after them. A watch that was open is left.
+    fn open_stream(&mut self, alloc: Global, kind: Kind) -> Opened;
 
     /// Reads on in the watch that is open; it is cut where none is, or where the buffer has no room.
     fn more(&mut self, buf: &mut [u8]) -> More;

@@ -8,14 +8,14 @@ use crate::beginning::begin_watch;
 use crate::connect::Connect;
 use crate::limits::Limits;
 use crate::outgoing::outgoing;
-use crate::targets::{first_target, list_target, watch_target};
+use crate::targets::{first_target, list_target, stream_target, watch_target};
 use chunked::{Reader, Watched};
 use client::outgoing::text_of;
 use client::{Answer, More, Outgoing, call, read_more};
 use definitions::kinds::Kind;
 use request_texts::{can_be_told, request_text};
 use requests::Request;
-use std::alloc::Global;
+use std::alloc::{AllocError, Global};
 
 /// A server that is asked over connections, one for each request, and the watch of it that is open, if one is.
 #[derive(Drop)]
@@ -88,6 +88,18 @@ impl<C: Connect + Drop> Remote<C> {
         }
         opened
     }
+
+    /// Leaves the watch that was open, and opens the one of a target, if there was memory for it.
+    fn open(&mut self, alloc: Global, target: Result<String, AllocError>) -> Opened {
+        self.watch = None;
+        let Ok(target) = target else {
+            return Opened::Lost;
+        };
+        match text_of(alloc, get(target.as_str())) {
+            Ok(text) => self.begin(alloc, &text),
+            Err(_) => Opened::Lost,
+        }
+    }
 }
 
 impl<C: Connect + Drop> Api for Remote<C> {
@@ -122,15 +134,11 @@ impl<C: Connect + Drop> Api for Remote<C> {
     }
 
     fn open_watch(&mut self, alloc: Global, kind: Kind, revision: u64) -> Opened {
-        self.watch = None;
-        let target = match watch_target(alloc, kind, revision) {
-            Ok(target) => target,
-            Err(_) => return Opened::Lost,
-        };
-        match text_of(alloc, get(target.as_str())) {
-            Ok(text) => self.begin(alloc, &text),
-            Err(_) => Opened::Lost,
-        }
+        self.open(alloc, watch_target(alloc, kind, revision))
+    }
+
+    fn open_stream(&mut self, alloc: Global, kind: Kind) -> Opened {
+        self.open(alloc, stream_target(alloc, kind))
     }
 
     fn more(&mut self, buf: &mut [u8]) -> More {

@@ -1,7 +1,7 @@
 //! Targets of requests.
 ghost use Rattle.std.specs.Prelude.{◌≡◌, ◌++◌, IfOk, string_bytes};
 ghost use Rattle.definitions.specs.Targets.{prefix};
-ghost use Rattle.remote.specs.Targets.{first_target, list_target, watch_target};
+ghost use Rattle.remote.specs.Targets.{first_target, list_target, stream_target, watch_target};
 
 use definitions::kinds::{Group, Kind};
 use std::alloc::{AllocError, Global};
@@ -35,6 +35,18 @@ pub fn watch_target(alloc: Global, kind: Kind, revision: u64) -> Result<String, 
     let mut text = list_target(alloc, kind)?;
     text.push_str("?watch=true&allowWatchBookmarks=true&resourceVersion=")?;
     text.push_str(digits.as_str())?;
+    Ok(text)
+}
+
+/// Returns the target of a stream of a kind, of all namespaces, that begins with the present objects as initial events, with bookmarks, of
+/// which one closes them (Kubernetes API Concepts, Streaming lists).
+pub fn stream_target(alloc: Global, kind: Kind) -> Result<String, AllocError>
+    ensures { IfOk result (λ t. string_bytes t ≡ stream_target kind) }
+{
+    let mut text = list_target(alloc, kind)?;
+    text.push_str(
+        "?watch=true&allowWatchBookmarks=true&sendInitialEvents=true&resourceVersionMatch=NotOlderThan",
+    )?;
     Ok(text)
 }
 

@@ -39,7 +39,7 @@ fn run(rt: &HostRuntime, asked: &Asked) -> io::Result<bool> {
         asked.until,
     );
     let informer = PlainInformer::new(rt.alloc());
-    let mut follower = Follower::new(rt.alloc(), asked.kind, informer);
+    let mut follower = Follower::streaming(rt.alloc(), asked.kind, informer);
     following::follow(
         rt.alloc(),
         asked.kind,

@@ -3,10 +3,10 @@ use Rattle.std.specs.BTreeMap.Range.{range_contains}
 use Rattle.std.specs.declared.ops.Bound.TheVariants.{Included, Excluded}
 use Rattle.turns.specs.Entries.{entry_of}
 use Rattle.indexer.specs.Links.{first_name}
-use Rattle.indexer.specs.Seen.{members_seen}
+use Rattle.reflector.specs.Seen.{members_seen}
 use Rattle.indexer.proofs.Bounds.{keys_between}
 use Rattle.indexer.proofs.Namespaces.{range_seen}
-use Rattle.indexer.proofs.SeenMaps.{key_cmp}
+use Rattle.reflector.proofs.SeenMaps.{key_cmp}
 use Rattle.std.proofs.Common.{subst}
 use Rattle.definitions.specs.History.{Entries}
 use Rattle.indexer.proofs.finding.add_of_kind.Goals as goal

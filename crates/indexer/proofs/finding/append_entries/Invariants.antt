@@ -1,6 +1,6 @@
 use Rattle.std.proofs.Common.{◌≡◌, ◌++◌, map}
 use Rattle.turns.specs.Entries.{entry_of}
-use Rattle.indexer.specs.Seen.{members_seen}
+use Rattle.reflector.specs.Seen.{members_seen}
 use Rattle.indexer.proofs.finding.append_entries.Given as goal
 
 -- what was added and what is still to be added is all

@@ -1,7 +1,7 @@
 use Rattle.std.proofs.Common.{rules, ◌≡◌, ◌∙◌, map}
 use Rattle.definitions.specs.Kinds.{kinds}
 use Rattle.turns.specs.Entries.{entry_of}
-use Rattle.indexer.specs.Seen.{members_seen}
+use Rattle.reflector.specs.Seen.{members_seen}
 use Rattle.indexer.proofs.InOrder.{in_order_seen}
 use Rattle.indexer.proofs.Namespaces.{of_kinds, kinds_are_all}
 use Rattle.indexer.proofs.finding.by_namespace.Goals as goal

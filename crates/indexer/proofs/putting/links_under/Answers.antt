@@ -2,7 +2,8 @@ use Rattle.std.proofs.Common.{◌≡◌, ◌∙◌, ap, map, subst, option_map, 
 use Rattle.serde_json.specs.Data.{Data}
 use Rattle.keys.specs.Keys.{key_of}
 use Rattle.indexer.specs.Links.{link_of, links_at}
-use Rattle.indexer.proofs.SeenMaps.{data_of, seen-lookup}
+use Rattle.reflector.proofs.SeenMaps.{data_of}
+use Rattle.indexer.proofs.SeenMaps.{seen-lookup}
 use Rattle.indexer.proofs.putting.links_under.Goals as goal
 
 pub returns-in-Some : goal.returns-in-Some

@@ -6,7 +6,7 @@ use Rattle.definitions.proofs.PutLaws.{lookup-insert_entry}
 use Rattle.controllers.proofs.WorkKeyOrder.{name_total}
 use Rattle.keys.specs.Keys.{key_of}
 use Rattle.indexer.specs.Links.{link_of, links_at}
-use Rattle.indexer.specs.Seen.{members_seen}
+use Rattle.reflector.specs.Seen.{members_seen}
 use Rattle.indexer.proofs.LinkIndex.{index_changes}
 use Rattle.indexer.proofs.putting.put_made.Goals as goal
 

@@ -2,9 +2,9 @@ use Rattle.std.proofs.Common.{◌∙◌, ap}
 use Rattle.std.specs.BTreeMap.{insert_entry}
 use Rattle.definitions.specs.Keys.{key_cmp as name_cmp}
 use Rattle.keys.specs.Keys.{key_of}
-use Rattle.indexer.specs.Seen.{members_seen}
+use Rattle.reflector.specs.Seen.{members_seen}
 use Rattle.reflector.specs.declared.shared_objects.SharedObject.{SharedObject}
-use Rattle.indexer.proofs.SeenMaps.{seen-put_entry}
+use Rattle.reflector.proofs.SeenMaps.{seen-put_entry}
 use Rattle.indexer.proofs.putting.put_object.Goals as goal
 
 pub returns-clause-ok : goal.returns-clause-ok

@@ -7,7 +7,7 @@ use Rattle.definitions.proofs.PutLaws.{lookup-insert_entry}
 use Rattle.controllers.proofs.WorkKeyOrder.{name_total}
 use Rattle.keys.specs.Keys.{key_of}
 use Rattle.indexer.specs.Links.{link_of, links_at}
-use Rattle.indexer.specs.Seen.{members_seen}
+use Rattle.reflector.specs.Seen.{members_seen}
 use Rattle.indexer.specs.contracts.links.LinkPartialEq.TheImpl as link_eq
 use Rattle.indexer.proofs.LinkSets.{same_lists}
 use Rattle.indexer.proofs.LinkIndex.{index_changes, index_stays}

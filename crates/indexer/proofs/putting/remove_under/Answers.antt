@@ -3,10 +3,11 @@ use Rattle.std.specs.Map.{keys_of, lookup}
 use Rattle.std.specs.BTreeMap.{is_at}
 use Rattle.keys.specs.Keys.{key_of}
 use Rattle.indexer.specs.Links.{link_of}
-use Rattle.indexer.specs.Seen.{members_seen}
+use Rattle.reflector.specs.Seen.{members_seen}
 use Rattle.indexer.proofs.LinkSets.{no_links}
 use Rattle.indexer.proofs.LinkIndex.{index_changes, index_stays, found_removed}
-use Rattle.indexer.proofs.SeenMaps.{key_cmp, seen-remove_entry, lookup-removed}
+use Rattle.reflector.proofs.SeenMaps.{key_cmp, seen-remove_entry}
+use Rattle.indexer.proofs.SeenMaps.{lookup-removed}
 use Rattle.indexer.proofs.putting.remove_under.Goals as goal
 
 pub returns-then-is_empty-clause-members : goal.returns-then-is_empty-clause-members

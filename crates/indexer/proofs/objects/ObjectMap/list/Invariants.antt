@@ -1,5 +1,5 @@
 use Rattle.std.proofs.Common.{◌≡◌, ◌++◌, map}
-use Rattle.indexer.specs.Seen.{members_seen}
+use Rattle.reflector.specs.Seen.{members_seen}
 use Rattle.turns.specs.Entries.{entry_of}
 use Rattle.indexer.proofs.objects.ObjectMap.list.Given as goal
 

@@ -2,7 +2,7 @@ use Rattle.std.proofs.Common.{◌≡◌, [], drop}
 use Rattle.std.specs.Map.{keys_of}
 use Rattle.controllers.specs.Reflectors.{put_all}
 use Rattle.indexer.specs.Links.{IsIndexOf}
-use Rattle.indexer.specs.Seen.{members_seen}
+use Rattle.reflector.specs.Seen.{members_seen}
 use Rattle.indexer.proofs.objects.ObjectMap.of.Given as goal
 
 -- the links are those of the objects, which with what is still to be put are all
