@@ -23,6 +23,7 @@ NUMBER = re.compile(rb"[0-9]{1,9}")
 REVISION = re.compile(rb"0|[1-9][0-9]{0,15}")
 FIRST_MOMENT = "2026-01-01T00:00:00Z"
 MOST_REVISIONS = 1 << 53
+END_OF_INITIAL = "k8s.io/initial-events-end"
 
 
 class NotKnown(Exception):
@@ -261,28 +262,54 @@ def is_revision(word):
 class Follower:
     """What follows a kind: a reflector, an open watch or none, what is published, and what waits to be."""
 
-    def __init__(self, plural, server):
-        self.plural, self.server = plural, server
-        self.revision, self.lists, self.buffered = 0, True, b""
-        self.link = None
-        self.published, self.named, self.waiting = {}, 0, []
+    def __init__(self, plural, server, first):
+        """Begins with lists, or with streams of initial events: `first` is what is asked for first, and after each end."""
+        self.plural, self.server, self.first = plural, server, first
+        self.revision, self.named, self.published, self.waiting = 0, 0, {}, []
+        self.begin(first)
+
+    def begin(self, asks):
+        """Asks for a list, a stream or a watch, and holds nothing of what was read before."""
+        self.asks, self.link, self.buffered, self.initial = asks, None, b"", {}
 
     def list(self):
-        if not self.lists:
+        if self.asks != "list":
             return None
-        self.revision, self.lists, self.buffered, self.link = self.server.present(), False, b"", None
+        self.begin("watch")
         listed = self.server.listed(self.plural)
-        self.waiting.append((self.revision, "list", listed))
+        self.replace(self.server.present(), listed)
         return f"listed {self.plural} {self.revision} {len(listed)}"
 
+    def replace(self, revision, objects):
+        """Takes in all that is there at a revision."""
+        self.revision = revision
+        self.waiting.append((revision, "list", objects))
+
     def watch(self):
-        if self.lists or self.link:
+        if self.asks != "watch" or self.link:
             return None
         if self.revision < self.server.floor(self.plural):
-            self.lists, self.buffered = True, b""
+            self.begin(self.first)
             return f"expired {self.plural}"
-        self.link = {"stands": self.revision, "unread": b"", "refused": False}
+        self.open(self.revision, [])
         return f"opened {self.plural} {self.revision}"
+
+    def open(self, stands, initial):
+        """Opens a link, on which these frames are to be written before any change."""
+        self.link = {"stands": stands, "initial": initial, "unread": b"", "refused": False}
+
+    def stream(self):
+        if self.asks != "stream" or self.link:
+            return None
+        shown = [text({"object": it, "type": "ADDED"}) + "\n" for it in self.server.listed(self.plural)]
+        present = self.server.present()
+        self.open(present, shown + [self.bookmark({"annotations": {END_OF_INITIAL: "true"}, "resourceVersion": str(present)})])
+        return f"streaming {self.plural} {present}"
+
+    def bookmark(self, metadata):
+        """Returns the frame of a bookmark."""
+        version, kind = KINDS[self.plural][:2]
+        return text({"object": {"apiVersion": version, "kind": kind, "metadata": metadata}, "type": "BOOKMARK"}) + "\n"
 
     def write(self, frames):
         self.link["unread"] += "".join(frames).encode()
@@ -299,6 +326,9 @@ class Follower:
     def send(self, count):
         if not self.link or self.link["refused"]:
             return None
+        if initial := self.link["initial"]:
+            self.link["initial"] = initial[count:]
+            return self.write(initial[:count])
         left = self.server.frames(self.plural, self.link["stands"])
         if refused := self.is_refused():
             return refused
@@ -310,16 +340,14 @@ class Follower:
         return self.write([frame for _, frame in sent])
 
     def send_bookmark(self):
-        if not self.link or self.link["refused"]:
+        if not self.link or self.link["refused"] or self.link["initial"]:
             return None
         if refused := self.is_refused():
             return refused
         if self.server.frames(self.plural, self.link["stands"]):
             return None
         self.link["stands"] = self.server.present()
-        version, kind = KINDS[self.plural][:2]
-        marked = {"apiVersion": version, "kind": kind, "metadata": {"resourceVersion": str(self.server.present())}}
-        return self.write([text({"object": marked, "type": "BOOKMARK"}) + "\n"])
+        return self.write([self.bookmark({"resourceVersion": str(self.server.present())})])
 
     def deliver(self, count):
         if not self.link:
@@ -332,21 +360,34 @@ class Follower:
             line, _, self.buffered = self.buffered.partition(b"\n")
             end = self.take(json.loads(line))
         if end:
-            self.lists, self.link, self.buffered = True, None, b""
+            self.begin(self.first)
         return f"fed {self.plural} {self.revision}{end}"
 
     def take(self, frame):
         """Takes a frame in, and returns why the watch is over, if it is."""
         if frame["type"] == "ERROR":
             return " expired" if frame["object"]["code"] == 410 else " unreadable"
+        if self.asks == "stream":
+            self.take_initial(frame["type"], frame["object"])
+            return ""
         self.revision = int(frame["object"]["metadata"]["resourceVersion"])
         self.waiting.append((self.revision, frame["type"], frame["object"]))
         return ""
 
+    def take_initial(self, change, shown):
+        """Takes an initial event in, or the bookmark that closes them: until then nothing is given."""
+        if change != "BOOKMARK":
+            self.initial[key_of(shown)] = shown
+            return
+        metadata = shown["metadata"]
+        if metadata.get("annotations", {}).get(END_OF_INITIAL) == "true":
+            self.replace(int(metadata["resourceVersion"]), list(self.initial.values()))
+            self.asks, self.initial = "watch", {}
+
     def cut(self):
         if not self.link:
             return None
-        self.link, self.buffered = None, b""
+        self.begin(self.asks)
         return f"cut {self.plural} {self.revision}"
 
     def publish(self):
@@ -370,12 +411,12 @@ def key_of(value):
 class Simulation:
     """A server, and what follows each kind of it."""
 
-    def __init__(self, window=1024):
-        self.server = Server(window)
+    def __init__(self, window=1024, first="list"):
+        self.server, self.first = Server(window), first
         self.restart()
 
     def restart(self):
-        self.followers = {plural: Follower(plural, self.server) for plural in KINDS}
+        self.followers = {plural: Follower(plural, self.server, self.first) for plural in KINDS}
         return "restarted"
 
     def answer(self, line):
@@ -399,7 +440,8 @@ class Simulation:
             return None
         follower, verb = self.followers[plural], words[0]
         if len(words) == 2:
-            return {b"list": follower.list, b"watch": follower.watch, b"cut": follower.cut, b"publish": follower.publish}.get(verb)
+            plain = {b"list": follower.list, b"watch": follower.watch, b"stream": follower.stream}
+            return {**plain, b"cut": follower.cut, b"publish": follower.publish}.get(verb)
         if verb == b"send" and words[2] == b"bookmark":
             return follower.send_bookmark
         if verb == b"deliver" and words[2] == b"all":
@@ -409,20 +451,20 @@ class Simulation:
         return None
 
 
-def window_of(line):
-    """Returns the window that a configuration says, if the line is one."""
-    said = re.fullmatch(rb"config window=([0-9]{1,9}) workers=([0-9]{1,9})", line)
+def configured(line):
+    """Returns the window that a configuration says, and what followers ask for first, if the line is one."""
+    said = re.fullmatch(rb"config window=([0-9]{1,9}) workers=([0-9]{1,9})(?: initial=(list|stream))?", line)
     if said and 1 <= int(said[1]) <= 65_536 and 1 <= int(said[2]) <= 64:
-        return int(said[1])
+        return int(said[1]), (said[3] or b"list").decode()
     return None
 
 
 def simulate(given):
     """Returns what is written for what is read."""
     lines = [line for line in given.split(b"\n") if line]
-    window = window_of(lines[0]) if lines else None
-    simulation = Simulation(window or 1024)
-    return "".join(simulation.answer(line) for line in lines[1 if window else 0:]).encode()
+    said = configured(lines[0]) if lines else None
+    simulation = Simulation(*(said or ()))
+    return "".join(simulation.answer(line) for line in lines[1 if said else 0:]).encode()
 
 
 if __name__ == "__main__":

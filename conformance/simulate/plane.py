@@ -46,14 +46,14 @@ class Turn:
 class Plane:
     """A simulated control plane."""
 
-    def __init__(self, words, window=1024, workers=4, told=None):
-        """Starts one. `told(line, reply)` is called after each step."""
+    def __init__(self, words, window=1024, workers=4, initial="list", told=None):
+        """Starts one, whose followers begin with a `list` or a `stream`. `told(line, reply)` is called after each step."""
         self.workers = workers
         self.told = told
         self.turns = [None] * workers
         self.revisions = dict.fromkeys(KINDS)
         self.process = subprocess.Popen(words, stdin=subprocess.PIPE, stdout=subprocess.PIPE)
-        self.put(f"config window={window} workers={workers}")
+        self.put(f"config window={window} workers={workers} initial={initial}")
 
     def __enter__(self):
         return self
@@ -154,6 +154,18 @@ class Plane:
     def watch(self, kind):
         return self.step(f"watch {kind}")
 
+    def stream(self, kind):
+        return self.step(f"stream {kind}")
+
+    def begin(self, kind):
+        """Asks for all that is there: by a list, or by a stream of initial events, which is taken in whole. Returns whether either was
+        open."""
+        if self.stream(kind) == CLOSED:
+            return self.list(kind) != CLOSED
+        self.send(kind)
+        self.deliver(kind)
+        return True
+
     def send(self, kind, count=ALL_FRAMES):
         return self.step(f"send {kind} {count}")
 
@@ -226,7 +238,7 @@ class Plane:
 
     def inform(self, kind):
         """Brings the copy of a kind up to date, and handles what changed. Returns whether anything did."""
-        moved = self.list(kind) != CLOSED
+        moved = self.begin(kind)
         moved = self.watch(kind) != CLOSED or moved
         self.send(kind)
         self.deliver(kind)

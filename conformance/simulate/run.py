@@ -2,7 +2,8 @@
 """Runs `kcp simulate` on each case and compares what it writes.
 
 A case is a pair of files in cases/: NAME.simulate has the lines, NAME.expect what is written for them. Beside these, the worked example
-of a letter that is cut is run with the cut after each byte of its frame in turn, and 2,000 changes in windows of several sizes, with exact
+of a letter that is cut is run with the cut after each byte of its frame in turn, a stream of initial events with the cut after each of its
+bytes, and 2,000 changes in windows of several sizes, with exact
 lists and watches from below each window to above the present, whose text is the oracle's. With `--random N` come N schedules of a hundred random
 steps each, whose text is the oracle's; `--oracle` runs nothing, and compares the cases without workers with what the oracle says.
 
@@ -55,6 +56,23 @@ def taken_whole(wanted):
     return before + b"fed configmaps 3\n" + again
 
 
+def stream_cut_after_each_byte():
+    """Returns a stream of initial events with the cut after each of its bytes in turn, and one that is opened after it: a stream again, or
+    a watch once the first was read whole."""
+    begin = ["config window=4 workers=1 initial=stream"] + [f'request POST {MAPS} {{"metadata":{{"name":"{name}"}}}}' for name in "ab"]
+    again = ["stream configmaps", "watch configmaps", "send configmaps 9", "deliver configmaps all", "publish configmaps"]
+    server = oracle.Server(4)
+    for line in begin[1:]:
+        server.answer(line.removeprefix("request ").encode())
+    follower, made = oracle.Follower("configmaps", server, "stream"), []
+    follower.stream()
+    for count in range(1, len("".join(follower.link["initial"]).encode()) + 1):
+        cut = ["stream configmaps", "send configmaps 3", f"deliver configmaps {count}", "cut configmaps"]
+        given = "".join(f"{line}\n" for line in begin + cut + again).encode()
+        made.append(run.Case(f"the-stream-is-cut-after-{count:03}-bytes", given, oracle.simulate(given)))
+    return made
+
+
 def request(chosen):
     """Returns a line that a server reads."""
     kind = chosen.choice(["configmaps", "configmaps", "pods"])
@@ -70,13 +88,14 @@ def move(chosen):
     kind = chosen.choice(["configmaps", "configmaps", "pods", "replicasets"])
     send = [f"send {kind} {chosen.randrange(4)}", f"send {kind} bookmark"]
     deliver = [f"deliver {kind} {chosen.randrange(400)}", f"deliver {kind} all"]
-    plain = [f"{verb} {kind}" for verb in ("list", "watch", "publish", "publish")]
+    plain = [f"{verb} {kind}" for verb in ("list", "stream", "watch", "publish", "publish")]
     return chosen.choice(send + send + deliver + deliver + plain + ([f"cut {kind}"] if chosen.random() < 0.5 else plain))
 
 
 def random_schedule(chosen):
     """Returns a hundred random steps with a small window."""
-    lines = [f"config window={chosen.randrange(1, 8)} workers=1"]
+    initial = chosen.choice(("", " initial=list", " initial=stream", " initial=stream"))
+    lines = [f"config window={chosen.randrange(1, 8)} workers=1{initial}"]
     for _ in range(STEPS):
         rare = chosen.random()
         if rare < 0.01:
@@ -152,7 +171,7 @@ def main():
     asked = parser.parse_args()
     chosen = random.Random(asked.seed)
     windows = [window_case(window, chosen) for window in WINDOWS]
-    made = cut_after_each_byte() + windows + random_cases(asked.random, asked.seed)
+    made = cut_after_each_byte() + stream_cut_after_each_byte() + windows + random_cases(asked.random, asked.seed)
     wanted = run.cases(CASES, "simulate", asked.word) + [case for case in made if asked.word in case.name]
     if asked.oracle:
         by_oracle(wanted)

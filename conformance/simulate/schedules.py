@@ -5,8 +5,8 @@ Each schedule has 300 steps: requests of clients, sends, deliveries, cuts, compa
 that are lost and dropped; each comes from its seed alone. Nothing is known of what the program is to write but this page's checks. After
 each step that may write, the lists of the kind are asked for, so that it is known what there was at each revision. Then
 
-- a list and a published copy have as many objects as there were of the kind at their revision, and published revisions never fall
-  between two restarts;
+- a list and a published copy have as many objects as there were of the kind at their revision, a stream of initial events is of the present
+  revision, and published revisions never fall between two restarts;
 - no worker takes a key that another one has;
 - a look is at what is published, and a live read is of what is there;
 - an update that is accepted replaced a version that its worker had looked at, read live or been answered in its turn; and a delete an
@@ -131,6 +131,10 @@ class Checks:
         check(revision == self.past.present, f"the list is of revision {revision}, and not of {self.past.present}")
         check(count == len(self.past.now(kind)), f"{count} are listed, and not {len(self.past.now(kind))}")
 
+    def told_streaming(self, _, words):
+        kind, revision = words[0], int(words[1])
+        check(revision == self.past.present, f"the stream of {kind} is of revision {revision}, and not of {self.past.present}")
+
     def told_published(self, _, words):
         kind, revision, count = words[0], int(words[1]), int(words[2])
         there = len(self.past.at(kind, revision))
@@ -241,6 +245,7 @@ class Schedule:
         self.workers = self.chosen.randrange(1, 4)
         self.checks = Checks(self.workers)
         self.window = self.chosen.choice((2, 4, 8, 64))
+        self.initial = self.chosen.choice(("list", "stream"))
         self.taken = 0
         self.has_work = False
         self.show = told
@@ -258,7 +263,7 @@ class Schedule:
 
     def run(self, words, steps):
         """Takes so many steps, after those that create and publish something."""
-        with plane.Plane(words, window=self.window, workers=self.workers, told=self.told) as self.control:
+        with plane.Plane(words, window=self.window, workers=self.workers, initial=self.initial, told=self.told) as self.control:
             self.begin()
             while self.taken < steps:
                 self.step()
@@ -267,7 +272,7 @@ class Schedule:
         """Creates one of the owners, and publishes all kinds."""
         self.ask(self.chosen.choice((self.make_set, self.make_deployment)))
         for kind in KINDS:
-            self.control.list(kind)
+            self.control.begin(kind)
             self.control.publish(kind)
 
     def step(self):
@@ -314,13 +319,14 @@ class Schedule:
         kind, to = self.chosen.choice(KINDS), self.control
         some_frames = lambda it: to.send(it, self.chosen.randrange(3))
         some_bytes = lambda it: to.deliver(it, self.chosen.randrange(600))
-        moves = {to.list: 2, to.watch: 2, to.send: 4, some_frames: 2, to.bookmark: 1, to.deliver: 5, some_bytes: 2}
+        moves = {to.list: 1, to.stream: 2, to.begin: 1, to.watch: 2, to.send: 4}
+        moves |= {some_frames: 2, to.bookmark: 1, to.deliver: 5, some_bytes: 2}
         moves |= {to.publish: 6, to.handle: 12, to.cut: 0.3, self.bring_up: 15}
         self.chosen.choices(list(moves), list(moves.values()))[0](kind)
 
     def bring_up(self, kind):
         """Brings the copy of a kind up to date, and handles one change."""
-        self.control.list(kind)
+        self.control.begin(kind)
         self.control.watch(kind)
         self.control.send(kind)
         self.control.deliver(kind)

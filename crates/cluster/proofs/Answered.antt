@@ -11,6 +11,7 @@ use Rattle.server_state.specs.Servers.{Server}
 use Rattle.line_protocol.specs.Lines as lines
 use Rattle.line_protocol.specs.Lines.{line_of}
 use Rattle.session.specs.SessionStates.{SessionState, state_after}
+use Rattle.simulation.specs.declared.initial_syncs.InitialSync.{InitialSync}
 use Rattle.simulation.specs.Clusters.{request, compact, moves, restart, history}
 use Rattle.simulation.specs.Followers.{Follower, begun}
 use Rattle.simulation.specs.Moves as moving
@@ -22,20 +23,20 @@ use Rattle.cluster.specs.Standing.{Stands}
 use Rattle.cluster.specs.ClusterStates.{ClusterState, follower, with_follower, step}
 use Rattle.cluster.proofs.Stood.{same_follower, stood, stands_opened}
 
-abbrev pub cluster_of : RecordedState → Follower → Follower → Follower → Follower → ClusterState
-cluster_of r c p s d = record { session = r.session; journal = r.journal; config_maps = c; pods = p; replica_sets = s; deployments = d }
+abbrev pub cluster_of : RecordedState → InitialSync → Follower → Follower → Follower → Follower → ClusterState
+cluster_of r i c p s d = record { session = r.session; journal = r.journal; initial = i; config_maps = c; pods = p; replica_sets = s; deployments = d }
 
 -- ---- what it stands for stays so
 
-pub standing_opened : (size : ℕ) (r : RecordedState) (a b d e : Follower) → r ≡ recorded.begun size → a ≡ begun ConfigMap → b ≡ begun Pod → d ≡ begun ReplicaSet → e ≡ begun Deployment
-    → Stands (cluster_of r a b d e)
-standing_opened size r a b d e first f g h k = subst Stands (λ i. cluster_of (sym first i) (sym f i) (sym g i) (sym h i) (sym k i)) (stands_opened size)
+pub standing_opened : (size : ℕ) (i : InitialSync) (r : RecordedState) (a b d e : Follower) → r ≡ recorded.begun size → a ≡ begun i ConfigMap → b ≡ begun i Pod → d ≡ begun i ReplicaSet
+    → e ≡ begun i Deployment → Stands (cluster_of r i a b d e)
+standing_opened size i r a b d e first f g h k = subst Stands (λ j. cluster_of (sym first j) i (sym f j) (sym g j) (sym h j) (sym k j)) (stands_opened size i)
 
-pub standing_restarted : (w : ClusterState) (a b d e : Follower) → a ≡ begun ConfigMap → b ≡ begun Pod → d ≡ begun ReplicaSet → e ≡ begun Deployment → Stands w
-    → Stands (cluster_of (record { session = w.session; journal = w.journal }) a b d e)
+pub standing_restarted : (w : ClusterState) (a b d e : Follower) → a ≡ begun w.initial ConfigMap → b ≡ begun w.initial Pod → d ≡ begun w.initial ReplicaSet → e ≡ begun w.initial Deployment → Stands w
+    → Stands (cluster_of (record { session = w.session; journal = w.journal }) w.initial a b d e)
 unfolding step
 standing_restarted w a b d e f g h k is =
-    subst Stands (λ i. cluster_of (record { session = w.session; journal = w.journal }) (sym f i) (sym g i) (sym h i) (sym k i)) (stood w restart is)
+    subst Stands (λ i. cluster_of (record { session = w.session; journal = w.journal }) w.initial (sym f i) (sym g i) (sym h i) (sym k i)) (stood w restart is)
 
 pub standing_answered : (w : ClusterState) (t : List ℕ) (s : SessionState) (j : History) → s ≡ state_after w.session (line_of t) → j ≡ journal_after w.session w.journal (line_of t) → Stands w
     → Stands (record w { session = s; journal = j })

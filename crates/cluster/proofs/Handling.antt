@@ -1,7 +1,6 @@
 -- What is handled makes no difference to what a cluster stands for.
-use Rattle.std.proofs.Common.{◌≡◌, ℕ, List, drop, refl, sym, ap, subst, ◌∙◌}
+use Rattle.std.proofs.Common.{◌≡◌, List, drop, sym, ap, subst}
 use Rattle.definitions.specs.declared.kinds.Kind.{Kind}
-use Rattle.definitions.specs.declared.kinds.Kind.TheVariants.{ConfigMap, Pod, ReplicaSet, Deployment}
 use Rattle.definitions.specs.History.{History}
 use Rattle.definitions.specs.Reached.{IsReached, IsTimestamp}
 use Rattle.simulation.specs.Clusters as clusters
@@ -12,7 +11,7 @@ use Rattle.simulation_laws.specs.FollowerLaws.{IsFollowing}
 use Rattle.simulation_laws.proofs.Runs.{with_moved, same_session}
 use Rattle.cluster.specs.Changes.{without_oldest}
 use Rattle.cluster.specs.ClusterStates.{ClusterState, follower, with_follower}
-use Rattle.cluster.specs.Standing.{StandsFor, Stands}
+use Rattle.cluster.specs.Standing.{Stands}
 use Rattle.cluster.proofs.Stood.{same_follower, with_same}
 
 abbrev with_unhandled : List Notification → Follower → Follower

@@ -1,5 +1,5 @@
 -- What holds of every cluster.
-use Rattle.std.proofs.Common.{◌≡◌, ◌≤◌, ◌<◌, ◌-◌, ◌+◌, refl, sym, ap, ap₂, subst, ◌∙◌, ℕ, zero, suc, List, [], ◌∷◌, ◌++◌, length, map, take, Option, Some, None, IfSome, Result, Ok, Err, OnOk, OnErr, IfErr, arith}
+use Rattle.std.proofs.Common.{◌≡◌, ◌≤◌, ◌<◌, refl, sym, ap, ap₂, subst, ◌∙◌, ℕ, zero, suc, List, [], ◌∷◌, ◌++◌, length, map, take, Option, Some, None, IfSome, Result, Ok, Err, OnOk, OnErr, IfErr, arith}
 use Rattle.std.proofs.lemmas.List.{append_cancel_left, length-append, take-map}
 use Rattle.std.proofs.Math.Seq.{take-length}
 use Rattle.serde_json.specs.Data.{Data}
@@ -20,7 +20,7 @@ use Rattle.simulation.specs.Clusters.{Cluster, ClusterStep, request, compact, mo
 use Rattle.simulation.specs.Followers.{Follower}
 use Rattle.simulation_laws.proofs.Requests.{replaces}
 use Rattle.simulation_laws.proofs.Runs.{rise_one}
-use Rattle.simulation_laws.specs.ClusterLaws.{NoRestart, Asks, NamesVersion, update, status, patch, delete}
+use Rattle.simulation_laws.specs.ClusterLaws.{NoRestart, Asks, NamesVersion}
 use Rattle.steps.specs.Steps.{step_of}
 use Rattle.steps.specs.declared.steps.Step.{Step}
 use Rattle.cluster.specs.declared.stopped.Stopped.{Stopped}

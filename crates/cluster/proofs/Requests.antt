@@ -1,16 +1,16 @@
 -- A request that workers make, answered and written: what the cluster stands for goes on.
-use Rattle.std.proofs.Common.{◌≡◌, refl, sym, ap, subst, ◌∙◌, ℕ, List, [], ◌∷◌, ◌++◌, Option, Some, None, IfSome, Result, Ok, Err, OnOk, OnErr, false}
+use Rattle.std.proofs.Common.{◌≡◌, refl, sym, ap, subst, ◌∙◌, [], Option, Some, None, IfSome, Result, Ok, Err, OnOk, OnErr, false}
 use Rattle.definitions.specs.declared.kinds.Kind.{Kind}
 use Rattle.definitions.specs.History.{History, Write}
 use Rattle.definitions.specs.ObjectRequests.{Request}
 use Rattle.definitions.specs.Reached.{CanBeRead, asks}
-use Rattle.definitions.specs.Verbs.{Answer, accept, answered, history_after, overflows, with_write, write_of}
-use Rattle.answer_laws.specs.AnswerLaws.{IsOfObject, IsReadBack}
+use Rattle.definitions.specs.Verbs.{accept, history_after, overflows, with_write, write_of}
+use Rattle.answer_laws.specs.AnswerLaws.{IsOfObject}
 use Rattle.answer_laws.proofs.ReadBacks.{answers_back}
 use Rattle.laws.proofs.Limits.{room}
-use Rattle.laws.proofs.Runs.{Begins, nothing, begins-write}
+use Rattle.laws.proofs.Runs.{nothing, begins-write}
 use Rattle.laws.proofs.ServerHistories.{accepted_holds}
-use Rattle.server_state.specs.Servers.{Server, IsServerAfter, after_writing}
+use Rattle.server_state.specs.Servers.{IsServerAfter, after_writing}
 use Rattle.session.proofs.Followed.{same_outcome}
 use Rattle.session.specs.Laws as sessions
 use Rattle.session.specs.SessionStates.{SessionState, accepted, changed_by, of_write, HasRoom}
@@ -52,6 +52,7 @@ stands_after w c q o writes_this is =
     record {
       session = subst (λ (s : SessionState). sessions.Follows s (after q c).session) (sym (same_server w.session o)) (server, is.session.1);
       journal = ap (λ j. with_write j o) is.journal ∙ ap (with_write (history c)) this;
+      initial = is.initial;
       config_maps = is.config_maps;
       pods = is.pods;
       replica_sets = is.replica_sets;

@@ -5,9 +5,10 @@ use Rattle.definitions.specs.declared.kinds.Kind.TheVariants.{ConfigMap, Pod, Re
 use Rattle.line_protocol.specs.Lines as lines
 use Rattle.line_protocol.specs.Lines.{Line, line_of}
 use Rattle.session.proofs.Followed.{follows_line, same_line, sessions_follow}
+use Rattle.simulation.specs.declared.initial_syncs.InitialSync.{InitialSync}
 use Rattle.simulation.specs.Clusters as clusters
 use Rattle.simulation.specs.Clusters.{Cluster, ClusterStep, request, compact, moves, restart}
-use Rattle.simulation.specs.Followers.{Follower}
+use Rattle.simulation.specs.Followers.{Follower, begun}
 use Rattle.simulation.specs.Moves as moving
 use Rattle.simulation.specs.Moves.{Move, replied, answers_by, move_by}
 use Rattle.simulation_laws.proofs.Runs.{keeps, runs_followed}
@@ -26,13 +27,13 @@ same_follower w c is Deployment = is.deployments
 
 pub with_same : (w : ClusterState) (c : Cluster) (k : Kind) (f g : Follower) → StandsFor w c → f ≡ g → StandsFor (with_follower k f w) (clusters.with_follower k g c)
 with_same w c ConfigMap f g is e =
-    record { session = is.session; journal = is.journal; config_maps = e; pods = is.pods; replica_sets = is.replica_sets; deployments = is.deployments }
+    record { session = is.session; journal = is.journal; initial = is.initial; config_maps = e; pods = is.pods; replica_sets = is.replica_sets; deployments = is.deployments }
 with_same w c Pod f g is e =
-    record { session = is.session; journal = is.journal; config_maps = is.config_maps; pods = e; replica_sets = is.replica_sets; deployments = is.deployments }
+    record { session = is.session; journal = is.journal; initial = is.initial; config_maps = is.config_maps; pods = e; replica_sets = is.replica_sets; deployments = is.deployments }
 with_same w c ReplicaSet f g is e =
-    record { session = is.session; journal = is.journal; config_maps = is.config_maps; pods = is.pods; replica_sets = e; deployments = is.deployments }
+    record { session = is.session; journal = is.journal; initial = is.initial; config_maps = is.config_maps; pods = is.pods; replica_sets = e; deployments = is.deployments }
 with_same w c Deployment f g is e =
-    record { session = is.session; journal = is.journal; config_maps = is.config_maps; pods = is.pods; replica_sets = is.replica_sets; deployments = e }
+    record { session = is.session; journal = is.journal; initial = is.initial; config_maps = is.config_maps; pods = is.pods; replica_sets = is.replica_sets; deployments = e }
 
 same_move : (w : ClusterState) (c : Cluster) (k : Kind) (m : Move) → StandsFor w c
     → move_by k (answers_by k w.session.server) (follower k w) m ≡ moving.move k c.session.window c.session.history (clusters.follower k c) m
@@ -45,6 +46,7 @@ after_line w c l is =
     record {
       session = follows_line w.session c.session is.session l;
       journal = line_recorded w.journal w.session c.session l is.session is.journal;
+      initial = is.initial;
       config_maps = is.config_maps;
       pods = is.pods;
       replica_sets = is.replica_sets;
@@ -57,6 +59,7 @@ after_compaction w c r is =
     record {
       session = follows_line w.session c.session is.session (lines.compact r);
       journal = line_recorded w.journal w.session c.session (lines.compact r) is.session is.journal;
+      initial = is.initial;
       config_maps = is.config_maps;
       pods = is.pods;
       replica_sets = is.replica_sets;
@@ -69,7 +72,15 @@ steps_follow w c (request t) is = after_line w c (line_of t) is
 steps_follow w c (compact r) is = after_compaction w c r is
 steps_follow w c (moves k m) is = with_same w c k _ _ is (ap (λ (m : moving.Moved). m.follower) (same_move w c k m is))
 steps_follow w c restart is =
-    record { session = is.session; journal = is.journal; config_maps = refl; pods = refl; replica_sets = refl; deployments = refl }
+    record {
+      session = is.session;
+      journal = is.journal;
+      initial = is.initial;
+      config_maps = ap (λ i. begun i ConfigMap) is.initial;
+      pods = ap (λ i. begun i Pod) is.initial;
+      replica_sets = ap (λ i. begun i ReplicaSet) is.initial;
+      deployments = ap (λ i. begun i Deployment) is.initial;
+    }
 
 -- and the same is told of both
 pub outcomes_same : (w : ClusterState) (c : Cluster) (s : ClusterStep) → StandsFor w c → (step w s).outcome ≡ (clusters.step c s).outcome
@@ -89,12 +100,12 @@ pub run_stood : (w : ClusterState) (ss : List ClusterStep) → Stands w → Stan
 run_stood w [] is = is
 run_stood w (s ∷ ss) is = run_stood (step w s).cluster ss (stood w s is)
 
-pub stands_for_opened : (size : ℕ) → StandsFor (opened size) (clusters.opened size)
-stands_for_opened size = record { session = sessions_follow.0 size; journal = refl; config_maps = refl; pods = refl; replica_sets = refl; deployments = refl }
+pub stands_for_opened : (size : ℕ) (i : InitialSync) → StandsFor (opened size i) (clusters.opened size i)
+stands_for_opened size i = record { session = sessions_follow.0 size; journal = refl; initial = refl; config_maps = refl; pods = refl; replica_sets = refl; deployments = refl }
 
-pub stands_opened : (size : ℕ) → Stands (opened size)
+pub stands_opened : (size : ℕ) (i : InitialSync) → Stands (opened size i)
 unfolding Stands
-stands_opened size = (clusters.opened size, stands_for_opened size, runs_followed size [])
+stands_opened size i = (clusters.opened size i, stands_for_opened size i, runs_followed size i [])
 
 -- a step that was taken, or changed nothing
 pub stood_after : {X E : Type 0} (w v : ClusterState) (s : ClusterStep) (r : Result X E) → Stands w → OnOk r (v ≡ (step w s).cluster) → OnErr r (v ≡ w) → Stands v

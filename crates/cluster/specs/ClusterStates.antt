@@ -10,6 +10,8 @@ use Rattle.line_protocol.specs.Lines.{line_of}
 use Rattle.server_state.specs.Snapshots.{Snapshot}
 use Rattle.session.specs.SessionStates as sessions
 use Rattle.session.specs.SessionStates.{SessionState, coded_state, state_after, reply_to}
+use Rattle.simulation.specs.contracts.initial_syncs.InitialSync as initial_sync
+use Rattle.simulation.specs.declared.initial_syncs.InitialSync.{InitialSync}
 use Rattle.simulation.specs.Clusters.{ClusterStep, request, compact, moves, restart}
 use Rattle.simulation.specs.Codes.{coded_follower}
 use Rattle.simulation.specs.Followers as followers
@@ -17,10 +19,11 @@ use Rattle.simulation.specs.Followers.{Follower}
 use Rattle.simulation.specs.Moves.{Moved, Outcome, replied, restarted, answers_by, move_by}
 use Rattle.recorded_sessions.specs.RecordedStates.{journal_after}
 
--- a session, all that has happened at it, the oldest first, and what follows each kind
+-- a session, all that has happened at it, the oldest first, how followers begin, and what follows each kind
 pub record ClusterState : Type 0 where
   pub session : SessionState
   pub journal : History
+  pub initial : InitialSync
   pub config_maps : Follower
   pub pods : Follower
   pub replica_sets : Follower
@@ -29,26 +32,27 @@ pub record ClusterState : Type 0 where
 -- a code by which a model may store it
 abbrev pub coded_cluster : Coded ClusterState
 coded_cluster =
-    code_by ((SessionState × History) × ((Follower × Follower) × (Follower × Follower)))
-    (coded× (coded× coded_state coded_history) (coded× (coded× coded_follower coded_follower) (coded× coded_follower coded_follower)))
-    (λ w. ((w.session, w.journal), ((w.config_maps, w.pods), (w.replica_sets, w.deployments))))
-    (λ p. record { session = p.0.0; journal = p.0.1; config_maps = p.1.0.0; pods = p.1.0.1; replica_sets = p.1.1.0; deployments = p.1.1.1 }) (λ _. refl)
+    code_by ((SessionState × (History × InitialSync)) × ((Follower × Follower) × (Follower × Follower)))
+    (coded× (coded× coded_state (coded× coded_history initial_sync.the_row.coded)) (coded× (coded× coded_follower coded_follower) (coded× coded_follower coded_follower)))
+    (λ w. ((w.session, (w.journal, w.initial)), ((w.config_maps, w.pods), (w.replica_sets, w.deployments))))
+    (λ p. record { session = p.0.0; journal = p.0.1.0; initial = p.0.1.1; config_maps = p.1.0.0; pods = p.1.0.1; replica_sets = p.1.1.0; deployments = p.1.1.1 }) (λ _. refl)
 
--- what follows nothing yet
-abbrev pub with_new_followers : SessionState → History → ClusterState
-with_new_followers s j =
+-- all followers begin anew
+abbrev pub with_new_followers : InitialSync → SessionState → History → ClusterState
+with_new_followers i s j =
     record {
       session = s;
       journal = j;
-      config_maps = followers.begun ConfigMap;
-      pods = followers.begun Pod;
-      replica_sets = followers.begun ReplicaSet;
-      deployments = followers.begun Deployment;
+      initial = i;
+      config_maps = followers.begun i ConfigMap;
+      pods = followers.begun i Pod;
+      replica_sets = followers.begun i ReplicaSet;
+      deployments = followers.begun i Deployment;
     }
 
--- nothing has happened yet, and windows have this size
-abbrev pub opened : ℕ → ClusterState
-opened window = with_new_followers (sessions.begun window) []
+-- nothing has happened yet, windows have this size, and followers begin so
+abbrev pub opened : ℕ → InitialSync → ClusterState
+opened window i = with_new_followers i (sessions.begun window) []
 
 abbrev pub follower : Kind → ClusterState → Follower
 follower ConfigMap w = w.config_maps
@@ -85,7 +89,7 @@ unfoldable pub step : ClusterState → ClusterStep → Stepped
 step w (request t) = answered_line w (line_of t)
 step w (compact r) = answered_line w (lines.compact r)
 step w (moves k m) = moved_in k w (move_by k (answers_by k w.session.server) (follower k w) m)
-step w restart = record { cluster = with_new_followers w.session w.journal; outcome = restarted }
+step w restart = record { cluster = with_new_followers w.initial w.session w.journal; outcome = restarted }
 
 -- one step after another
 abbrev pub run : ClusterState → List ClusterStep → ClusterState

@@ -5,10 +5,11 @@ use Rattle.simulation.specs.Clusters.{Cluster, history}
 use Rattle.simulation_laws.specs.ClusterLaws.{IsFollowed}
 use Rattle.cluster.specs.ClusterStates.{ClusterState}
 
--- its server stands for all that has happened in the cluster, which its journal has, and what follows each kind is the same
+-- its server stands for all that has happened in the cluster, which its journal has, and how followers begin, and what follows each kind, is the same
 pub record StandsFor (w : ClusterState) (c : Cluster) : Type 0 where
   pub session : sessions.Follows w.session c.session
   pub journal : w.journal ≡ history c
+  pub initial : w.initial ≡ c.initial
   pub config_maps : w.config_maps ≡ c.config_maps
   pub pods : w.pods ≡ c.pods
   pub replica_sets : w.replica_sets ≡ c.replica_sets

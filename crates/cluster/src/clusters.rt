@@ -6,12 +6,13 @@ use indexer::Indexed;
 use recorded_sessions::{Entry, RecordedSession};
 use std::alloc::{AllocError, Global};
 use std::marker::Model;
-use steps::{Move, Step};
+use steps::{InitialSync, Move, Step};
 
 /// A server with the journal of all that has happened at it, and what follows each kind of it.
 #[derive(Drop)]
 pub struct Cluster {
     pub(crate) recorded: RecordedSession,
+    pub(crate) initial: InitialSync,
     pub(crate) config_maps: Follower,
     pub(crate) pods: Follower,
     pub(crate) replica_sets: Follower,
@@ -29,6 +30,7 @@ impl Model for Cluster {
     ghost view = { λ w. record {
       session = w.recorded.session;
       journal = w.recorded.journal;
+      initial = w.initial;
       config_maps = w.config_maps;
       pods = w.pods;
       replica_sets = w.replica_sets;
@@ -38,6 +40,7 @@ impl Model for Cluster {
     ghost invariant = { λ w. Stands (record {
       session = w.recorded.session;
       journal = w.recorded.journal;
+      initial = w.initial;
       config_maps = w.config_maps;
       pods = w.pods;
       replica_sets = w.replica_sets;
@@ -55,16 +58,18 @@ impl Cluster {
     ghost use Rattle.cluster.specs.Headline.{ShowsLists, RevisionsRise, ReplacesNamedVersion, ReplacesNamedVersions};
     ghost use Rattle.cluster.specs.ClusterStates.{opened, published, moved_in, answered_line, with_new_followers, follower, step, run};
 
-    /// Returns the opening cluster: nothing is there, and the server's windows have this size. The error is running out of memory.
-    pub fn open(alloc: Global, window: usize) -> Result<Cluster, AllocError>
-        ensures { IfOk result (λ w. w ≡ opened window) }
+    /// Returns the opening cluster: nothing is there, the server's windows have this size, and followers begin so, also after a
+    /// restart. The error is running out of memory.
+    pub fn open(alloc: Global, window: usize, initial: InitialSync) -> Result<Cluster, AllocError>
+        ensures { IfOk result (λ w. w ≡ opened window initial) }
     {
         Ok(Cluster {
             recorded: RecordedSession::new(alloc, window)?,
-            config_maps: Follower::new(alloc, Kind::ConfigMap),
-            pods: Follower::new(alloc, Kind::Pod),
-            replica_sets: Follower::new(alloc, Kind::ReplicaSet),
-            deployments: Follower::new(alloc, Kind::Deployment),
+            initial,
+            config_maps: Follower::new(alloc, Kind::ConfigMap, initial),
+            pods: Follower::new(alloc, Kind::Pod, initial),
+            replica_sets: Follower::new(alloc, Kind::ReplicaSet, initial),
+            deployments: Follower::new(alloc, Kind::Deployment, initial),
         })
     }
 
@@ -138,12 +143,12 @@ impl Cluster {
 
     /// Has all followers begin anew.
     fn restart(&mut self, alloc: Global)
-        ensures { self.new ≡ with_new_followers self.old.session self.old.journal }
+        ensures { self.new ≡ with_new_followers self.old.initial self.old.session self.old.journal }
     {
-        self.config_maps = Follower::new(alloc, Kind::ConfigMap);
-        self.pods = Follower::new(alloc, Kind::Pod);
-        self.replica_sets = Follower::new(alloc, Kind::ReplicaSet);
-        self.deployments = Follower::new(alloc, Kind::Deployment);
+        self.config_maps = Follower::new(alloc, Kind::ConfigMap, self.initial);
+        self.pods = Follower::new(alloc, Kind::Pod, self.initial);
+        self.replica_sets = Follower::new(alloc, Kind::ReplicaSet, self.initial);
+        self.deployments = Follower::new(alloc, Kind::Deployment, self.initial);
     }
 
     /// Takes a step, and returns what is told of it. The error is running out of memory, and changes nothing.

@@ -8,6 +8,7 @@ use Rattle.definitions.specs.Reached.{IsReached, IsTimestamp, CanBeRead, asks}
 use Rattle.definitions.specs.Verbs.{accept, history_after, write_of}
 use Rattle.laws.proofs.Runs.{Begins, nothing, begins-write}
 use Rattle.server_state.specs.Snapshots.{Snapshot}
+use Rattle.simulation.specs.declared.initial_syncs.InitialSync.{InitialSync}
 use Rattle.simulation.specs.Clusters.{Cluster, history, follower, with_follower, request, compact, moves, restart}
 use Rattle.simulation.specs.Followers.{Follower, Notification}
 use Rattle.simulation_laws.specs.ClusterLaws.{IsFollowed, ShowsServerLists}
@@ -85,11 +86,11 @@ run_well : (p : ControlPlane) (ss : List Step) → Well p.cluster p.manager → 
 run_well p [] is = is
 run_well p (s ∷ ss) is = run_well (step p s).plane ss (well_step p s is)
 
-pub all_well : (window workers : ℕ) (steps : List Step) → Well (run (opened window workers) steps).cluster (run (opened window workers) steps).manager
-all_well window workers steps = run_well (opened window workers) steps (opens window, (none_begun IsStoredLook IsStoredRead workers, tt))
+pub all_well : (window workers : ℕ) (initial : InitialSync) (steps : List Step) → Well (run (opened window workers initial) steps).cluster (run (opened window workers initial) steps).manager
+all_well window workers initial steps = run_well (opened window workers initial) steps (opens window initial, (none_begun IsStoredLook IsStoredRead workers, tt))
 
 pub followed : PlanesAreFollowed
-followed window workers steps = (all_well window workers steps).0
+followed window workers initial steps = (all_well window workers initial steps).0
 
 -- ---- what is published
 
@@ -97,7 +98,7 @@ shown_lists : (c : Cluster) → IsFollowed c → ShowsServerLists c
 shown_lists c is k = let f = is.2 k in (ap (λ (z : Snapshot). z.members) f.published, omega (arith, f.passed, f.reached))
 
 pub lists_shown : InformersShowServerLists
-lists_shown window workers steps = shown_lists (run (opened window workers) steps).cluster (followed window workers steps)
+lists_shown window workers initial steps = shown_lists (run (opened window workers initial) steps).cluster (followed window workers initial steps)
 
 -- ---- what was looked at
 
@@ -112,31 +113,31 @@ pub run_append : (p : ControlPlane) (ss ts : List Step) → run p (ss ++ ts) ≡
 run_append p [] ts = refl
 run_append p (s ∷ ss) ts = run_append (step p s).plane ss ts
 
-module _ (window workers : ℕ) (steps : List Step) where
-  pub look_listed : (k : Kind) (s : Snapshot) → WasPublished (opened window workers) steps k s → IsServerList (history (run (opened window workers) steps).cluster) k s
+module _ (window workers : ℕ) (initial : InitialSync) (steps : List Step) where
+  pub look_listed : (k : Kind) (s : Snapshot) → WasPublished (opened window workers initial) steps k s → IsServerList (history (run (opened window workers initial) steps).cluster) k s
   look_listed k s x =
-      let v = opened window workers in
+      let v = opened window workers initial in
       let q = run v x.0 in
       let f = follower k q.cluster in
       let b = run_begins q x.1 in
-      let stood = stand k (history q.cluster) b.0 f ((followed window workers x.0).2 k) in
+      let stood = stand k (history q.cluster) b.0 f ((followed window workers initial x.0).2 k) in
       let here : IsServerList (history q.cluster ++ b.0) k f.informer.published = (ap (λ (z : Snapshot). z.members) stood.published, omega (arith, stood.passed, stood.reached)) in
       let all : run v steps ≡ run q x.1 = ap (run v) x.2 ∙ run_append v x.0 x.1 in
       let now : IsServerList (history (run v steps).cluster) k f.informer.published =
       subst (λ h. IsServerList h k f.informer.published) (sym (ap (λ (p : ControlPlane). history p.cluster) all ∙ b.1)) here in
       subst (IsServerList (history (run v steps).cluster) k) (sym x.3.0) now
 
-  seen_listed : (s : Sight) → IsSeen (WasPublished (opened window workers) steps) s → IsSeen (IsServerList (history (run (opened window workers) steps).cluster)) s
+  seen_listed : (s : Sight) → IsSeen (WasPublished (opened window workers initial) steps) s → IsSeen (IsServerList (history (run (opened window workers initial) steps).cluster)) s
   seen_listed (looked k s) x = look_listed k s x
   seen_listed (satisfied b) x = tt
 
-  each_listed : (i : Issued) → IsNext (WasPublished (opened window workers) steps) (WasThere (history (run (opened window workers) steps).cluster)) i.turn i.command
-      → AllByRecursion (IsSeen (IsServerList (history (run (opened window workers) steps).cluster))) i.turn.sights
+  each_listed : (i : Issued) → IsNext (WasPublished (opened window workers initial) steps) (WasThere (history (run (opened window workers initial) steps).cluster)) i.turn i.command
+      → AllByRecursion (IsSeen (IsServerList (history (run (opened window workers initial) steps).cluster))) i.turn.sights
   each_listed i n =
-      all_map (IsSeen (WasPublished (opened window workers) steps)) (IsSeen (IsServerList (history (run (opened window workers) steps).cluster))) seen_listed i.turn.sights n.looks
+      all_map (IsSeen (WasPublished (opened window workers initial) steps)) (IsSeen (IsServerList (history (run (opened window workers initial) steps).cluster))) seen_listed i.turn.sights n.looks
 
 pub looks_listed : LooksAreServerLists
-looks_listed window workers steps =
-    let p = run (opened window workers) steps in
-    all_map (λ (i : Issued). IsNext (WasPublished (opened window workers) steps) (WasThere (history p.cluster)) i.turn i.command)
-    (λ (i : Issued). AllByRecursion (IsSeen (IsServerList (history p.cluster))) i.turn.sights) (each_listed window workers steps) p.manager.issued (issued_next window workers steps)
+looks_listed window workers initial steps =
+    let p = run (opened window workers initial) steps in
+    all_map (λ (i : Issued). IsNext (WasPublished (opened window workers initial) steps) (WasThere (history p.cluster)) i.turn i.command)
+    (λ (i : Issued). AllByRecursion (IsSeen (IsServerList (history p.cluster))) i.turn.sights) (each_listed window workers initial steps) p.manager.issued (issued_next window workers initial steps)

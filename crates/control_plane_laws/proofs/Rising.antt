@@ -50,4 +50,4 @@ module _ (k : Kind) where
       let later = rise_run (step p s).plane ss two.1 (well_step p s is) in omega (arith, here, later)
 
 pub revisions_rise : PublishedRevisionsRise
-revisions_rise window workers before steps k none = rise_run k (run (opened window workers) before) steps none (all_well window workers before)
+revisions_rise window workers initial before steps k none = rise_run k (run (opened window workers initial) before) steps none (all_well window workers initial before)

@@ -11,6 +11,7 @@ use Rattle.line_protocol.specs.Lines.{reply_text}
 use Rattle.laws.specs.LifecycleLaws.{ReplacesVersion}
 use Rattle.laws.specs.SentLaws.{whole}
 use Rattle.server_state.specs.Snapshots.{Snapshot}
+use Rattle.simulation.specs.declared.initial_syncs.InitialSync.{InitialSync}
 use Rattle.simulation.specs.Clusters.{history, follower, request}
 use Rattle.simulation.specs.Moves.{replied}
 use Rattle.simulation_laws.specs.ClusterLaws.{IsFollowed, ShowsServerLists, Asks, NamesVersion}
@@ -22,17 +23,17 @@ use Rattle.reconciling_laws.specs.OwedLaws.{NoRestart}
 
 -- what has happened at the server can happen, and each follower follows it
 abbrev pub PlanesAreFollowed : Type 0
-PlanesAreFollowed = (window workers : ℕ) (steps : List Step) → IsFollowed (run (opened window workers) steps).cluster
+PlanesAreFollowed = (window workers : ℕ) (initial : InitialSync) (steps : List Step) → IsFollowed (run (opened window workers initial) steps).cluster
 
 -- what each informer has published is the server's list at the revision published with it
 abbrev pub InformersShowServerLists : Type 0
-InformersShowServerLists = (window workers : ℕ) (steps : List Step) → ShowsServerLists (run (opened window workers) steps).cluster
+InformersShowServerLists = (window workers : ℕ) (initial : InitialSync) (steps : List Step) → ShowsServerLists (run (opened window workers initial) steps).cluster
 
 -- the revisions that an informer publishes never fall between two restarts
 abbrev pub PublishedRevisionsRise : Type 0
 PublishedRevisionsRise =
-    (window workers : ℕ) (before steps : List Step) (k : Kind) → NoRestart steps
-    → (let p = run (opened window workers) before in (follower k p.cluster).informer.published.revision ≤ (follower k (run p steps).cluster).informer.published.revision)
+    (window workers : ℕ) (initial : InitialSync) (before steps : List Step) (k : Kind) → NoRestart steps
+    → (let p = run (opened window workers initial) before in (follower k p.cluster).informer.published.revision ≤ (follower k (run p steps).cluster).informer.published.revision)
 
 -- a look is the server's list at its revision, which has happened
 abbrev pub IsServerList : History → Kind → Snapshot → Type 0
@@ -44,7 +45,7 @@ LookedAtServerLists p = AllByRecursion (λ (i : Issued). AllByRecursion (IsSeen 
 
 -- over every list of steps
 abbrev pub LooksAreServerLists : Type 0
-LooksAreServerLists = (window workers : ℕ) (steps : List Step) → LookedAtServerLists (run (opened window workers) steps)
+LooksAreServerLists = (window workers : ℕ) (initial : InitialSync) (steps : List Step) → LookedAtServerLists (run (opened window workers initial) steps)
 
 -- a client's line that asks a request which names the version of an object is answered by what has happened, and if it writes, what stood
 -- under the key had just this version (Kubernetes API Conventions, Concurrency Control and Consistency)

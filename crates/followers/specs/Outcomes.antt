@@ -8,6 +8,7 @@ outcome_of (code.Replied text) = moves.replied text.items
 outcome_of code.NoStep = moves.no_step
 outcome_of (code.Listed k r n) = moves.listed k r n
 outcome_of (code.Opened k r) = moves.opened k r
+outcome_of (code.Streaming k r) = moves.streaming k r
 outcome_of (code.Expired k) = moves.expired k
 outcome_of (code.Sent k n) = moves.sent k n
 outcome_of (code.Fed k r e) = moves.fed k r e

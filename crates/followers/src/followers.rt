@@ -3,6 +3,7 @@ ghost use Rattle.std.specs.Prelude.{◌≡◌};
 ghost use Rattle.reflector.specs.Deltas.{delta_of};
 ghost use Rattle.followers.specs.Listed.{listed_count};
 
+use crate::beginnings::{begun, streaming};
 use crate::outcomes::ClusterOutcome;
 use controllers::reflectors::Ask;
 use definitions::versions::At;
@@ -15,6 +16,7 @@ use notifications::{Notification, apply_all};
 use reflector::{Delta, Fed, Reflector};
 use revisions::Watched;
 use selector::View;
+use simulation::initial_syncs::InitialSync;
 use std::alloc::{AllocError, Global};
 use std::collections::VecDeque;
 use std::marker::Model;
@@ -59,7 +61,7 @@ impl Follower {
     ghost use Rattle.std.specs.Prelude.{◌≡◌, OnOk, OnErr, IfOk, Ok, Some, None, drop, length, option_map, slice_get};
     ghost use Rattle.controllers.specs.Reflectors.{list_of};
     ghost use Rattle.simulation.specs.Followers.{begun};
-    ghost use Rattle.simulation.specs.Moves.{Answers, answers_by, listed_of, list_in, watch_in, send_on, bookmark_on, deliver_on, deliver_all_on, cut_on, publish_by, move_by};
+    ghost use Rattle.simulation.specs.Moves.{Answers, answers_by, listed_of, list_in, watch_in, stream_in, send_on, bookmark_on, deliver_on, deliver_all_on, cut_on, publish_by, move_by};
     ghost use Rattle.definitions.specs.History.{unfiltered};
     ghost use Rattle.selector.specs.Views.{view_of};
     ghost use Rattle.followers.specs.Answered.{AnswersLists};
@@ -67,14 +69,14 @@ impl Follower {
     ghost use Rattle.followers.specs.Outcomes.{outcome_of};
     ghost use Rattle.steps.specs.Steps.{move_of};
 
-    /// Returns what follows a kind and has seen nothing yet.
-    pub fn new(alloc: Global, kind: Kind) -> Follower
-        ensures { result ≡ begun kind }
+    /// Returns what follows a kind and has seen nothing yet, and begins so.
+    pub fn new(alloc: Global, kind: Kind, initial: InitialSync) -> Follower
+        ensures { result ≡ begun initial kind }
     {
         Follower {
             kind,
             link: None,
-            reflector: Reflector::new(alloc, kind),
+            reflector: begun(alloc, kind, initial),
             published: Indexed::new(alloc),
             pending: Vec::new(alloc),
             unhandled: VecDeque::new(alloc),
@@ -89,7 +91,7 @@ impl Follower {
         &self.published
     }
 
-    /// Returns whether the first list was published.
+    /// Returns whether the first list was published, or the first initial events that were closed.
     pub fn has_listed(&self) -> bool
         ensures { result ≡ self.now.has_listed }
     {
@@ -127,7 +129,7 @@ impl Follower {
             ≡ (list_in self.old.reflector.kind self.old.reflector.phase (answers_by self.old.reflector.kind server.now) self.old).outcome) }
         ensures err { OnErr result (self.new ≡ self.old) }
     {
-        if let Ask::Watch(_) = self.reflector.next() {
+        if self.reflector.next() != Ask::List {
             return Ok(ClusterOutcome::NoStep);
         }
         let view = self.view(alloc);
@@ -146,8 +148,8 @@ impl Follower {
         Ok(ClusterOutcome::Listed(self.kind, self.reflector.revision(), count))
     }
 
-    /// Opens a watch, where one is asked for and no link is open; where it is refused, a list is asked for again. The error is
-    /// running out of memory, and changes nothing.
+    /// Opens a watch, where one is asked for and no link is open; where it is refused, what is there is asked for again. The error
+    /// is running out of memory, and changes nothing.
     pub fn watch(&mut self, alloc: Global, server: &Server) -> Result<ClusterOutcome, AllocError>
         ensures after { OnOk result (self.new
             ≡ (watch_in self.old.reflector.kind self.old.reflector.phase self.old.link (answers_by self.old.reflector.kind server.now) self.old).follower) }
@@ -175,8 +177,30 @@ impl Follower {
         }
     }
 
-    /// Has the server write the next changes, at most so many, where a link is open. The error is running out of memory, and
-    /// changes nothing.
+    /// Opens a watch that begins with all that is there, where one is asked for and no link is open. The error is running out of
+    /// memory, and changes nothing.
+    pub fn stream(&mut self, alloc: Global, server: &Server) -> Result<ClusterOutcome, AllocError>
+        ensures after { OnOk result (self.new
+            ≡ (stream_in self.old.reflector.kind self.old.reflector.phase self.old.link (answers_by self.old.reflector.kind server.now) self.old).follower) }
+        ensures outcome { IfOk result (λ o. outcome_of o
+            ≡ (stream_in self.old.reflector.kind self.old.reflector.phase self.old.link (answers_by self.old.reflector.kind server.now) self.old).outcome) }
+        ensures err { OnErr result (self.new ≡ self.old) }
+    {
+        if self.reflector.next() != Ask::Stream {
+            return Ok(ClusterOutcome::NoStep);
+        }
+        if self.link.is_some() {
+            return Ok(ClusterOutcome::NoStep);
+        }
+        let view = self.view(alloc);
+        let link = streaming(alloc, server, &view)?;
+        let revision = link.stands();
+        self.link = Some(link);
+        Ok(ClusterOutcome::Streaming(self.kind, revision))
+    }
+
+    /// Has the server write the next initial lines, or else the next changes, at most so many, where a link is open. The error is
+    /// running out of memory, and changes nothing.
     pub fn send(
         &mut self,
         alloc: Global,
@@ -197,6 +221,10 @@ impl Follower {
         if link.is_refused() {
             return Ok(ClusterOutcome::NoStep);
         }
+        if link.is_opening() {
+            let count = link.write_initial(alloc, kind, most)?;
+            return Ok(ClusterOutcome::Sent(kind, count));
+        }
         match server.watch_from(alloc, &view, link.stands(), most) {
             Ok(Watched { events, stands }) => {
                 link.write_changes(alloc, kind, events.as_slice(), stands)?;
@@ -210,8 +238,8 @@ impl Follower {
         }
     }
 
-    /// Has the server write a bookmark at the present revision, where a link is open and no change is left to send. The error is
-    /// running out of memory, and changes nothing.
+    /// Has the server write a bookmark at the present revision, where a link is open and neither an initial line nor a change is
+    /// left to send. The error is running out of memory, and changes nothing.
     pub fn send_bookmark(
         &mut self,
         alloc: Global,
@@ -229,7 +257,7 @@ impl Follower {
         let Some(link) = &mut self.link else {
             return Ok(ClusterOutcome::NoStep);
         };
-        if link.is_refused() {
+        if link.is_refused() || link.is_opening() {
             return Ok(ClusterOutcome::NoStep);
         }
         match server.watch_from(alloc, &view, link.stands(), 0) {
@@ -302,6 +330,7 @@ impl Follower {
         match movement {
             Move::List => self.list(alloc, server),
             Move::Watch => self.watch(alloc, server),
+            Move::Stream => self.stream(alloc, server),
             Move::Send(most) => self.send(alloc, server, most as usize),
             Move::SendBookmark => self.send_bookmark(alloc, server),
             Move::Deliver(most) => self.deliver(alloc, most as usize),
@@ -324,7 +353,7 @@ impl Follower {
         ClusterOutcome::Cut(self.kind, self.reflector.revision())
     }
 
-    /// Publishes what waits, once a list was taken in. The error is running out of memory, and changes nothing.
+    /// Publishes what waits, once a list or closed initial events were taken in. The error is running out of memory, and changes nothing.
     pub fn publish(&mut self, alloc: Global) -> Result<ClusterOutcome, AllocError>
         ensures after { OnOk result (self.new ≡ (publish_by self.old.reflector.kind self.old).follower) }
         ensures outcome { IfOk result (λ o. outcome_of o ≡ (publish_by self.old.reflector.kind self.old).outcome) }

@@ -4,6 +4,7 @@
 //! out of memory changes nothing. The world of all four kinds stands on this.
 #![tactic(auto)]
 
+mod beginnings;
 pub mod followers;
 pub mod outcomes;
 

@@ -13,7 +13,9 @@ pub enum ClusterOutcome {
     Listed(Kind, u64, u64),
     /// A watch was opened from a revision.
     Opened(Kind, u64),
-    /// A watch was refused, and a list is asked for again.
+    /// A watch was opened that begins with all that is there at a revision.
+    Streaming(Kind, u64),
+    /// A watch was refused, and what is there is asked for again.
     Expired(Kind),
     /// So many frames were written.
     Sent(Kind, u64),

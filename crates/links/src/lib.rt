@@ -2,5 +2,7 @@
 #![tactic(auto)]
 
 pub mod links;
+pub mod openings;
 
 pub use links::Link;
+pub use openings::Opening;

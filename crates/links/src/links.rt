@@ -1,23 +1,26 @@
 //! Links.
-ghost use Rattle.std.specs.Prelude.{◌≡◌, ◌++◌, ◌≤◌, drop, take, length, ◌∷◌, [], IfOk, OnOk, OnErr, map, string_bytes};
+ghost use Rattle.std.specs.Prelude.{◌≡◌, ◌++◌, ◌≤◌, nat_lt, drop, take, length, ◌∷◌, [], IfOk, OnOk, OnErr, map, string_bytes, false};
 ghost use Rattle.definitions.specs.Frames.{frame_text, error_frame, bookmark_frame};
 ghost use Rattle.definitions.specs.Streams.{bookmark, event as change, text_of_lines};
 ghost use Rattle.keys.specs.Faults.{refusal_of};
 ghost use Rattle.revisions.specs.Events.{event_seen};
 ghost use Rattle.simulation.specs.Followers.{opened_at};
-ghost use Rattle.simulation.specs.Moves.{after_lines, after_refusal};
+ghost use Rattle.simulation.specs.Moves.{after_lines, after_initial, after_refusal};
+ghost use Rattle.links.specs.Openings.{initial_lines};
 
+use crate::openings::Opening;
 use keys::Fault;
 use meta::Kind;
 use revisions::Event;
 use std::alloc::{AllocError, Global};
 use std::marker::Model;
 
-/// An open watch: the revision up to which all changes were written, what was written, of which a beginning was read, and
-/// whether an ERROR frame was written, after which nothing is.
+/// An open watch: the revision up to which all changes were written, the initial lines that are still to be written before any
+/// change, what was written, of which a beginning was read, and whether an ERROR frame was written, after which nothing is.
 #[derive(Drop)]
 pub struct Link {
     stands: u64,
+    opening: Opening,
     written: Vec<u8>,
     read: usize,
     is_refused: bool,
@@ -32,7 +35,12 @@ impl Model for Link {
 
     ghost coded = { coded_link };
 
-    ghost view = { λ l. record { stands = l.stands; unread = drop l.read l.written.items; is_refused = l.is_refused } };
+    ghost view = { λ l. record {
+      stands = l.stands;
+      initial = l.opening;
+      unread = drop l.read l.written.items;
+      is_refused = l.is_refused;
+    } };
 
     ghost invariant = { λ l. l.read ≤ length l.written.items };
 }
@@ -44,6 +52,26 @@ impl Link {
     {
         Link {
             stands: revision,
+            opening: Opening::none(alloc),
+            written: Vec::new(alloc),
+            read: 0,
+            is_refused: false,
+        }
+    }
+
+    /// Returns a link on which nothing is written yet, and on which the objects of these events are to be, and then the bookmark
+    /// that closes them, at a revision.
+    pub fn streaming_at(alloc: Global, events: Vec<Event>, revision: u64) -> Link
+        ensures { result ≡ record {
+          stands = revision;
+          initial = initial_lines (map event_seen events.items) revision;
+          unread = [];
+          is_refused = false;
+        } }
+    {
+        Link {
+            stands: revision,
+            opening: Opening::of(events, revision),
             written: Vec::new(alloc),
             read: 0,
             is_refused: false,
@@ -55,6 +83,13 @@ impl Link {
         ensures { result ≡ self.now.stands }
     {
         self.stands
+    }
+
+    /// Returns whether initial lines are left to write.
+    pub fn is_opening(&self) -> bool
+        ensures { result ≡ nat_lt 0 (length self.now.initial) }
+    {
+        self.opening.len() > 0
     }
 
     /// Returns whether an ERROR frame was written.
@@ -81,7 +116,7 @@ impl Link {
 
     /// Passes over the next bytes that were not read, at most so many.
     pub fn pass(&mut self, most: usize)
-        ensures { self.new ≡ record { stands = self.old.stands; unread = drop most self.old.unread; is_refused = self.old.is_refused } }
+        ensures { self.new ≡ record self.old { unread = drop most self.old.unread } }
     {
         self.read += most.min(self.unread());
         if self.read == self.written.len() {
@@ -92,12 +127,32 @@ impl Link {
 
     /// Writes bytes, and stands at a revision.
     fn write(&mut self, text: &str, stands: u64) -> Result<(), AllocError>
-        ensures ok { OnOk result (self.new ≡ record { stands = stands; unread = self.old.unread ++ text.now; is_refused = self.old.is_refused }) }
+        ensures ok { OnOk result (self.new ≡ record self.old { stands = stands; unread = self.old.unread ++ text.now }) }
         ensures err { OnErr result (self.new ≡ self.old) }
     {
         self.written.extend_from_slice(text.as_bytes())?;
         self.stands = stands;
         Ok(())
+    }
+
+    /// Writes the next initial lines, at most so many, and returns how many. The error is running out of memory, and changes
+    /// nothing.
+    pub fn write_initial(
+        &mut self,
+        alloc: Global,
+        kind: Kind,
+        most: usize,
+    ) -> Result<u64, AllocError>
+        ensures ok { OnOk result (self.new ≡ after_initial kind most self.old) }
+        ensures count { IfOk result (λ n. n ≡ length (take most self.old.initial)) }
+        ensures err { OnErr result (self.new ≡ self.old) }
+    {
+        let text = self.opening.text(alloc, kind, most)?;
+        let stands = self.stands;
+        self.write(text.as_str(), stands)?;
+        let count = most.min(self.opening.len());
+        self.opening.pass(most);
+        Ok(count as u64)
     }
 
     /// Writes the frames of changes, and stands at a revision. The error is running out of memory, and changes nothing.

@@ -159,6 +159,7 @@ pub fn told(line: Vec<u8>, outcome: ClusterOutcome) -> Vec<u8>
             line, "listed", kind, revision, count,
         ),
         ClusterOutcome::Opened(kind, revision) => with_number(line, "opened", kind, revision),
+        ClusterOutcome::Streaming(kind, revision) => with_number(line, "streaming", kind, revision),
         ClusterOutcome::Expired(kind) => expired(line, kind),
         ClusterOutcome::Sent(kind, count) => with_number(line, "sent", kind, count),
         ClusterOutcome::Fed(kind, revision, end) => fed(line, kind, revision, end),

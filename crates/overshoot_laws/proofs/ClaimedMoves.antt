@@ -1,19 +1,30 @@
 -- As followers move, changes are handled and workers act, the pods of a set that is let alone stay claimed.
-use Rattle.std.proofs.Common.{◌≡◌, ◌≤◌, inl, inr, ◌+◌, ◌-◌, ◌==◌, ◌&&◌, ℕ, List, [], ◌∷◌, ◌++◌, length, Bool, true, false, Option, Some, None, slice_get, refl, sym, ap, ◌∙◌, subst, arith}
+use Rattle.std.proofs.Common.{◌≡◌, ◌≤◌, ◌⊎◌, inl, inr, ◌+◌, ◌-◌, ◌==◌, ◌&&◌, ℕ, List, [], ◌∷◌, ◌++◌, length, Bool, true, false, Option, Some, None, slice_get, refl, sym, ap, ◌∙◌, subst, arith, append_assoc}
 use Rattle.std.proofs.lemmas.List.{drop_all}
 use mathlib.Core.Bool.{true≢false}
 use Rattle.definitions.specs.declared.kinds.Kind.{Kind}
 use Rattle.definitions.specs.declared.kinds.Kind.TheVariants.{ConfigMap, Pod, ReplicaSet, Deployment}
-use Rattle.definitions.specs.History.{History, writes, present}
+use Rattle.definitions.specs.History.{History, Write, writes, present, list as listed}
 use Rattle.definitions.specs.ObjectRequests.{Request}
+use Rattle.definitions.specs.Reached.{IsReached}
+use Rattle.definitions.specs.Streams.{text_of_lines}
 use Rattle.controllers.specs.Expectations.{Owner}
 use Rattle.controllers.specs.Informers.{applied, all_applied}
+use Rattle.controllers.specs.declared.reflectors.End.{End}
+use Rattle.controllers.specs.declared.reflectors.Phase.{Phase}
+use Rattle.controllers.specs.declared.reflectors.Phase.TheVariants.{Listing, Streaming, Watching}
 use Rattle.controllers.specs.Reflectors.{Delta, replace, Listed, list_delta, Fed, fed, fed_in, nothing}
 use Rattle.controllers.specs.WorkQueues.{handed}
 use Rattle.server_state.specs.Snapshots.{Snapshot}
+use Rattle.laws.specs.SentLaws.{whole}
+use Rattle.reflector.specs.Laws.{IsAtStart}
+use Rattle.simulation.specs.declared.initial_syncs.InitialSync.{InitialSync}
+use Rattle.simulation.specs.declared.initial_syncs.InitialSync.TheVariants as sync
 use Rattle.simulation.specs.Clusters.{Cluster, history, follower, with_follower, request, compact, moves, restart}
-use Rattle.simulation.specs.Followers.{Link, Follower, Notification, after_list, after_open, after_expiry, after_bytes, after_cut}
-use Rattle.simulation.specs.Moves.{Move, answers_after, listed_of, with_link, move, move_by}
+use Rattle.simulation.specs.Followers.{Link, Follower, Notification, begun, streaming_at, after_list, after_open, after_expiry, after_bytes, after_cut}
+use Rattle.simulation.specs.Moves.{Move, answers_after, left_open, listed_of, with_link, move, move_by}
+use Rattle.simulation_laws.specs.ClusterLaws.{IsFollowed}
+use Rattle.simulation_laws.specs.FollowerLaws.{IsLinked, IsFollowing}
 use Rattle.simulation_laws.specs.LeadLaws.{Leads, IsLed}
 use Rattle.reconciling.specs.ControlPlanes.{ControlPlane, Step, in_cluster, handle, works, tick, client, after_request, handle_in, step_in, step}
 use Rattle.reconciling.specs.Managers.{Manager, Acted, Action, take_key, carry_out, act}
@@ -24,8 +35,9 @@ use Rattle.reconciling_laws.proofs.Counting.{by_counted, by_tick}
 use Rattle.overshoot_laws.specs.Reserves.{born_after}
 use Rattle.overshoot_laws.proofs.Asking.{none_after}
 use Rattle.overshoot_laws.proofs.Claimed.{ClaimsIn, born_in, none_since, claims_later}
-use Rattle.overshoot_laws.proofs.ClaimedSteps.{IsBegun, IsSettled}
-use Rattle.overshoot_laws.proofs.OpenMoves.{by_open_move}
+use Rattle.overshoot_laws.proofs.ClaimedSteps.{IsComing, IsAsking, IsBegun, IsSettled}
+use Rattle.overshoot_laws.proofs.FirstStreams.{ReplacesAt, Closes, AsksForAll, StaysQuiet, written, read_on, stays_quiet, opened_closes}
+use Rattle.overshoot_laws.proofs.OpenMoves.{coming, by_linked_move}
 
 le : (a b c : ℕ) → a ≤ b → b ≤ c → a ≤ c
 le a b c e f = omega arith
@@ -37,7 +49,7 @@ leads_rise h k m (d ∷ ds) all = le m.revision (applied m d).revision (all_appl
 
 -- ---- moves of the follower of pods
 
-module _ (o : Owner) (size : ℕ) (h : History) (f : Follower) (ts : List (Option Turn)) (led : IsLed h Pod f) (is : IsSettled o (writes h) f ts) where
+module _ (o : Owner) (size : ℕ) (h : History) (f : Follower) (ts : List (Option Turn)) (reached : IsReached h) (following : IsFollowing h Pod f) (led : IsLed h Pod f) (is : IsSettled o (writes h) f ts) where
   abbrev Begun : Follower → Type 0
   Begun g = IsBegun o (writes h) g
 
@@ -68,22 +80,99 @@ module _ (o : Owner) (size : ℕ) (h : History) (f : Follower) (ts : List (Optio
       still n = omega arith
   listed_begun (inr (r, os, ds, first, claims, none)) = inr (r, os, ds ++ list_delta list ∷ [], ap (λ xs. xs ++ list_delta list ∷ []) first, claims, none)
 
-  expired_begun : Begun f → Begun (after_expiry f)
-  expired_begun (inl b) = inl (b.0, refl, b.2)
-  expired_begun (inr b) = inr b
+  -- ---- until all is taken in
 
-  fed_begun : (bytes : List ℕ) (l : Option Link) → Begun f → Begun (after_bytes (fed f.reflector bytes) l f)
-  fed_begun bytes l (inl b) =
-      let none : fed f.reflector bytes ≡ nothing f.reflector = ap (λ x. fed_in x (f.reflector.buffered ++ bytes) f.reflector) b.1 in
-      inl (ap (λ (x : Fed). f.informer.pending ++ x.deltas) none ∙ ap (λ ds. ds ++ []) b.0, ap (λ (x : Fed). x.after.phase) none ∙ b.1, ap (λ (x : Fed). x.after.revision) none ∙ b.2)
-  fed_begun bytes l (inr (r, os, ds, first, claims, none)) = inr (r, os, ds ++ (fed f.reflector bytes).deltas, ap (λ xs. xs ++ (fed f.reflector bytes).deltas) first, claims, none)
+  not_watching : (p : Phase) → AsksForAll p → p ≡ Watching → ⊥
+  not_watching Listing asks e = cc
+  not_watching Streaming asks e = cc
+  not_watching Watching (inl e) w = cc
+  not_watching Watching (inr e) w = cc
+
+  -- who watches has taken all in
+  watches_begun : (g : Follower) → g.informer.pending ≡ f.informer.pending → f.reflector.phase ≡ Watching → Begun f → Begun g
+  watches_begun g same watches (inl (empty, zero, inl lists)) = absurd (not_watching f.reflector.phase (inl lists) watches)
+  watches_begun g same watches (inl (empty, zero, inr (streams, c))) = absurd (not_watching f.reflector.phase (inr streams) watches)
+  watches_begun g same watches (inr (r, os, ds, first, claims, none)) = inr (r, os, ds, same ∙ first, claims, none)
+
+  -- a stream is opened
+  streams_begun : f.reflector.phase ≡ Streaming → f.link ≡ None → Begun f → Begun (with_link (streaming_at (present h) (listed h (whole Pod) (present h))) f)
+  streams_begun streams none (inr b) = inr b
+  streams_begun streams none (inl (empty, zero, asks)) =
+      let clear = subst (IsLinked h Pod f.reflector) none following.linked in
+      let start : IsAtStart f.reflector = record { streams = streams; initial = clear.initial; holds = clear.holds } in
+      inl (empty, zero, inr (streams, (present h, none_since o (writes h) (present h) (still (present h)), none_born, opened_closes h Pod f.reflector reached following.kind start)))
+    where
+      still : (n : ℕ) → n ≤ n
+      still n = omega arith
+
+  cut_begun : Begun f → Begun (after_cut f)
+  cut_begun (inl (empty, zero, inl lists)) = inl (empty, zero, inl lists)
+  cut_begun (inl (empty, zero, inr (streams, c))) = inl (empty, zero, inr (streams, tt))
+  cut_begun (inr b) = inr b
+
+  -- more is written
+  written_begun : (l m : Link) (t : List ℕ) → f.link ≡ Some l → coming Pod m ≡ coming Pod l ++ t → Begun f → Begun (with_link m f)
+  written_begun l m t some is (inr b) = inr b
+  written_begun l m t some is (inl (empty, zero, inl lists)) = inl (empty, zero, inl lists)
+  written_begun l m t some is (inl (empty, zero, inr (streams, c))) = inl (empty, zero, inr (streams, by (subst (IsComing o (writes h) f.reflector) some c)))
+    where
+      by : IsComing o (writes h) f.reflector (Some l) → IsComing o (writes h) f.reflector (Some m)
+      by (r, claims, none, closes) = (r, claims, none, subst (Closes r f.reflector) (sym is) (written r f.reflector (coming Pod l) t closes))
+
+  -- ---- more is read
+
+  module _ (l : Link) (bytes rest : List ℕ) (some : f.link ≡ Some l) (whole_of : bytes ++ rest ≡ l.unread) where
+    abbrev read : Fed
+    read = fed f.reflector bytes
+
+    abbrev left : Option End → Option Link
+    left e = left_open e (record l { unread = rest })
+
+    abbrev Goal : Option Link → Type 0
+    Goal m = Begun (after_bytes read m f)
+
+    parts : bytes ++ (rest ++ text_of_lines Pod l.initial) ≡ coming Pod l
+    parts = sym (append_assoc bytes rest (text_of_lines Pod l.initial)) ∙ ap (λ t. t ++ text_of_lines Pod l.initial) whole_of
+
+    empty_after : f.informer.pending ≡ [] → read.deltas ≡ [] → f.informer.pending ++ read.deltas ≡ []
+    empty_after empty none = ap (λ ds. ds ++ read.deltas) empty ∙ none
+
+    ended_asks : AsksForAll read.after.phase → IsAsking o (writes h) read.after None
+    ended_asks (inl lists) = inl lists
+    ended_asks (inr streams) = inr (streams, tt)
+
+    quiet_asks : (r : ℕ) → ClaimsIn o (writes h) r → born_in o r (writes h) ≡ 0 → Closes r f.reflector (coming Pod l) → read.deltas ≡ [] → StaysQuiet f.reflector read → (e : Option End) → read.ended ≡ e
+        → IsAsking o (writes h) read.after (left e)
+    quiet_asks r claims none closes quiet stays (Some e) ended = ended_asks stays.asks
+    quiet_asks r claims none closes quiet stays None ended =
+        inr (stays.streams ended, (r, claims, none, read_on r f.reflector bytes (rest ++ text_of_lines Pod l.initial) quiet ended (subst (Closes r f.reflector) (sym parts) closes)))
+
+    by_start : (r : ℕ) → f.informer.pending ≡ [] → f.reflector.revision ≡ 0 → f.reflector.phase ≡ Streaming → ClaimsIn o (writes h) r → born_in o r (writes h) ≡ 0 → Closes r f.reflector (coming Pod l)
+        → (read.deltas ≡ []) ⊎ ReplacesAt r read.deltas → Goal (left read.ended)
+    by_start r empty zero streams claims none closes (inl quiet) =
+        let stays = stays_quiet f.reflector bytes streams quiet in
+        inl (empty_after empty quiet, stays.revision ∙ zero, quiet_asks r claims none closes quiet stays read.ended refl)
+    by_start r empty zero streams claims none closes (inr (os, later, is)) = inr (r, os, later, ap (λ ds. ds ++ read.deltas) empty ∙ is, claims, none)
+
+    by_coming : f.informer.pending ≡ [] → f.reflector.revision ≡ 0 → f.reflector.phase ≡ Streaming → IsComing o (writes h) f.reflector (Some l) → Goal (left read.ended)
+    by_coming empty zero streams (r, claims, none, closes) =
+        by_start r empty zero streams claims none closes (closes.starts bytes (rest ++ text_of_lines Pod l.initial) parts)
+
+    read_begun : Begun f → Goal (left read.ended)
+    read_begun (inl (empty, zero, inl lists)) =
+        let none : read ≡ nothing f.reflector = ap (λ x. fed_in x (f.reflector.buffered ++ bytes) f.reflector) lists in
+        inl (empty_after empty (ap (λ (x : Fed). x.deltas) none), ap (λ (x : Fed). x.after.revision) none ∙ zero, inl (ap (λ (x : Fed). x.after.phase) none ∙ lists))
+    read_begun (inl (empty, zero, inr (streams, c))) = by_coming empty zero streams (subst (IsComing o (writes h) f.reflector) some c)
+    read_begun (inr (r, os, ds, first, claims, none)) = inr (r, os, ds ++ read.deltas, ap (λ xs. xs ++ read.deltas) first, claims, none)
+
+  -- ---- what is published
 
   published_claims : (f.reflector.revision == 0) ≡ false → (b : Bool) → f.has_listed ≡ b → ClaimsIn o (writes h) (all_applied f.informer.published f.informer.pending).revision
   published_claims named true e = claims_later o (writes h) f.informer.published.revision _ (leads_rise h Pod f.informer.published f.informer.pending led) (is.listed e)
   published_claims named false e = by (is.waits e).begun
     where
       by : Begun f → ClaimsIn o (writes h) (all_applied f.informer.published f.informer.pending).revision
-      by (inl b) = absurd (true≢false (sym (ap (λ n. n == 0) b.2) ∙ named))
+      by (inl b) = absurd (true≢false (sym (ap (λ n. n == 0) b.1) ∙ named))
       by (inr (r, os, ds, first, claims, none)) =
           let s = f.informer.published in
           let leads : Leads h Pod s (replace r os ∷ ds) = subst (Leads h Pod s) first led in
@@ -93,13 +182,23 @@ module _ (o : Owner) (size : ℕ) (h : History) (f : Follower) (ts : List (Optio
   pub moves_settle : (m : Move) → Settled (move_by Pod (answers_after Pod size h) f m).follower
   moves_settle m =
       let a = answers_after Pod size h in
-      by_open_move Settled Pod a f is (unpublished (after_list (listed_of Pod a) f) refl refl refl listed_begun) (unpublished (after_open f) refl refl refl (λ b. b)) (unpublished (after_expiry f) refl refl refl expired_begun)
-      (λ l. unpublished (with_link l f) refl refl refl (λ b. b)) (λ bytes l. unpublished (after_bytes (fed f.reflector bytes) l f) refl refl refl (fed_begun bytes l)) (unpublished (after_cut f) refl refl refl (λ b. b))
+      by_linked_move Settled Pod a f is (unpublished (after_list (listed_of Pod a) f) refl refl refl listed_begun)
+      (λ watches. unpublished (after_open f) refl refl refl (watches_begun (after_open f) refl watches))
+      (λ streams none. unpublished (with_link (streaming_at a.present a.members) f) refl refl refl (streams_begun streams none))
+      (λ watches. unpublished (after_expiry f) refl refl refl (watches_begun (after_expiry f) refl watches))
+      (λ l n t some more. unpublished (with_link n f) refl refl refl (written_begun l n t some more))
+      (λ l bytes rest some whole_of. let x = fed f.reflector bytes in unpublished (after_bytes x (left_open x.ended (record l { unread = rest })) f) refl refl refl (read_begun l bytes rest some whole_of))
+      (unpublished (after_cut f) refl refl refl cut_begun)
       (λ named. record { listed = λ e. published_claims named f.has_listed refl; waits = λ e. absurd (true≢false e) }) m
 
 -- ---- other steps
 
-module _ (o : Owner) (p : ControlPlane) (led : IsLed (history p.cluster) Pod p.cluster.pods) where
+-- at first all pods are asked for
+pub begins_asking : (o : Owner) (ws : List Write) (i : InitialSync) → IsBegun o ws (begun i Pod)
+begins_asking o ws sync.List = inl (refl, refl, inl refl)
+begins_asking o ws sync.Stream = inl (refl, refl, inr (refl, tt))
+
+module _ (o : Owner) (p : ControlPlane) (followed : IsFollowed p.cluster) (led : IsLed (history p.cluster) Pod p.cluster.pods) where
   abbrev c : Cluster
   c = p.cluster
 
@@ -113,7 +212,7 @@ module _ (o : Owner) (p : ControlPlane) (led : IsLed (history p.cluster) Pod p.c
   moved ConfigMap m is = is
   moved ReplicaSet m is = is
   moved Deployment m is = is
-  moved Pod m is = moves_settle o c.session.window (history c) c.pods ts led is m
+  moved Pod m is = moves_settle o c.session.window (history c) c.pods ts followed.0 (followed.2 Pod) led is m
 
   -- a change of pods is handled only once a list was published
   handled_pod : (f : Follower) (n : Notification) (ns : List Notification) → f.unhandled ≡ n ∷ ns → IsSettled o (writes (history c)) f ts → IsSettled o (writes (history c)) (record f { unhandled = ns }) ts
@@ -154,7 +253,7 @@ module _ (o : Owner) (p : ControlPlane) (led : IsLed (history p.cluster) Pod p.c
   in_step (in_cluster (compact r)) is = is
   in_step (in_cluster (moves k m)) is = moved k m is
   in_step (in_cluster restart) is =
-      record { listed = λ e. absurd (true≢false (sym e)); waits = λ e. record { rests = none_after ts; has_none = refl; begun = inl (refl, refl, refl) } }
+      record { listed = λ e. absurd (true≢false (sym e)); waits = λ e. record { rests = none_after ts; has_none = refl; begun = begins_asking o (writes (history c)) c.initial } }
   in_step (handle k) is = handled k (follower k c).unhandled refl is
   in_step (works w a) is = acted w a is
   in_step (tick n) is = by_tick (λ d m x. IsSettled o (writes (history d)) p.cluster.pods p.manager.turns → IsSettled o (writes (history d)) d.pods m.turns) n p (λ y. y) (λ y. y) is

@@ -11,13 +11,13 @@ use Rattle.definitions.specs.Verbs.{accept, write_of, with_write}
 use Rattle.laws.proofs.Past.{writes-append}
 use Rattle.controllers.specs.declared.controller.Controller.{Controller}
 use Rattle.controllers.specs.declared.controller.Controller.TheVariants as controller
-use Rattle.controllers.specs.declared.reflectors.Phase.TheVariants.{Listing}
+use Rattle.controllers.specs.declared.reflectors.Phase.TheVariants.{Listing, Streaming}
 use Rattle.controllers.specs.Commands.{Command}
 use Rattle.controllers.specs.Expectations.{Owner}
-use Rattle.controllers.specs.Reflectors.{Delta, replace}
+use Rattle.controllers.specs.Reflectors.{Reflector, Delta, replace}
 use Rattle.controllers.specs.WorkQueues.{WorkKey, handed}
 use Rattle.simulation.specs.Clusters.{Cluster, history}
-use Rattle.simulation.specs.Followers.{Follower}
+use Rattle.simulation.specs.Followers.{Link, Follower}
 use Rattle.reconciling.specs.ControlPlanes.{ControlPlane, Step, in_cluster, handle, works, tick, client, after_request, step_in, step}
 use Rattle.reconciling.specs.Managers.{Acted, Action, Delivery, delivered, answer_lost, dropped, requested, take_key, carry_out, act}
 use Rattle.reconciling.specs.NextSteps.{NextStep, next, look, ask_satisfied, read, expect, issue, finish}
@@ -30,19 +30,30 @@ use Rattle.overshoot_laws.specs.Overshoot.{turn_of, written, each_of_pods, keeps
 use Rattle.overshoot_laws.specs.Reserves.{turn_at}
 use Rattle.overshoot_laws.proofs.Claimed.{ClaimsIn, IsClaim, Claim, born_in, claims_one, claims_many, born_many, commands_claim}
 use Rattle.overshoot_laws.proofs.Finishing.{now_is}
+use Rattle.overshoot_laws.proofs.FirstStreams.{Closes}
 use Rattle.overshoot_laws.proofs.LookedPods.{IsStanding}
+use Rattle.overshoot_laws.proofs.OpenMoves.{coming}
 use Rattle.overshoot_laws.proofs.PodWrites.{next_edits}
 
 -- ---- what is kept
 
 module _ (o : Owner) where
-  -- until the first list of pods is taken in nothing waits; from then on none of the set's pods was created since, and each is claimed
+  -- what comes on a link replaces all at a revision since which none of the set's pods was created, and each is claimed
+  abbrev pub IsComing : List Write → Reflector → Option Link → Type 0
+  IsComing ws s None = Unit {0}
+  IsComing ws s (Some l) = (r : ℕ) × ClaimsIn o ws r × (born_in o r ws ≡ 0) × Closes r s (coming Pod l)
+
+  -- a list is asked for, or a stream that begins with all pods
+  abbrev pub IsAsking : List Write → Reflector → Option Link → Type 0
+  IsAsking ws s l = (s.phase ≡ Listing) ⊎ ((s.phase ≡ Streaming) × IsComing ws s l)
+
+  -- until all pods are taken in for the first time nothing waits; from then on none of the set's pods was created since, and each is claimed
   abbrev pub IsBegun : List Write → Follower → Type 0
   IsBegun ws f =
-      ((f.informer.pending ≡ []) × (f.reflector.phase ≡ Listing) × (f.reflector.revision ≡ 0))
+      ((f.informer.pending ≡ []) × (f.reflector.revision ≡ 0) × IsAsking ws f.reflector f.link)
       ⊎ ((r : ℕ) × (os : List Object) × (ds : List Delta) × (f.informer.pending ≡ replace r os ∷ ds) × ClaimsIn o ws r × (born_in o r ws ≡ 0))
 
--- until the first list of pods is published no worker is in a turn, and nothing waits to be handled
+-- until pods are published for the first time no worker is in a turn, and nothing waits to be handled
 pub record IsWaiting (o : Owner) (ws : List Write) (f : Follower) (ts : List (Option Turn)) : Type 0 where
   pub rests : (w : ℕ) (t : Turn) → slice_get ts w ≡ Some (Some t) → ⊥
   pub has_none : f.unhandled ≡ []
@@ -56,8 +67,16 @@ pub record IsSettled (o : Owner) (ws : List Write) (f : Follower) (ts : List (Op
 -- ---- as more is written
 
 module _ (o : Owner) (h : History) (f : Follower) (ts : List (Option Turn)) (is : IsSettled o (writes h) f ts) where
+  coming_grows : (new : List Write) → each_of_pods (keeps_claims o) h new ≡ true → (s : Reflector) (l : Option Link) → IsComing o (writes h) s l → IsComing o (writes h ++ new) s l
+  coming_grows new e s None c = tt
+  coming_grows new e s (Some l) (r, claims, none, closes) = (r, claims_many o r h new e claims, born_many o r h new e none, closes)
+
+  asking_grows : (new : List Write) → each_of_pods (keeps_claims o) h new ≡ true → IsAsking o (writes h) f.reflector f.link → IsAsking o (writes h ++ new) f.reflector f.link
+  asking_grows new e (inl lists) = inl lists
+  asking_grows new e (inr (streams, c)) = inr (streams, coming_grows new e f.reflector f.link c)
+
   begun_grows : (new : List Write) → each_of_pods (keeps_claims o) h new ≡ true → IsBegun o (writes h) f → IsBegun o (writes h ++ new) f
-  begun_grows new e (inl b) = inl b
+  begun_grows new e (inl (empty, zero, asks)) = inl (empty, zero, asking_grows new e asks)
   begun_grows new e (inr (r, os, ds, first, claims, none)) = inr (r, os, ds, first, claims_many o r h new e claims, born_many o r h new e none)
 
   -- by others, where they leave the claims of the set's pods

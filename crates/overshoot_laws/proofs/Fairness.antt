@@ -14,6 +14,7 @@ use Rattle.controllers.specs.Informers.{applied, all_applied}
 use Rattle.controllers.specs.Reflectors.{Delta, replace}
 use Rattle.controllers.specs.Shifts.{Shift, shifts_of, all_shifts}
 use Rattle.server_state.specs.Snapshots.{Snapshot}
+use Rattle.simulation.specs.declared.initial_syncs.InitialSync.{InitialSync}
 use Rattle.simulation.specs.Clusters.{Cluster, history, with_follower}
 use Rattle.simulation.specs.Followers.{Notification, notified, notifications, after_publishing}
 use Rattle.simulation_laws.specs.LeadLaws.{Leads}
@@ -27,7 +28,7 @@ use Rattle.overshoot_laws.specs.Reserves.{born, to_be_seen, to_come, outstanding
 use Rattle.overshoot_laws.specs.ShowLaws.{AreClaimed, AreClaimedSince}
 use Rattle.overshoot_laws.specs.StepLaws.{IsFair, AreFair}
 use Rattle.overshoot_laws.proofs.Claimed.{Claims, ClaimsIn}
-use Rattle.overshoot_laws.proofs.ClaimedMoves.{settled_step}
+use Rattle.overshoot_laws.proofs.ClaimedMoves.{settled_step, begins_asking}
 use Rattle.overshoot_laws.proofs.ClaimedSteps.{IsBegun, IsWaiting, IsSettled, grown}
 use Rattle.overshoot_laws.proofs.Claiming.{claimed_adds, claimed_show}
 use Rattle.overshoot_laws.proofs.Forgetting.{none_begun}
@@ -86,7 +87,7 @@ module _ (o : Owner) where
     total b x t n u e f g i j = omega arith
 
     begun_from : IsBegun o (writes h) c.pods → (c.pods.reflector.revision == 0) ≡ false → outstanding o (with_follower Pod (after_publishing c.pods) c) m ≡ 0
-    begun_from (inl b) named = absurd (true≢false (sym (ap (λ n. n == 0) b.2) ∙ named))
+    begun_from (inl b) named = absurd (true≢false (sym (ap (λ n. n == 0) b.1) ∙ named))
     begun_from (inr (r, os, ds, first, claims, none)) named =
         let one = applied s (replace r os) in
         let all : Leads h Pod s (replace r os ∷ ds) = subst (Leads h Pod s) first led in
@@ -116,29 +117,29 @@ module _ (o : Owner) where
 
 -- ---- over all steps
 
-module _ (window workers : ℕ) (o : Owner) where
+module _ (window workers : ℕ) (initial : InitialSync) (o : Owner) where
   abbrev v : ControlPlane
-  v = opened window workers
+  v = opened window workers initial
 
   abbrev Settled : ControlPlane → Type 0
   Settled p = IsSettled o (writes (history p.cluster)) p.cluster.pods p.manager.turns
 
   at_first : Settled v
   at_first =
-      record { listed = λ e. absurd (true≢false (sym e)); waits = λ e. record { rests = none_begun workers; has_none = refl; begun = inl (refl, refl, refl) } }
+      record { listed = λ e. absurd (true≢false (sym e)); waits = λ e. record { rests = none_begun workers; has_none = refl; begun = begins_asking o [] initial } }
 
   next : (before : List Step) (s : Step) → LetAlone o (run v before) (s ∷ []) → Settled (run v before) → Settled (step (run v before) s).plane
   next before s alone is =
       let p = run v before in
-      settled_step o p (planes_lead window workers before Pod) s (grown o p (followed window workers before).0 (looked_standing window workers before) s alone.0 is)
+      settled_step o p (followed window workers initial before) (planes_lead window workers initial before Pod) s (grown o p (followed window workers initial before).0 (looked_standing window workers initial before) s alone.0 is)
 
   fair : (before : List Step) (s : Step) → Settled (run v before) → IsFair o (run v before) s
   fair before s is =
       let p = run v before in
-      let reached = (followed window workers before).0 in
+      let reached = (followed window workers initial before).0 in
       record {
-        shows = λ e. claimed_show window workers before o (claimed_since o (history p.cluster) p.cluster.pods.informer.published.revision reached (is.listed e));
-        begins = λ e named. begins_with_none o p.cluster p.manager reached (planes_lead window workers before Pod) e (is.waits e) named;
+        shows = λ e. claimed_show window workers initial before o (claimed_since o (history p.cluster) p.cluster.pods.informer.published.revision reached (is.listed e));
+        begins = λ e named. begins_with_none o p.cluster p.manager reached (planes_lead window workers initial before Pod) e (is.waits e) named;
       }
 
   go : (before steps : List Step) → Settled (run v before) → LetAlone o (run v before) steps → AreFair o (run v before) steps × Settled (run (run v before) steps)
@@ -150,9 +151,9 @@ module _ (window workers : ℕ) (o : Owner) where
       ((fair before s is, subst (λ p. AreFair o p ss) same later.0), subst (λ p. Settled (run p ss)) same later.1)
 
 pub let_alone_is_fair : LetAloneIsFair
-let_alone_is_fair window workers steps o alone = (go window workers o [] steps (at_first window workers o) alone).0
+let_alone_is_fair window workers initial steps o alone = (go window workers initial o [] steps (at_first window workers initial o) alone).0
 
 pub let_alone_is_claimed : LetAloneIsClaimed
-let_alone_is_claimed window workers steps o alone listed =
-    let p = run (opened window workers) steps in
-    claimed_since o (history p.cluster) p.cluster.pods.informer.published.revision (followed window workers steps).0 ((go window workers o [] steps (at_first window workers o) alone).1.listed listed)
+let_alone_is_claimed window workers initial steps o alone listed =
+    let p = run (opened window workers initial) steps in
+    claimed_since o (history p.cluster) p.cluster.pods.informer.published.revision (followed window workers initial steps).0 ((go window workers initial o [] steps (at_first window workers initial o) alone).1.listed listed)

@@ -28,6 +28,7 @@ mod Bounding
 mod Commanded
 mod StepKept
 mod OpenMoves
+mod FirstStreams
 mod MoveKept
 mod WorkKept
 mod KeptSteps

@@ -8,6 +8,7 @@ use Rattle.definitions.specs.declared.kinds.Kind.TheVariants.{ConfigMap, Pod, Re
 use Rattle.definitions.specs.History.{History, Entries, up_to, state, entries_at, found, list, unfiltered, in_view}
 use Rattle.definitions.specs.Keys.{Key}
 use Rattle.server_state.specs.Snapshots.{Snapshot}
+use Rattle.simulation.specs.declared.initial_syncs.InitialSync.{InitialSync}
 use Rattle.simulation.specs.Clusters.{history, follower}
 use Rattle.reconciling.specs.ControlPlanes.{ControlPlane, Step, opened, run}
 use Rattle.reconciling.specs.Turns.{Turn, Sight, looked, satisfied, shown, hand, is_pod}
@@ -69,9 +70,9 @@ module _ (h : History) (published : Kind → ℕ) where
   shown_standing (looked ReplicaSet s ∷ ss) a = shown_standing ss a.1
   shown_standing (looked Deployment s ∷ ss) a = shown_standing ss a.1
 
-module _ (window workers : ℕ) (steps : List Step) where
+module _ (window workers : ℕ) (initial : InitialSync) (steps : List Step) where
   abbrev v : ControlPlane
-  v = opened window workers
+  v = opened window workers initial
 
   abbrev p : ControlPlane
   p = run v steps
@@ -82,9 +83,9 @@ module _ (window workers : ℕ) (steps : List Step) where
   look_published : (k : Kind) (s : Snapshot) → WasPublishedSince v steps k s → IsPublished (history p.cluster) revision_of k s
   look_published k s x =
       let f = follower k (run v x.0).cluster in
-      let rises : f.informer.published.revision ≤ (follower k (run (run v x.0) x.1).cluster).informer.published.revision = revisions_rise window workers x.0 x.1 k x.3 in
+      let rises : f.informer.published.revision ≤ (follower k (run (run v x.0) x.1).cluster).informer.published.revision = revisions_rise window workers initial x.0 x.1 k x.3 in
       let all : run (run v x.0) x.1 ≡ p = sym (ap (run v) x.2 ∙ run_append v x.0 x.1) in (
-        (look_listed window workers steps k s (x.0, x.1, x.2, x.4)).0,
+        (look_listed window workers initial steps k s (x.0, x.1, x.2, x.4)).0,
         subst (λ (z : Snapshot). z.revision ≤ revision_of k) (sym x.4.0) (subst (λ (z : ControlPlane). f.informer.published.revision ≤ (follower k z.cluster).informer.published.revision) all rises),
       )
 
@@ -95,4 +96,4 @@ module _ (window workers : ℕ) (steps : List Step) where
   pub looked_standing : (w : ℕ) (t : Turn) → slice_get p.manager.turns w ≡ Some (Some t) → AllByRecursion (IsStanding (history p.cluster) p.cluster.pods.informer.published.revision) (hand t).looks.pods
   looked_standing w t here =
       shown_standing (history p.cluster) revision_of t.sights
-      (all_map (IsSeen (WasPublishedSince v steps)) (IsSeen (IsPublished (history p.cluster) revision_of)) seen_published t.sights (under_way window workers steps w t here).looks)
+      (all_map (IsSeen (WasPublishedSince v steps)) (IsSeen (IsPublished (history p.cluster) revision_of)) seen_published t.sights (under_way window workers initial steps w t here).looks)

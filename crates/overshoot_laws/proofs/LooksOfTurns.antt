@@ -19,6 +19,7 @@ use Rattle.reconciling_laws.proofs.Lists.{all_map}
 use Rattle.reconciling_laws.proofs.LookRuns.{under_way}
 use Rattle.control_plane_laws.specs.PlaneLaws.{IsServerList}
 use Rattle.control_plane_laws.proofs.PlaneRuns.{look_listed}
+use Rattle.simulation.specs.declared.initial_syncs.InitialSync.{InitialSync}
 use Rattle.simulation.specs.Clusters.{history}
 use Rattle.overshoot_laws.proofs.Bounding.{lists_show, shows_there}
 use Rattle.overshoot_laws.proofs.LookedPods.{list_standing}
@@ -110,12 +111,12 @@ module _ (h : History) where
 
 -- ---- over all steps
 
-module _ (window workers : ℕ) (steps : List Step) where
-  listed_since : (s : Sight) → IsSeen (WasPublishedSince (opened window workers) steps) s → IsSeen (IsServerList (history (run (opened window workers) steps).cluster)) s
-  listed_since (looked k s) x = look_listed window workers steps k s (x.0, x.1, x.2, x.4)
+module _ (window workers : ℕ) (initial : InitialSync) (steps : List Step) where
+  listed_since : (s : Sight) → IsSeen (WasPublishedSince (opened window workers initial) steps) s → IsSeen (IsServerList (history (run (opened window workers initial) steps).cluster)) s
+  listed_since (looked k s) x = look_listed window workers initial steps k s (x.0, x.1, x.2, x.4)
   listed_since (satisfied b) x = tt
 
   -- each look of a turn in a worker's hands is the server's list at its revision
-  pub turn_listed : (w : ℕ) (t : Turn) → slice_get (run (opened window workers) steps).manager.turns w ≡ Some (Some t) → AllByRecursion (IsSeen (IsServerList (history (run (opened window workers) steps).cluster))) t.sights
+  pub turn_listed : (w : ℕ) (t : Turn) → slice_get (run (opened window workers initial) steps).manager.turns w ≡ Some (Some t) → AllByRecursion (IsSeen (IsServerList (history (run (opened window workers initial) steps).cluster))) t.sights
   turn_listed w t here =
-      all_map (IsSeen (WasPublishedSince (opened window workers) steps)) (IsSeen (IsServerList (history (run (opened window workers) steps).cluster))) listed_since t.sights (under_way window workers steps w t here).looks
+      all_map (IsSeen (WasPublishedSince (opened window workers initial) steps)) (IsSeen (IsServerList (history (run (opened window workers initial) steps).cluster))) listed_since t.sights (under_way window workers initial steps w t here).looks

@@ -19,6 +19,7 @@ use Rattle.laws.proofs.Traced.{traced}
 use Rattle.plans.specs.PodClaims.{have_one_uid}
 use Rattle.plans.specs.Pods.{is_active, matches}
 use Rattle.plans.specs.ReplicaSets.{set_looked_at}
+use Rattle.simulation.specs.declared.initial_syncs.InitialSync.{InitialSync}
 use Rattle.simulation.specs.Clusters.{history}
 use Rattle.reconciling.specs.ControlPlanes.{ControlPlane, Step, in_cluster, handle, works, tick, opened, step, run}
 use Rattle.reconciling.specs.Managers.{Action}
@@ -239,9 +240,9 @@ module _ (o : Owner) (pods : List Data) (p : ControlPlane) (reached : IsReached 
 
 -- ---- all steps
 
-module _ (window workers : ℕ) (o : Owner) where
+module _ (window workers : ℕ) (initial : InitialSync) (o : Owner) where
   abbrev v : ControlPlane
-  v = opened window workers
+  v = opened window workers initial
 
   go : (before steps : List Step) (pods : List Data) → Stays o pods (history (run v before).cluster) → LetAlone o (run v before) steps
       → AllAreKept o pods (run v before) steps × StayOfSet o (pods ++ made o (run v before) steps) (history (run (run v before) steps).cluster)
@@ -250,24 +251,24 @@ module _ (window workers : ℕ) (o : Owner) where
       let p = run v before in
       let q = (step p s).plane in
       let same : run v (before ++ s ∷ []) ≡ q = run_append v before (s ∷ []) in
-      let reached = (planes_are_sound window workers before).reached in
-      let later = subst (λ z. IsReached (history z.cluster)) same (planes_are_sound window workers (before ++ s ∷ [])).reached in
-      let after = stays_step o pods p reached (turn_listed window workers before) is s later alone.0 in
+      let reached = (planes_are_sound window workers initial before).reached in
+      let later = subst (λ z. IsReached (history z.cluster)) same (planes_are_sound window workers initial (before ++ s ∷ [])).reached in
+      let after = stays_step o pods p reached (turn_listed window workers initial before) is s later alone.0 in
       let ps = pods ++ made_by o p s in
       let rest =
       subst (λ z. AllAreKept o ps z ss × StayOfSet o (ps ++ made o z ss) (history (run z ss).cluster)) same
       (go (before ++ s ∷ []) ss ps (subst (λ z. Stays o ps (history z.cluster)) (sym same) after) (subst (λ z. LetAlone o z ss) (sym same) alone.1)) in
-      ((kept_step o pods p reached (turn_listed window workers before) is s later after, rest.0), subst (λ ms. StayOfSet o ms (history (run q ss).cluster)) (append_assoc pods (made_by o p s) (made o q ss)) rest.1)
+      ((kept_step o pods p reached (turn_listed window workers initial before) is s later after, rest.0), subst (λ ms. StayOfSet o ms (history (run q ss).cluster)) (append_assoc pods (made_by o p s) (made o q ss)) rest.1)
 
   none_yet : Stays o [] (history v.cluster)
   none_yet = (λ r k d low pod at is. cc, tt)
 
 pub made_pods_stay_of_set : MadePodsStayOfSet
-made_pods_stay_of_set window workers steps o alone = (go window workers o [] steps [] (none_yet window workers o) alone).1
+made_pods_stay_of_set window workers initial steps o alone = (go window workers initial o [] steps [] (none_yet window workers initial o) alone).1
 
 pub made_pods_are_kept : MadePodsAreKept
-made_pods_are_kept window workers steps o alone = (go window workers o [] steps [] (none_yet window workers o) alone).0
+made_pods_are_kept window workers initial steps o alone = (go window workers initial o [] steps [] (none_yet window workers initial o) alone).0
 
 -- so there are never more of them than the set was to have at most
 pub no_overshoot : NoOvershoot
-no_overshoot window workers steps o alone = kept_pods_are_few window workers steps o alone (made_pods_are_kept window workers steps o alone)
+no_overshoot window workers initial steps o alone = kept_pods_are_few window workers initial steps o alone (made_pods_are_kept window workers initial steps o alone)

@@ -7,6 +7,7 @@ use Rattle.definitions.specs.Keys.{Key}
 use Rattle.definitions.specs.Metadata.{owners}
 use Rattle.definitions.specs.Reached.{IsReached}
 use Rattle.controllers.specs.Expectations.{Owner}
+use Rattle.simulation.specs.declared.initial_syncs.InitialSync.{InitialSync}
 use Rattle.simulation.specs.Clusters.{history}
 use Rattle.reconciling.specs.ControlPlanes.{Step, opened, run}
 use Rattle.overshoot_laws.specs.Overshoot.{LetAlone}
@@ -21,10 +22,10 @@ StoredHaveOneController = (h : History) (r : ℕ) (k : Key) (d : Data) → IsRea
 -- claimed: it is a new one, or was there already, or had the reference before
 abbrev pub LetAloneIsClaimed : Type 0
 LetAloneIsClaimed =
-    (window workers : ℕ) (steps : List Step) (o : Owner) → LetAlone o (opened window workers) steps
-    → (let c = (run (opened window workers) steps).cluster in
+    (window workers : ℕ) (initial : InitialSync) (steps : List Step) (o : Owner) → LetAlone o (opened window workers initial) steps
+    → (let c = (run (opened window workers initial) steps).cluster in
     c.pods.has_listed ≡ true → AreClaimedSince o (history c) c.pods.informer.published.revision)
 
 -- and each step is fair to it: deltas of pods show no more creations of its pods than there were, and the first list shows none
 abbrev pub LetAloneIsFair : Type 0
-LetAloneIsFair = (window workers : ℕ) (steps : List Step) (o : Owner) → LetAlone o (opened window workers) steps → AreFair o (opened window workers) steps
+LetAloneIsFair = (window workers : ℕ) (initial : InitialSync) (steps : List Step) (o : Owner) → LetAlone o (opened window workers initial) steps → AreFair o (opened window workers initial) steps

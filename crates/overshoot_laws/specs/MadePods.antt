@@ -8,6 +8,7 @@ use Rattle.definitions.specs.Metadata.{uid}
 use Rattle.controllers.specs.Expectations.{Owner}
 use Rattle.plans.specs.Pods.{matches}
 use Rattle.reconciling.specs.ControlPlanes.{Step, opened, run}
+use Rattle.simulation.specs.declared.initial_syncs.InitialSync.{InitialSync}
 use Rattle.simulation.specs.Clusters.{history}
 use Rattle.overshoot_laws.specs.BoundRuns.{AllAreKept}
 use Rattle.overshoot_laws.specs.KeptPods.{is_among}
@@ -26,8 +27,8 @@ StayOfSet o pods h = (r : ℕ) (k : Key) (d : Data) → r ≤ present h → k.ki
 -- over every list of steps that let a set alone, the pods that are made for it stay so
 abbrev pub MadePodsStayOfSet : Type 0
 MadePodsStayOfSet =
-    (window workers : ℕ) (steps : List Step) (o : Owner) → (let v = opened window workers in LetAlone o v steps → StayOfSet o (made o v steps) (history (run v steps).cluster))
+    (window workers : ℕ) (initial : InitialSync) (steps : List Step) (o : Owner) → (let v = opened window workers initial in LetAlone o v steps → StayOfSet o (made o v steps) (history (run v steps).cluster))
 
 -- so they are kept, step by step
 abbrev pub MadePodsAreKept : Type 0
-MadePodsAreKept = (window workers : ℕ) (steps : List Step) (o : Owner) → (let v = opened window workers in LetAlone o v steps → AllAreKept o [] v steps)
+MadePodsAreKept = (window workers : ℕ) (initial : InitialSync) (steps : List Step) (o : Owner) → (let v = opened window workers initial in LetAlone o v steps → AllAreKept o [] v steps)

@@ -8,6 +8,7 @@ use Rattle.controllers.specs.OwedKeys.{Change, keys_of}
 use Rattle.controllers.specs.Shifts.{Shift}
 use Rattle.controllers.specs.WorkQueues.{WorkKey}
 use Rattle.control.specs.Boards.{observed, may_tick, ticked}
+use Rattle.simulation.specs.declared.initial_syncs.InitialSync.{InitialSync}
 use Rattle.simulation.specs.Clusters as clusters
 use Rattle.simulation.specs.Clusters.{Cluster, history, follower, with_follower, looks, ClusterStep, restart}
 use Rattle.simulation.specs.Followers.{Notification}
@@ -22,9 +23,9 @@ pub record ControlPlane : Type 0 where
   pub manager : Manager
   pub taken : ℕ
 
--- nothing has happened yet; windows have this size, and there are so many workers
-abbrev pub opened : ℕ → ℕ → ControlPlane
-opened window workers = record { cluster = clusters.opened window; manager = managers.begun workers; taken = 0 }
+-- nothing has happened yet; windows have this size, there are so many workers, and followers begin so
+abbrev pub opened : ℕ → ℕ → InitialSync → ControlPlane
+opened window workers i = record { cluster = clusters.opened window i; manager = managers.begun workers; taken = 0 }
 
 -- ---- what workers reach of a cluster
 

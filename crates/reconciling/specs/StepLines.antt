@@ -62,7 +62,7 @@ outcome_lines p [] = []
 outcome_lines p (t ∷ ts) = outcome_text (step p (step_asked t)).outcome ++ outcome_lines (step p (step_asked t)).plane ts
 
 abbrev pub opened_with : Config → ControlPlane
-opened_with c = opened c.window c.workers
+opened_with c = opened c.window c.workers c.initial
 
 abbrev pub run_from : List ℕ → List (List ℕ) → Option Config → List ℕ
 run_from t ts (Some c) = outcome_lines (opened_with c) ts

@@ -5,6 +5,7 @@ use Rattle.controllers.specs.declared.controller.Controller.TheVariants as contr
 use Rattle.controllers.specs.WorkQueues.{WorkKey}
 use Rattle.control.specs.Boards.{Board}
 use Rattle.simulation.specs.Clusters.{follower}
+use Rattle.simulation.specs.declared.initial_syncs.InitialSync.TheVariants as sync
 use Rattle.reconciling.specs.ControlPlanes.{ControlPlane, opened, run}
 use Rattle.reconciling.specs.StepLines.{step_asked, outcome_lines}
 use Rattle.reconciling.specs.Turns.{Turn, begun, looked, satisfied, with_sight}
@@ -15,7 +16,7 @@ text ls = flat_map (λ l. l ++ 10 ∷ []) ls
 -- a ReplicaSet of two pods was created, and all kinds are published
 abbrev published : ControlPlane
 published =
-    run (opened 16 2)
+    run (opened 16 2 sync.List)
     (map step_asked
     (codes "request POST /apis/apps/v1/namespaces/default/replicasets {\"metadata\":{\"name\":\"web\"},\"spec\":{\"replicas\":2,\"selector\":{\"matchLabels\":{\"app\":\"web\"}},\"template\":{\"metadata\":{\"labels\":{\"app\":\"web\"}},\"spec\":{}}}}"
     ∷ codes "list configmaps" ∷ codes "publish configmaps" ∷ codes "list pods" ∷ codes "publish pods" ∷ codes "list replicasets" ∷ codes "publish replicasets" ∷ codes "list deployments"
@@ -105,7 +106,7 @@ LostPodsAreSeen =
 
 abbrev orphaned : ControlPlane
 orphaned =
-    after (opened 16 1)
+    after (opened 16 1 sync.List)
     (codes "request POST /apis/apps/v1/namespaces/default/replicasets {\"metadata\":{\"name\":\"web\"},\"spec\":{\"selector\":{\"matchLabels\":{\"app\":\"web\"}},\"template\":{\"metadata\":{\"labels\":{\"app\":\"web\"}},\"spec\":{}}}}"
     ∷ codes "request POST /api/v1/namespaces/default/pods {\"metadata\":{\"name\":\"p\",\"ownerReferences\":[{\"apiVersion\":\"apps/v1\",\"kind\":\"ReplicaSet\",\"name\":\"web\",\"uid\":\"00000000-0000-8000-8000-000000000002\"}]},\"spec\":{}}"
     ∷ codes "request DELETE /apis/apps/v1/namespaces/default/replicasets/web" ∷ codes "list configmaps" ∷ codes "publish configmaps" ∷ codes "list pods" ∷ codes "publish pods"

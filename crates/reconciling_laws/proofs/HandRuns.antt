@@ -3,6 +3,7 @@ use Rattle.std.proofs.Common.{ℕ, ◌+◌, List, [], ◌∷◌, Bool, true, fal
 use Rattle.definitions.specs.declared.kinds.Kind.{Kind}
 use Rattle.controllers.specs.Delays.{due}
 use Rattle.control.specs.Boards.{may_tick, passed}
+use Rattle.simulation.specs.declared.initial_syncs.InitialSync.{InitialSync}
 use Rattle.simulation.specs.Clusters.{ClusterStep, request, compact, moves, restart, follower}
 use Rattle.simulation.specs.Followers.{Notification}
 use Rattle.reconciling.specs.ControlPlanes.{ControlPlane, Step, Stepped, in_cluster, handle, works, tick, client, handle_in, tick_in, closed, step_in, counted, step, opened, run, owed, manager_after}
@@ -52,11 +53,11 @@ run_fits : (p : ControlPlane) (ss : List Step) → FitsIn p.manager → FitsIn (
 run_fits p [] f = f
 run_fits p (s ∷ ss) f = run_fits (step p s).plane ss (same_manager FitsIn (step_in p s) (fits_in p s f))
 
-pub all_fit : (window workers : ℕ) (steps : List Step) → FitsIn (run (opened window workers) steps).manager
-all_fit window workers steps = run_fits (opened window workers) steps (fits-begun workers)
+pub all_fit : (window workers : ℕ) (initial : InitialSync) (steps : List Step) → FitsIn (run (opened window workers initial) steps).manager
+all_fit window workers initial steps = run_fits (opened window workers initial) steps (fits-begun workers)
 
 pub apart : HandsAreApart
-apart window workers steps v w a b x y k = unique v w a b (run (opened window workers) steps).manager.turns (all_fit window workers steps).2 x y k
+apart window workers initial steps v w a b x y k = unique v w a b (run (opened window workers initial) steps).manager.turns (all_fit window workers initial steps).2 x y k
 
 pub processing : ProcessingIsInHands
-processing window workers steps k = (all_fit window workers steps).1 k
+processing window workers initial steps k = (all_fit window workers initial steps).1 k

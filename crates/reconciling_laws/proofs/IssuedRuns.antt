@@ -149,6 +149,6 @@ run_well v before p (s ∷ ss) is ready f =
     (run_well v (before ++ s ∷ []) (step p s).plane ss (ap (λ q. (step q s).plane) is ∙ sym (run_one v before s)) (ready_step p s ready) (well_step v before p s is ready f))
 
 pub issued_next : IssuedIsNext
-issued_next window workers steps =
-    let v = opened window workers in
+issued_next window workers initial steps =
+    let v = opened window workers initial in
     (run_well v [] v steps refl (λ w t e. absurd (none_begins workers w t e)) (none_begun (WasPublished v []) (WasThere (history v.cluster)) workers, tt)).1

@@ -9,6 +9,7 @@ use Rattle.server_state.specs.Snapshots.{Snapshot}
 use Rattle.controllers.specs.Commands.{Command}
 use Rattle.controllers.specs.Hands.{Read}
 use Rattle.controllers.specs.WorkQueues.{WorkKey, handed}
+use Rattle.simulation.specs.declared.initial_syncs.InitialSync.{InitialSync}
 use Rattle.simulation.specs.Clusters.{history, follower, request, compact, moves, restart}
 use Rattle.simulation.specs.Followers.{Notification}
 use Rattle.reconciling.specs.ControlPlanes.{ControlPlane, Step, in_cluster, handle, works, tick, opened, client, handle_in, step_in, step, run}
@@ -271,9 +272,9 @@ module _ (v : ControlPlane) where
   runs before p [] r = subst (λ b. Runs b p) (sym (append-nil before)) r
   runs before p (s ∷ ss) r = subst (λ b. Runs b (run (step p s).plane ss)) (append_assoc before (s ∷ []) ss) (runs (before ++ s ∷ []) (step p s).plane ss (runs_step before p s r))
 
-all_runs : (window workers : ℕ) (steps : List Step) → Runs (opened window workers) steps (run (opened window workers) steps)
-all_runs window workers steps =
-    let v = opened window workers in
+all_runs : (window workers : ℕ) (initial : InitialSync) (steps : List Step) → Runs (opened window workers initial) steps (run (opened window workers initial) steps)
+all_runs window workers initial steps =
+    let v = opened window workers initial in
     runs v [] v steps
     (record {
       is = refl;
@@ -283,12 +284,12 @@ all_runs window workers steps =
     })
 
 pub under_way : TurnsAreUnderWay
-under_way window workers steps w t here =
-    let v = opened window workers in
+under_way window workers initial steps w t here =
+    let v = opened window workers initial in
     let p = run v steps in
     let f : Follows (WasPublishedSince v steps) (WasThere (history p.cluster)) t =
-    at_place (Follows (WasPublishedSince v steps) (WasThere (history p.cluster))) w t p.manager.turns here (all_runs window workers steps).turns in
+    at_place (Follows (WasPublishedSince v steps) (WasThere (history p.cluster))) w t p.manager.turns here (all_runs window workers initial steps).turns in
     record { seen = f.order; looks = f.looks; reads = f.reads; issued = f.done }
 
 pub were_issued : CommandsWereIssued
-were_issued window workers steps = (all_runs window workers steps).issued
+were_issued window workers initial steps = (all_runs window workers initial steps).issued

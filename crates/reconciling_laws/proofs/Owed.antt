@@ -207,6 +207,6 @@ published_waits k n p i =
     at_kind Deployment n c f i = i
 
 pub nothing_forgotten : NothingIsForgotten
-nothing_forgotten window workers before after k n i none =
-    let p = run (opened window workers) before in
-    kept (step p (in_cluster (moves k publish))).plane after k n (open_step p (in_cluster (moves k publish)) (open_run (opened window workers) before refl)) none (published_waits k n p i)
+nothing_forgotten window workers initial before after k n i none =
+    let p = run (opened window workers initial) before in
+    kept (step p (in_cluster (moves k publish))).plane after k n (open_step p (in_cluster (moves k publish)) (open_run (opened window workers initial) before refl)) none (published_waits k n p i)

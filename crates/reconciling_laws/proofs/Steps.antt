@@ -52,7 +52,7 @@ still_move p k m is e = ap (λ f. record p { cluster = with_follower k f p.clust
 move_still : (k : Kind) (c : Cluster) (m : moving.Move) → (let x = move_by k (answers_after k c.session.window (history c)) (follower k c) m in was_open (of_cluster x.outcome) ≡ false → x.follower ≡ follower k c)
 move_still k c m =
     by_moved (λ (x : Moved). was_open (of_cluster x.outcome) ≡ false → x.follower ≡ follower k c) k (answers_after k c.session.window (history c)) (follower k c) (λ e. refl) (λ l e. was e) (λ e. was e)
-    (λ e. was e) (λ l n e. was e) (λ r l e. was e) (λ e. was e) (λ e. was e) m
+    (λ l r e. was e) (λ e. was e) (λ l n e. was e) (λ r l e. was e) (λ e. was e) (λ e. was e) m
 
 still_act : (p : ControlPlane) (w : ℕ) (a : managers.Action) → IsStill p (after_action (act (client p.cluster) w a p.manager) p)
 still_act p w a =
@@ -140,9 +140,9 @@ as_many [] = refl
 as_many (o ∷ os) = ap suc (as_many os)
 
 pub restarts_anew : RestartsBeginAnew
-restarts_anew p = (refl, refl, as_many p.manager.turns, refl, none_left p.manager.turns, begins)
+restarts_anew p = (refl, refl, refl, as_many p.manager.turns, refl, none_left p.manager.turns, begins)
   where
-    begins : (k : Kind) → follower k (step p (in_cluster restart)).plane.cluster ≡ followers.begun k
+    begins : (k : Kind) → follower k (step p (in_cluster restart)).plane.cluster ≡ followers.begun p.cluster.initial k
     begins ConfigMap = refl
     begins Pod = refl
     begins ReplicaSet = refl
@@ -178,7 +178,7 @@ ticks true n p e unshut =
     (refl, λ k is. let at = (have_come (b.time + n) b.delays k).1 is in all-dirty (due (b.time + n) b.delays) b.work k unshut (is_among (due (b.time + n) b.delays) k at.0 at.1 at.2))
 
 pub ticks_add : TicksAddWhatIsDue
-ticks_add window workers steps n may =
-    let p = run (opened window workers) steps in
+ticks_add window workers initial steps n may =
+    let p = run (opened window workers initial) steps in
     by_counted (λ c m o. (m.board.time ≡ p.manager.board.time + n) × ((k : WorkKey) → IsDue (p.manager.board.time + n) p.manager.board.delays k → set.contains m.board.work.dirty k ≡ true))
-    (step_in p (tick n)) (ticks (may_tick n p.manager.board) n p may (open_run (opened window workers) steps refl))
+    (step_in p (tick n)) (ticks (may_tick n p.manager.board) n p may (open_run (opened window workers initial) steps refl))

@@ -6,6 +6,7 @@ use Rattle.definitions.specs.History.{History, present, state}
 use Rattle.server_state.specs.Snapshots.{Snapshot}
 use Rattle.controllers.specs.Commands.{Command}
 use Rattle.controllers.specs.Hands.{Read}
+use Rattle.simulation.specs.declared.initial_syncs.InitialSync.{InitialSync}
 use Rattle.simulation.specs.Clusters.{history, follower}
 use Rattle.reconciling.specs.ControlPlanes.{ControlPlane, Step, opened, run}
 use Rattle.reconciling.specs.Managers.{Issued}
@@ -56,4 +57,4 @@ AreNext p steps =
 
 -- and so it is over every list of steps
 abbrev pub IssuedIsNext : Type 0
-IssuedIsNext = (window workers : ℕ) (steps : List Step) → AreNext (opened window workers) steps
+IssuedIsNext = (window workers : ℕ) (initial : InitialSync) (steps : List Step) → AreNext (opened window workers initial) steps

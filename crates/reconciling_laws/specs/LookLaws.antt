@@ -4,6 +4,7 @@ use Rattle.std.specs.List.{AllByRecursion}
 use Rattle.definitions.specs.declared.kinds.Kind.{Kind}
 use Rattle.server_state.specs.Snapshots.{Snapshot}
 use Rattle.controllers.specs.Hands.{Read}
+use Rattle.simulation.specs.declared.initial_syncs.InitialSync.{InitialSync}
 use Rattle.simulation.specs.Clusters.{history, follower}
 use Rattle.reconciling.specs.ControlPlanes.{ControlPlane, Step, works, opened, run}
 use Rattle.reconciling.specs.Managers.{Issued, Delivery, issue}
@@ -31,9 +32,9 @@ pub record IsUnderWay (IsLook : Kind → Snapshot → Type 0) (IsRead : Read →
 -- published since the last restart, and each live read was there at one revision
 abbrev pub TurnsAreUnderWay : Type 0
 TurnsAreUnderWay =
-    (window workers : ℕ) (steps : List Step) (w : ℕ) (t : Turn)
-    → (let p = run (opened window workers) steps in
-    slice_get p.manager.turns w ≡ Some (Some t) → IsUnderWay (WasPublishedSince (opened window workers) steps) (WasThere (history p.cluster)) t)
+    (window workers : ℕ) (initial : InitialSync) (steps : List Step) (w : ℕ) (t : Turn)
+    → (let p = run (opened window workers initial) steps in
+    slice_get p.manager.turns w ≡ Some (Some t) → IsUnderWay (WasPublishedSince (opened window workers initial) steps) (WasThere (history p.cluster)) t)
 
 -- ---- issued commands
 
@@ -50,4 +51,4 @@ pub record WasIssued (p : ControlPlane) (steps : List Step) (i : Issued) : Type 
 
 -- over every list of steps, so was each command that was issued
 abbrev pub CommandsWereIssued : Type 0
-CommandsWereIssued = (window workers : ℕ) (steps : List Step) → AllByRecursion (WasIssued (opened window workers) steps) (run (opened window workers) steps).manager.issued
+CommandsWereIssued = (window workers : ℕ) (initial : InitialSync) (steps : List Step) → AllByRecursion (WasIssued (opened window workers initial) steps) (run (opened window workers initial) steps).manager.issued

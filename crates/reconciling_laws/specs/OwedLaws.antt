@@ -4,6 +4,7 @@ use Rattle.std.specs.FinSet as set
 use Rattle.definitions.specs.declared.kinds.Kind.{Kind}
 use Rattle.controllers.specs.WorkQueues.{WorkKey}
 use Rattle.laws.specs.WorkQueueLaws.{is_key}
+use Rattle.simulation.specs.declared.initial_syncs.InitialSync.{InitialSync}
 use Rattle.simulation.specs.Clusters.{Cluster, follower, moves, restart}
 use Rattle.simulation.specs.Followers.{Notification, notifications}
 use Rattle.simulation.specs.Moves.{publish}
@@ -59,6 +60,6 @@ pub data IsKept (p : ControlPlane) (steps : List Step) (k : Kind) (n : Notificat
 -- over every list of steps, each change that was published since the last restart is kept
 abbrev pub NothingIsForgotten : Type 0
 NothingIsForgotten =
-    (window workers : ℕ) (before after : List Step) (k : Kind) (n : Notification)
-    → (let p = run (opened window workers) before in
+    (window workers : ℕ) (initial : InitialSync) (before after : List Step) (k : Kind) (n : Notification)
+    → (let p = run (opened window workers initial) before in
     IsAmong n (published k p.cluster) → NoRestart after → IsKept (step p (in_cluster (moves k publish))).plane after k n)

@@ -5,6 +5,7 @@ use Rattle.laws.specs.DueLaws.{IsDue}
 use Rattle.controllers.specs.WorkQueues.{WorkKey}
 use Rattle.control.specs.Boards as boards
 use Rattle.control.specs.Boards.{may_tick}
+use Rattle.simulation.specs.declared.initial_syncs.InitialSync.{InitialSync}
 use Rattle.simulation.specs.Clusters.{follower, restart}
 use Rattle.simulation.specs.Followers as followers
 use Rattle.simulation.specs.Followers.{Notification}
@@ -22,13 +23,13 @@ ClosedStepsChangeNothing = (p : ControlPlane) (s : Step) → was_open (step p s)
 abbrev pub OpenStepsAreCounted : Type 0
 OpenStepsAreCounted = (p : ControlPlane) (s : Step) → was_open (step p s).outcome ≡ true → (step p s).plane.taken ≡ p.taken + 1
 
--- a restart leaves what has happened at the server, what was issued, and as many workers; and nothing else
+-- a restart leaves what has happened at the server, how followers begin, what was issued, and as many workers; and nothing else
 abbrev pub RestartsBeginAnew : Type 0
 RestartsBeginAnew =
     (p : ControlPlane)
     → (let q = (step p (in_cluster restart)).plane in
-    (q.cluster.session ≡ p.cluster.session) × (q.manager.issued ≡ p.manager.issued) × (length q.manager.turns ≡ length p.manager.turns)
-    × (q.manager.board ≡ boards.begun) × ((w : ℕ) (t : Turn) → slice_get q.manager.turns w ≡ Some (Some t) → ⊥) × ((k : Kind) → follower k q.cluster ≡ followers.begun k))
+    (q.cluster.session ≡ p.cluster.session) × (q.cluster.initial ≡ p.cluster.initial) × (q.manager.issued ≡ p.manager.issued) × (length q.manager.turns ≡ length p.manager.turns)
+    × (q.manager.board ≡ boards.begun) × ((w : ℕ) (t : Turn) → slice_get q.manager.turns w ≡ Some (Some t) → ⊥) × ((k : Kind) → follower k q.cluster ≡ followers.begun p.cluster.initial k))
 
 -- a change of the first list shows nothing of expected pods
 abbrev pub FirstListsShowNothing : Type 0
@@ -39,8 +40,8 @@ FirstListsShowNothing =
 -- over every list of steps, a tick moves the time on, and each key whose moment has come then is dirty
 abbrev pub TicksAddWhatIsDue : Type 0
 TicksAddWhatIsDue =
-    (window workers : ℕ) (steps : List Step) (n : ℕ)
-    → (let p = run (opened window workers) steps in
+    (window workers : ℕ) (initial : InitialSync) (steps : List Step) (n : ℕ)
+    → (let p = run (opened window workers initial) steps in
     let b = p.manager.board in
     let q = (step p (tick n)).plane in
     may_tick n b ≡ true → (q.manager.board.time ≡ b.time + n) × ((k : WorkKey) → IsDue (b.time + n) b.delays k → is_dirty k q ≡ true))

@@ -4,6 +4,7 @@ use Rattle.std.specs.FinSet as set
 use Rattle.std.specs.List.{list_any}
 use Rattle.std.specs.Ordering.{eq_by_cmp}
 use Rattle.controllers.specs.WorkQueues.{WorkKey, work_key_cmp}
+use Rattle.simulation.specs.declared.initial_syncs.InitialSync.{InitialSync}
 use Rattle.reconciling.specs.ControlPlanes.{Step, opened, run}
 use Rattle.reconciling.specs.Managers.{Manager}
 use Rattle.reconciling.specs.Turns.{Turn}
@@ -23,7 +24,7 @@ AreApart turns = (v w : ℕ) (a b : Turn) → slice_get turns v ≡ Some (Some a
 
 -- over every list of steps, no key is in two workers' hands
 abbrev pub HandsAreApart : Type 0
-HandsAreApart = (window workers : ℕ) (steps : List Step) → AreApart (run (opened window workers) steps).manager.turns
+HandsAreApart = (window workers : ℕ) (initial : InitialSync) (steps : List Step) → AreApart (run (opened window workers initial) steps).manager.turns
 
 -- the keys that the queue holds to be processed are those in workers' hands
 abbrev pub ProcessesHands : Manager → Type 0
@@ -31,4 +32,4 @@ ProcessesHands m = (k : WorkKey) → set.contains m.board.work.processing k ≡ 
 
 -- and so it is over every list of steps
 abbrev pub ProcessingIsInHands : Type 0
-ProcessingIsInHands = (window workers : ℕ) (steps : List Step) → ProcessesHands (run (opened window workers) steps).manager
+ProcessingIsInHands = (window workers : ℕ) (initial : InitialSync) (steps : List Step) → ProcessesHands (run (opened window workers initial) steps).manager

@@ -7,24 +7,27 @@ use Rattle.definitions.specs.Replies.{Session, start}
 use Rattle.line_protocol.specs.Lines as lines
 use Rattle.line_protocol.specs.Lines.{line_of, reply_to, session_after}
 use Rattle.controllers.specs.Informers.{Looks}
+use Rattle.simulation.specs.declared.initial_syncs.InitialSync.{InitialSync}
 use Rattle.simulation.specs.Followers.{Follower, begun}
 use Rattle.simulation.specs.Moves.{Move, Outcome, replied, restarted, Moved, move}
 
--- what has happened at the server, the moment and the size of its windows; and what follows each kind
+-- what has happened at the server, the moment and the size of its windows; how followers begin; and what follows each kind
 pub record Cluster : Type 0 where
   pub session : Session
+  pub initial : InitialSync
   pub config_maps : Follower
   pub pods : Follower
   pub replica_sets : Follower
   pub deployments : Follower
 
 -- all followers begin anew
-abbrev pub with_new_followers : Session → Cluster
-with_new_followers s = record { session = s; config_maps = begun ConfigMap; pods = begun Pod; replica_sets = begun ReplicaSet; deployments = begun Deployment }
+abbrev pub with_new_followers : InitialSync → Session → Cluster
+with_new_followers i s =
+    record { session = s; initial = i; config_maps = begun i ConfigMap; pods = begun i Pod; replica_sets = begun i ReplicaSet; deployments = begun i Deployment }
 
--- nothing has happened yet, and windows have this size
-abbrev pub opened : ℕ → Cluster
-opened window = with_new_followers (start window)
+-- nothing has happened yet, windows have this size, and followers begin so
+abbrev pub opened : ℕ → InitialSync → Cluster
+opened window i = with_new_followers i (start window)
 
 abbrev pub history : Cluster → History
 history c = c.session.history
@@ -76,7 +79,7 @@ abbrev pub step : Cluster → ClusterStep → Stepped
 step c (request t) = asked_of c (line_of t)
 step c (compact r) = asked_of c (lines.compact r)
 step c (moves k m) = moved_in k c (move k c.session.window c.session.history (follower k c) m)
-step c restart = record { cluster = with_new_followers c.session; outcome = restarted }
+step c restart = record { cluster = with_new_followers c.initial c.session; outcome = restarted }
 
 -- one step after another
 abbrev pub run : Cluster → List ClusterStep → Cluster

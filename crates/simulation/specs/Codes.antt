@@ -10,12 +10,14 @@ use Rattle.controllers.specs.InformerCodes.{coded_informer}
 use Rattle.controllers.specs.Informers.{Informer}
 use Rattle.controllers.specs.Reflectors.{Reflector}
 use Rattle.controllers.specs.Shifts.{Shift}
+use Rattle.definitions.specs.Streams.{Line}
 use Rattle.simulation.specs.Followers.{Link, Notification, Follower}
+use Rattle.simulation.specs.LineCodes.{coded_line}
 
 abbrev pub coded_link : Coded Link
 coded_link =
-    code_by (ℕ × (List ℕ × Bool)) (coded× coded_ℕ (coded× coded_text coded_bool)) (λ l. (l.stands, (l.unread, l.is_refused)))
-    (λ p. record { stands = p.0; unread = p.1.0; is_refused = p.1.1 }) (λ _. refl)
+    code_by ((ℕ × List Line) × (List ℕ × Bool)) (coded× (coded× coded_ℕ (coded_list coded_line)) (coded× coded_text coded_bool))
+    (λ l. ((l.stands, l.initial), (l.unread, l.is_refused))) (λ p. record { stands = p.0.0; initial = p.0.1; unread = p.1.0; is_refused = p.1.1 }) (λ _. refl)
 
 abbrev pub coded_shift : Coded Shift
 coded_shift =

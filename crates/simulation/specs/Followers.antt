@@ -2,28 +2,39 @@
 use Rattle.std.specs.Prelude.{ℕ, List, [], ◌∷◌, ◌++◌, map, Bool, true, false, Option, Some, None}
 use Rattle.definitions.specs.declared.kinds.Kind.{Kind}
 use Rattle.definitions.specs.History.{Entries}
+use Rattle.definitions.specs.Streams.{Line}
+use Rattle.definitions.specs.WatchReplies.{opening_lines}
 use Rattle.controllers.specs.Informers as informers
 use Rattle.controllers.specs.Informers.{Informer, after_publish}
 use Rattle.controllers.specs.Reflectors as reflectors
 use Rattle.controllers.specs.Reflectors.{Reflector, Delta, replace, Listed, Fed, with_list, list_delta, apply_delta}
 use Rattle.controllers.specs.Shifts.{Shift, shifts_of, all_shifts}
+use Rattle.simulation.specs.declared.initial_syncs.InitialSync.{InitialSync}
+use Rattle.simulation.specs.declared.initial_syncs.InitialSync.TheVariants as sync
 
 -- ---- links
 
--- an open watch: the revision up to which all changes were written, the bytes that were written and not yet read, and whether an
--- ERROR frame was written, after which nothing is
+-- an open watch: the revision up to which all changes were written, the initial lines that are still to be written before any
+-- change, the bytes that were written and not yet read, and whether an ERROR frame was written, after which nothing is
 pub record Link : Type 0 where
   pub stands : ℕ
+  pub initial : List Line
   pub unread : List ℕ
   pub is_refused : Bool
 
 -- nothing is written on it yet
 abbrev pub opened_at : ℕ → Link
-opened_at r = record { stands = r; unread = []; is_refused = false }
+opened_at r = record { stands = r; initial = []; unread = []; is_refused = false }
+
+-- nothing is written yet, and what is there at a revision is to be, and then the bookmark that closes it (Kubernetes API Concepts,
+-- Streaming lists)
+abbrev pub streaming_at : ℕ → Entries → Link
+streaming_at r ms = record { stands = r; initial = opening_lines true r ms; unread = []; is_refused = false }
 
 -- ---- notifications
 
--- a change that was published, and whether it is of the first list (client-go, tools/cache, ResourceEventHandler, isInInitialList)
+-- a change that was published, and whether it is of the first list, or of the first initial events that were closed (client-go,
+-- tools/cache, ResourceEventHandler, isInInitialList)
 pub record Notification : Type 0 where
   pub shift : Shift
   pub is_in_initial_list : Bool
@@ -31,7 +42,8 @@ pub record Notification : Type 0 where
 abbrev pub notified : Bool → List Shift → List Notification
 notified initial ss = map (λ s. record { shift = s; is_in_initial_list = initial }) ss
 
--- what deltas change of these members, delta by delta: of the first list, unless it was published before, and then of all others
+-- what deltas change of these members, delta by delta: of the first list, which closed initial events give too, unless it was
+-- published before, and then of all others
 abbrev pub notifications : Bool → Entries → List Delta → List Notification
 notifications true ms ds = notified false (all_shifts ms ds)
 notifications false ms [] = []
@@ -49,9 +61,14 @@ pub record Follower : Type 0 where
   pub unhandled : List Notification
   pub has_listed : Bool
 
+-- whether who begins so asks for streams of initial events in place of lists
+abbrev pub asks_streams : InitialSync → Bool
+asks_streams sync.List = false
+asks_streams sync.Stream = true
+
 -- nothing is there at first
-abbrev pub begun : Kind → Follower
-begun k = record { link = None; reflector = reflectors.begun k; informer = informers.begun; unhandled = []; has_listed = false }
+abbrev pub begun : InitialSync → Kind → Follower
+begun s k = record { link = None; reflector = reflectors.begun_by (asks_streams s) k; informer = informers.begun; unhandled = []; has_listed = false }
 
 -- more deltas wait to be published
 abbrev pub appended : Informer → List Delta → Informer
@@ -65,7 +82,11 @@ after_list l f = record f { link = None; reflector = with_list (Some l) f.reflec
 abbrev pub after_open : Follower → Follower
 after_open f = record f { link = Some (opened_at f.reflector.revision) }
 
--- a watch is refused: a list is asked for again
+-- a stream is opened, by what is there at a revision; nothing of it is taken in yet
+abbrev pub after_stream : ℕ → Entries → Follower → Follower
+after_stream r ms f = record f { link = Some (streaming_at r ms) }
+
+-- a watch is refused: what is there is asked for again
 abbrev pub after_expiry : Follower → Follower
 after_expiry f = record f { link = None; reflector = reflectors.expired f.reflector }
 

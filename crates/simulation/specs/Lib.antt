@@ -1,4 +1,5 @@
 pub mod Followers
+pub mod LineCodes
 pub mod Codes
 pub mod Moves
 pub mod Clusters

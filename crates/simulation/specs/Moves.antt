@@ -10,16 +10,17 @@ use Rattle.definitions.specs.Versions.{Watched, watched_from}
 use Rattle.server_state.specs.Servers.{Server, watch_by}
 use Rattle.controllers.specs.declared.reflectors.End.{End}
 use Rattle.controllers.specs.declared.reflectors.Phase.{Phase}
-use Rattle.controllers.specs.declared.reflectors.Phase.TheVariants.{Listing, Watching}
+use Rattle.controllers.specs.declared.reflectors.Phase.TheVariants.{Listing, Streaming, Watching}
 use Rattle.controllers.specs.Reflectors as reflectors
 use Rattle.controllers.specs.Reflectors.{Listed, Fed}
-use Rattle.simulation.specs.Followers.{Link, Follower, after_list, after_open, after_expiry, after_bytes, after_cut, after_publishing}
+use Rattle.simulation.specs.Followers.{Link, Follower, after_list, after_open, after_stream, after_expiry, after_bytes, after_cut, after_publishing}
 
--- a list is answered and taken in; a watch is opened; the server writes the next changes on it, at most so many, or a bookmark;
--- the next bytes, at most so many, or all, are delivered; the link is cut; what waits is published
+-- a list is answered and taken in; a watch is opened, or one that begins with all that is there; the server writes the next lines on
+-- it, at most so many, or a bookmark; the next bytes, at most so many, or all, are delivered; the link is cut; what waits is published
 pub data Move : Type 0 where
   list : Move
   watch : Move
+  stream : Move
   send : ℕ → Move
   send_bookmark : Move
   deliver : ℕ → Move
@@ -33,6 +34,7 @@ pub data Outcome : Type 0 where
   no_step : Outcome
   listed : Kind → ℕ → ℕ → Outcome
   opened : Kind → ℕ → Outcome
+  streaming : Kind → ℕ → Outcome
   expired : Kind → Outcome
   sent : Kind → ℕ → Outcome
   fed : Kind → ℕ → Option End → Outcome
@@ -79,6 +81,7 @@ take_list k l f = record { follower = after_list l f; outcome = listed k l.revis
 -- the present list is taken in, where the reflector asks for a list (Kubernetes API Concepts, Collections)
 abbrev pub list_in : Kind → Phase → Answers → Follower → Moved
 list_in k Listing a f = take_list k (listed_of k a) f
+list_in k Streaming a f = closed f
 list_in k Watching a f = closed f
 
 -- ---- watches
@@ -87,12 +90,26 @@ abbrev pub open_by : Kind → Result Watched Refusal → Follower → Moved
 open_by k (Ok w) f = record { follower = after_open f; outcome = opened k f.reflector.revision }
 open_by k (Err e) f = record { follower = after_expiry f; outcome = expired k }
 
--- a watch is opened from the reflector's revision, where it asks for a watch and no link is open; where it is refused, a list is
--- asked for again (Kubernetes API Concepts, Efficient detection of changes)
+-- a watch is opened from the reflector's revision, where it asks for a watch and no link is open; where it is refused, what is there
+-- is asked for again (Kubernetes API Concepts, Efficient detection of changes)
 abbrev pub watch_in : Kind → Phase → Option Link → Answers → Follower → Moved
 watch_in k Watching None a f = open_by k (a.watched f.reflector.revision 0) f
 watch_in k Watching (Some l) a f = closed f
 watch_in k Listing l a f = closed f
+watch_in k Streaming l a f = closed f
+
+-- ---- streams of initial events
+
+abbrev pub open_stream : Kind → Answers → Follower → Moved
+open_stream k a f = record { follower = after_stream a.present a.members f; outcome = streaming k a.present }
+
+-- a watch is opened that begins with what is there at the present revision, where the reflector asks for one and no link is open
+-- (Kubernetes API Concepts, Streaming lists)
+abbrev pub stream_in : Kind → Phase → Option Link → Answers → Follower → Moved
+stream_in k Streaming None a f = open_stream k a f
+stream_in k Streaming (Some l) a f = closed f
+stream_in k Listing l a f = closed f
+stream_in k Watching l a f = closed f
 
 -- ---- what is written on a link
 
@@ -101,11 +118,15 @@ with_link l f = record f { link = Some l }
 
 -- these lines are written, and the link stands at this revision
 abbrev pub after_lines : Kind → List Line → ℕ → Link → Link
-after_lines k ls r l = record { stands = r; unread = l.unread ++ text_of_lines k ls; is_refused = l.is_refused }
+after_lines k ls r l = record { stands = r; initial = l.initial; unread = l.unread ++ text_of_lines k ls; is_refused = l.is_refused }
 
 -- an ERROR frame is written, the last one
 abbrev pub after_refusal : Refusal → Link → Link
-after_refusal e l = record { stands = l.stands; unread = l.unread ++ frame_text (error_frame e); is_refused = true }
+after_refusal e l = record { stands = l.stands; initial = l.initial; unread = l.unread ++ frame_text (error_frame e); is_refused = true }
+
+-- the next of the initial lines are written, at most n
+abbrev pub after_initial : Kind → ℕ → Link → Link
+after_initial k n l = record { stands = l.stands; initial = drop n l.initial; unread = l.unread ++ text_of_lines k (take n l.initial); is_refused = l.is_refused }
 
 abbrev pub write_refusal : Kind → Refusal → Link → Follower → Moved
 write_refusal k e l f = record { follower = with_link (after_refusal e l) f; outcome = sent k 1 }
@@ -114,10 +135,18 @@ abbrev pub write_changes : Kind → Result Watched Refusal → Link → Follower
 write_changes k (Ok w) l f = record { follower = with_link (after_lines k (map event w.events) w.stands l) f; outcome = sent k (length w.events) }
 write_changes k (Err e) l f = write_refusal k e l f
 
--- the next changes, at most n, where a link is open and no ERROR frame was written
+abbrev pub write_initial : Kind → ℕ → Link → Follower → Moved
+write_initial k n l f = record { follower = with_link (after_initial k n l) f; outcome = sent k (length (take n l.initial)) }
+
+-- while initial lines are left, only they are written, whatever has happened since
+abbrev pub send_next : Kind → List Line → ℕ → Answers → Link → Follower → Moved
+send_next k [] n a l f = write_changes k (a.watched l.stands n) l f
+send_next k (i ∷ is) n a l f = write_initial k n l f
+
+-- the next initial lines, or else the next changes, at most n, where a link is open and no ERROR frame was written
 abbrev pub send_on : Kind → Option Link → ℕ → Answers → Follower → Moved
 send_on k None n a f = closed f
-send_on k (Some l) n a f = if l.is_refused then closed f else write_changes k (a.watched l.stands n) l f
+send_on k (Some l) n a f = if l.is_refused then closed f else send_next k l.initial n a l f
 
 abbrev pub write_bookmark : Kind → Result Watched Refusal → ℕ → Link → Follower → Moved
 write_bookmark k (Ok w) now l f =
@@ -125,11 +154,15 @@ write_bookmark k (Ok w) now l f =
     else closed f
 write_bookmark k (Err e) now l f = write_refusal k e l f
 
--- a bookmark at the present revision, where a link is open, no ERROR frame was written, and no change is left to send
--- (Kubernetes API Concepts, Watch bookmarks)
+abbrev pub bookmark_next : Kind → List Line → Answers → Link → Follower → Moved
+bookmark_next k [] a l f = write_bookmark k (a.watched l.stands 0) a.present l f
+bookmark_next k (i ∷ is) a l f = closed f
+
+-- a bookmark at the present revision, where a link is open, no ERROR frame was written, and neither an initial line nor a change is
+-- left to send (Kubernetes API Concepts, Watch bookmarks)
 abbrev pub bookmark_on : Kind → Option Link → Answers → Follower → Moved
 bookmark_on k None a f = closed f
-bookmark_on k (Some l) a f = if l.is_refused then closed f else write_bookmark k (a.watched l.stands 0) a.present l f
+bookmark_on k (Some l) a f = if l.is_refused then closed f else bookmark_next k l.initial a l f
 
 -- ---- what is read of a link
 
@@ -164,7 +197,7 @@ publish_now k f =
     let after = after_publishing f in
     record { follower = after; outcome = published k after.informer.published.revision (length after.informer.published.members) }
 
--- what waits is published, once a list was taken in: until then the reflector names no revision
+-- what waits is published, once a list or closed initial events were taken in: until then the reflector names no revision
 abbrev pub publish_by : Kind → Follower → Moved
 publish_by k f = if f.reflector.revision == 0 then closed f else publish_now k f
 
@@ -174,6 +207,7 @@ publish_by k f = if f.reflector.revision == 0 then closed f else publish_now k f
 abbrev pub move_by : Kind → Answers → Follower → Move → Moved
 move_by k a f list = list_in k f.reflector.phase a f
 move_by k a f watch = watch_in k f.reflector.phase f.link a f
+move_by k a f stream = stream_in k f.reflector.phase f.link a f
 move_by k a f (send n) = send_on k f.link n a f
 move_by k a f send_bookmark = bookmark_on k f.link a f
 move_by k a f (deliver n) = deliver_on k f.link n f

@@ -3,7 +3,7 @@ use Rattle.std.specs.Prelude.{ℕ, List, [], ◌∷◌, ◌++◌, Option, Some, 
 use Rattle.definitions.specs.Kinds.{plural}
 use Rattle.controllers.specs.declared.reflectors.End.{End}
 use Rattle.controllers.specs.declared.reflectors.End.TheVariants.{Expired, Unreadable}
-use Rattle.simulation.specs.Moves.{Outcome, replied, no_step, listed, opened, expired, sent, fed, was_cut, published, restarted}
+use Rattle.simulation.specs.Moves.{Outcome, replied, no_step, listed, opened, streaming, expired, sent, fed, was_cut, published, restarted}
 
 -- a line of words, with a space between them
 abbrev pub words_line : List ℕ → List (List ℕ) → List ℕ
@@ -21,6 +21,7 @@ outcome_text (replied text) = text
 outcome_text no_step = words_line (codes "no") (codes "step" ∷ [])
 outcome_text (listed k r n) = words_line (codes "listed") (plural k ∷ decimal r ∷ decimal n ∷ [])
 outcome_text (opened k r) = words_line (codes "opened") (plural k ∷ decimal r ∷ [])
+outcome_text (streaming k r) = words_line (codes "streaming") (plural k ∷ decimal r ∷ [])
 outcome_text (expired k) = words_line (codes "expired") (plural k ∷ [])
 outcome_text (sent k n) = words_line (codes "sent") (plural k ∷ decimal n ∷ [])
 outcome_text (fed k r e) = words_line (codes "fed") (plural k ∷ decimal r ∷ end_words e)

@@ -8,6 +8,8 @@ use Rattle.definitions.specs.Kinds.{kinds, plural}
 use Rattle.definitions.specs.Moments.{is_digit}
 use Rattle.definitions.specs.Revisions.{revision_of}
 use Rattle.line_protocol.specs.Lines.{cut, lines_of}
+use Rattle.simulation.specs.declared.initial_syncs.InitialSync.{InitialSync}
+use Rattle.simulation.specs.declared.initial_syncs.InitialSync.TheVariants as sync
 use Rattle.simulation.specs.Moves as move
 use Rattle.simulation.specs.Moves.{Move}
 use Rattle.simulation.specs.Clusters.{Cluster, opened, ClusterStep, request, compact, moves, restart, step}
@@ -34,9 +36,11 @@ move_named verb =
     if bytes_eq verb (codes "list") then Some move.list
     else
     (if bytes_eq verb (codes "watch") then Some move.watch
-    else (if bytes_eq verb (codes "cut") then Some move.cut else (if bytes_eq verb (codes "publish") then Some move.publish else None)))
+    else
+    (if bytes_eq verb (codes "stream") then Some move.stream
+    else (if bytes_eq verb (codes "cut") then Some move.cut else (if bytes_eq verb (codes "publish") then Some move.publish else None))))
 
--- a number of changes, or a bookmark
+-- a number of lines, or a bookmark
 abbrev pub send_of : List ℕ → Option Move
 send_of t = if bytes_eq t (codes "bookmark") then Some move.send_bookmark else option_map move.send (number_of t)
 
@@ -67,28 +71,43 @@ step_of_line t = step_from t (cut t)
 
 -- ---- the first line
 
--- how many changes of each kind the server's windows have, and how many workers there are
+-- how many changes of each kind the server's windows have, how many workers there are, and how followers begin
 pub record Config : Type 0 where
   pub window : ℕ
   pub workers : ℕ
+  pub initial : InitialSync
 
 abbrev pub default_config : Config
-default_config = record { window = 1024; workers = 4 }
+default_config = record { window = 1024; workers = 4; initial = sync.List }
 
 -- windows of 1 to 65,536 changes, and 1 to 64 workers
-abbrev pub config_within : ℕ → ℕ → Option Config
-config_within w n = if nat_lt 0 w && nat_le w 65536 && nat_lt 0 n && nat_le n 64 then Some (record { window = w; workers = n }) else None
+abbrev pub config_within : ℕ → ℕ → InitialSync → Option Config
+config_within w n i = if nat_lt 0 w && nat_le w 65536 && nat_lt 0 n && nat_le n 64 then Some (record { window = w; workers = n; initial = i }) else None
+
+-- with lists, or with streams of initial events
+abbrev pub initial_sync_of : List ℕ → Option InitialSync
+initial_sync_of t = if bytes_eq t (codes "list") then Some sync.List else (if bytes_eq t (codes "stream") then Some sync.Stream else None)
 
 -- what follows a prefix, if the text begins with it
 abbrev pub after_prefix : List ℕ → List ℕ → Option (List ℕ)
 after_prefix p t = if bytes_eq p (take (length p) t) then Some (drop (length p) t) else None
 
--- `config window=W workers=N`
+-- the number that follows a name
+abbrev pub number_after : List ℕ → List ℕ → Option ℕ
+number_after name t = option_and_then number_of (after_prefix name t)
+
+-- what `initial=` is followed by
+abbrev pub initial_said : List ℕ → Option InitialSync
+initial_said t = option_and_then initial_sync_of (after_prefix (codes "initial=") t)
+
+abbrev pub config_said : List ℕ → List ℕ → Option InitialSync → Option Config
+config_said w n initial =
+    option_and_then (λ window. option_and_then (λ workers. option_and_then (config_within window workers) initial) (number_after (codes "workers=") n)) (number_after (codes "window=") w)
+
+-- `config window=W workers=N`, then maybe `initial=list` or `initial=stream`; where it does not say, lists
 abbrev pub config_in : List (List ℕ) → Option Config
-config_in (c ∷ w ∷ n ∷ []) =
-    if bytes_eq c (codes "config") then
-    option_and_then (λ size. option_and_then (config_within size) (option_and_then number_of (after_prefix (codes "workers=") n))) (option_and_then number_of (after_prefix (codes "window=") w))
-    else None
+config_in (c ∷ w ∷ n ∷ []) = if bytes_eq c (codes "config") then config_said w n (Some sync.List) else None
+config_in (c ∷ w ∷ n ∷ i ∷ []) = if bytes_eq c (codes "config") then config_said w n (initial_said i) else None
 config_in ws = None
 
 abbrev pub config_of_line : List ℕ → Option Config
@@ -109,8 +128,8 @@ abbrev pub full_lines : List ℕ → List (List ℕ)
 full_lines bytes = filter (λ t. not (length t == 0)) (lines_of bytes)
 
 abbrev pub run_from : List ℕ → List (List ℕ) → Option Config → List ℕ
-run_from t ts (Some c) = outcome_lines (opened c.window) ts
-run_from t ts None = outcome_lines (opened default_config.window) (t ∷ ts)
+run_from t ts (Some c) = outcome_lines (opened c.window c.initial) ts
+run_from t ts None = outcome_lines (opened default_config.window default_config.initial) (t ∷ ts)
 
 -- the first line may be a configuration
 abbrev pub simulate_lines : List (List ℕ) → List ℕ

@@ -1,6 +1,7 @@
 -- Worked facts of moves, computed from the definitions: what a follower is after steps.
 use Rattle.std.specs.Prelude.{◌≡◌, ℕ, List, [], ◌∷◌, ◌++◌, map, Bool, true, false, Option, Some, None, option_map, codes, length, take}
 use Rattle.definitions.specs.declared.kinds.Kind.TheVariants.{ConfigMap, Pod}
+use Rattle.simulation.specs.declared.initial_syncs.InitialSync.TheVariants as sync
 use Rattle.simulation.specs.Followers.{Follower, begun}
 use Rattle.simulation.specs.Clusters.{Cluster, opened, history, follower, looks, run}
 use Rattle.simulation.specs.StepLines.{step_asked}
@@ -8,7 +9,7 @@ use Rattle.simulation_examples.specs.Texts.{create, accent}
 
 -- a cluster after these lines
 abbrev after : List (List ℕ) → Cluster
-after ts = run (opened 4) (map step_asked ts)
+after ts = run (opened 4 sync.List) (map step_asked ts)
 
 abbrev config_maps_after : List (List ℕ) → Follower
 config_maps_after ts = follower ConfigMap (after ts)
@@ -50,7 +51,7 @@ LaterListsAreNotMarked =
 abbrev pub RestartsDropAll : Type 0
 RestartsDropAll =
     let c = after (create (codes "a") [] ∷ codes "list configmaps" ∷ codes "publish configmaps" ∷ codes "watch configmaps" ∷ codes "restart" ∷ []) in
-    (follower ConfigMap c ≡ begun ConfigMap) × ((looks c).config_maps ≡ []) × (length (history c) ≡ 1)
+    (follower ConfigMap c ≡ begun sync.List ConfigMap) × ((looks c).config_maps ≡ []) × (length (history c) ≡ 1)
 
 -- part of a frame is buffered by the reflector
 abbrev partly_read : List (List ℕ)

@@ -5,3 +5,4 @@
 pub mod line_examples;
 pub mod move_examples;
 pub mod run_examples;
+pub mod stream_examples;

@@ -1,32 +1,24 @@
--- Bytes of a link, after those that were read.
-use Rattle.std.proofs.Common.{◌≡◌, ◌≤◌, ◌<◌, ℕ, List, [], ◌∷◌, ◌++◌, Bool, true, false, cond, nat_lt, nat_le, Option, Some, None, option_map, option_and_then, Result, Ok, Err, refl, sym, ap, ◌∙◌, subst, arith, append-nil, append_assoc, map, IfSome}
+-- What comes of bytes of a link: all of them are lines, and then maybe a refusal.
+use Rattle.std.proofs.Common.{◌≡◌, ◌≤◌, ◌<◌, ℕ, List, [], ◌∷◌, ◌++◌, Bool, true, false, cond, nat_lt, nat_le, Option, Some, None, option_map, option_and_then, Result, Ok, Err, refl, sym, ap, ◌∙◌, subst, arith, append-nil, map, IfSome}
 use Rattle.std.proofs.lemmas.Bool.{ltb-true, leb-true}
 use Rattle.std.specs.List.{AllByRecursion}
 use Rattle.serde_json.specs.Data.{Data}
 use Rattle.definitions.specs.declared.kinds.Kind.{Kind}
 use Rattle.definitions.specs.declared.frames.FrameKind.{FrameKind}
 use Rattle.definitions.specs.declared.frames.FrameKind.TheVariants.{Added, Modified, Deleted, Bookmark, Error}
-use Rattle.definitions.specs.Frames.{Frame, frame_text, error_frame}
-use Rattle.definitions.specs.History.{History, Entries, list}
-use Rattle.definitions.specs.Events.{events}
+use Rattle.definitions.specs.Frames.{Frame, error_frame}
 use Rattle.definitions.specs.Refusals.{Refusal}
 use Rattle.definitions.specs.Streams.{Line, frame_of, text_of_lines}
 use Rattle.controllers.specs.declared.reflectors.Phase.{Phase}
-use Rattle.controllers.specs.declared.reflectors.Phase.TheVariants.{Listing, Watching}
+use Rattle.controllers.specs.declared.reflectors.Phase.TheVariants.{Listing, Streaming, Watching}
 use Rattle.controllers.specs.declared.reflectors.End.{End}
 use Rattle.controllers.specs.ReadFrames.{Read, reading, onto}
-use Rattle.controllers.specs.Reflectors.{Delta, Reflector, Fed, Run, ran, held_after, Step, Shown, fed, fed_in, joined, or_later, apply_delta, apply_deltas, run, going_on, step, step_by, or_unreadable, shown, if_above, if_reached, is_of, revision, put_step, remove_step, mark_step}
+use Rattle.controllers.specs.Reflectors.{Reflector, replace, objects_of, Step, Shown, Initial, Opening, under_way, closed, fed, fed_in, course, run, open_run, opens_on, opening_step, going_on, step, step_by, or_unreadable, shown, if_above, if_reached, is_of, revision, put_step, remove_step, mark_step, held_after, initial_after}
 use Rattle.framing.specs.Decoders.{fed_after}
-use Rattle.laws.specs.SentLaws.{whole}
-use Rattle.reflector.specs.Laws.{IsSent, IsReadBack}
-use Rattle.reflector.proofs.Cutting.{fed_twice, reading_twice, run_on, run_then}
-use Rattle.reflector.proofs.Followed.{Reaches, follows}
+use Rattle.reflector.specs.Laws.{IsReadBack}
+use Rattle.reflector.proofs.Cutting.{reading_twice, no_cutting_matters}
 use Rattle.reflector.proofs.Streamed.{read_back}
-use Rattle.simulation_laws.specs.FollowerLaws.{watching, refusal_text, IsRefusalRead}
-
-applied_twice : (ms : Entries) (ds es : List Delta) → apply_deltas ms (ds ++ es) ≡ apply_deltas (apply_deltas ms ds) es
-applied_twice ms [] es = refl
-applied_twice ms (d ∷ ds) es = applied_twice (apply_delta ms d) ds es
+use Rattle.simulation_laws.specs.FollowerLaws.{refusal_text, IsRefusalRead, IsClear}
 
 -- ---- all the bytes: lines, and then a refusal
 
@@ -37,18 +29,13 @@ refusal_frames (Some f) = error_frame f ∷ []
 
 refusal_read : (o : Option Refusal) → IfSome o IsRefusalRead → reading (refusal_text o) ≡ record { events = refusal_frames o; buffered = []; fault = None }
 refusal_read None h = refl
-refusal_read (Some f) h = ap reading (sym (append-nil (frame_text (error_frame f)))) ∙ h []
+refusal_read (Some f) h = ap reading (sym (append-nil (refusal_text (Some f)))) ∙ h []
 
-pub all_read : (k : Kind) (ls : List Line) (o : Option Refusal) → AllByRecursion (IsReadBack k) ls → IfSome o IsRefusalRead
+all_read : (k : Kind) (ls : List Line) (o : Option Refusal) → AllByRecursion (IsReadBack k) ls → IfSome o IsRefusalRead
     → reading (text_of_lines k ls ++ refusal_text o) ≡ record { events = map (frame_of k) ls ++ refusal_frames o; buffered = []; fault = None }
 all_read k ls o h g = read_back k ls (refusal_text o) h ∙ ap (onto (map (frame_of k) ls)) (refusal_read o g)
 
--- ---- a beginning of them, at once
-
--- it is followed, and may come to an end
-pub record Comes (h : History) (k : Kind) (a b : ℕ) (f : Fed) : Type 0 where
-  pub below : f.after.revision ≤ b
-  pub applies : apply_deltas (list h (whole k) a) f.deltas ≡ list h (whole k) f.after.revision
+-- ---- a beginning of them
 
 -- frames that begin these and then one more
 pub data Beginning (es fs : List Frame) (o : Option Refusal) : Type 0 where
@@ -59,7 +46,7 @@ longer : (o : Option Refusal) (x : Frame) (es fs : List Frame) → Beginning es 
 longer o x es fs (before later e) = before later (ap (λ z. x ∷ z) e)
 longer o x es fs (whole_of f e) = whole_of f (ap (λ z. x ∷ z) e)
 
-pub beginning : (o : Option Refusal) (es later fs : List Frame) → es ++ later ≡ fs ++ refusal_frames o → Beginning es fs o
+beginning : (o : Option Refusal) (es later fs : List Frame) → es ++ later ≡ fs ++ refusal_frames o → Beginning es fs o
 beginning o [] later fs e = before fs refl
 beginning None (x ∷ es) later [] e = cc
 beginning (Some f) (x ∷ []) later [] e = let first : x ≡ error_frame f = cc in whole_of f (ap (λ z. z ∷ []) first)
@@ -68,65 +55,66 @@ beginning o (x ∷ es) later (y ∷ fs) e =
     let first : y ≡ x = cc in
     let others : es ++ later ≡ fs ++ refusal_frames o = cc in subst (λ z. Beginning (x ∷ es) (z ∷ fs) o) (sym first) (longer o x es fs (beginning o es later fs others))
 
-comes_before : (h : History) (k : Kind) (a b : ℕ) (later : List Frame) (r : Read) (t : Run) → Reaches h (whole k) a b later t → Comes h k a b (ran t r (watching k a))
-comes_before h k a b later r t reaches = record { below = reaches.below; applies = reaches.applies }
+-- the frames of a beginning of the bytes
+pub begun_frames : (k : Kind) (ls : List Line) (o : Option Refusal) (bytes more : List ℕ) → AllByRecursion (IsReadBack k) ls → IfSome o IsRefusalRead
+    → bytes ++ more ≡ text_of_lines k ls ++ refusal_text o → Beginning (reading bytes).events (map (frame_of k) ls) o
+begun_frames k ls o bytes more h g e =
+    let first = reading bytes in
+    let then = fed_after first.fault (first.buffered ++ more) in
+    let all : onto first.events then ≡ record { events = map (frame_of k) ls ++ refusal_frames o; buffered = []; fault = None } =
+    sym (reading_twice bytes more) ∙ ap reading e ∙ all_read k ls o h g in
+    beginning o first.events then.events (map (frame_of k) ls) (ap (λ (r : Read). r.events) all)
 
--- a refusal after frames that are followed changes nothing
-refused_run : (h : History) (k : Kind) (a b : ℕ) (f : Refusal) (t : Run) (r : Read) → Reaches h (whole k) a b [] t → Comes h k a b (ran (run_then t.ended t (run k t.revision (error_frame f ∷ []))) r (watching k a))
-refused_run h k a b f t r reaches =
-    rw reaches.ended (record { below = reaches.below; applies = applied_twice (list h (whole k) a) t.deltas [] ∙ reaches.applies })
+-- ---- a refusal gives nothing
 
-module _ (h : History) (k : Kind) (a b : ℕ) (ls : List Line) (o : Option Refusal) (sent : IsSent h k a b ls) (refusal : IfSome o IsRefusalRead) where
-  pub reached : (es later : List Frame) → es ++ later ≡ map (frame_of k) ls → Reaches h (whole k) a b later (run k a es)
-  reached es later e = follows ls es later h k a b (events h (whole k) a b) sent.forward sent.low refl sent.stream sent.told e
+pub refused_run : (k : Kind) (f : Refusal) (es : List Frame) (last : ℕ) → (run k last (es ++ error_frame f ∷ [])).deltas ≡ (run k last es).deltas
+refused_run k f [] last = refl
+refused_run k f (e ∷ es) last = by (λ r. refused_run k f es r) (step k last e)
+  where
+    by : ((r : ℕ) → (run k r (es ++ error_frame f ∷ [])).deltas ≡ (run k r es).deltas) → (o : Result Step End)
+        → (going_on last (λ r. run k r (es ++ error_frame f ∷ [])) o).deltas ≡ (going_on last (λ r. run k r es) o).deltas
+    by more (Err x) = refl
+    by more (Ok t) = ap (λ ds. t.delta ∷ ds) (more t.revision)
 
-  comes_at : (r : Read) → Beginning r.events (map (frame_of k) ls) o → Comes h k a b (ran (run k a r.events) r (watching k a))
-  comes_at r (before later e) = comes_before h k a b later r (run k a r.events) (reached r.events later e)
-  comes_at r (whole_of f e) =
-      subst (λ t. Comes h k a b (ran t r (watching k a))) (sym (ap (run k a) e ∙ run_on k (map (frame_of k) ls) (error_frame f ∷ []) a))
-      (refused_run h k a b f (run k a (map (frame_of k) ls)) r (reached (map (frame_of k) ls) [] (append-nil (map (frame_of k) ls))))
+pub refused_opening : (k : Kind) (f : Refusal) (es : List Frame) (last : ℕ) (i : Initial) → (open_run k last i (es ++ error_frame f ∷ [])).run.deltas ≡ (open_run k last i es).run.deltas
+refused_opening k f [] last i = refl
+refused_opening k f (e ∷ es) last i = by (λ j. refused_opening k f es last j) (opening_step k i e)
+  where
+    by : ((j : Initial) → (open_run k last j (es ++ error_frame f ∷ [])).run.deltas ≡ (open_run k last j es).run.deltas) → (o : Result Opening End)
+        → (opens_on last i (λ j. open_run k last j (es ++ error_frame f ∷ [])) (λ r. run k r (es ++ error_frame f ∷ [])) o).run.deltas
+        ≡ (opens_on last i (λ j. open_run k last j es) (λ r. run k r es) o).run.deltas
+    by more (Err x) = refl
+    by more (Ok (under_way j)) = more j
+    by more (Ok (closed r)) = ap (λ ds. replace r (objects_of i.members) ∷ ds) (refused_run k f es r)
 
-  pub comes : (bytes more : List ℕ) → bytes ++ more ≡ text_of_lines k ls ++ refusal_text o → Comes h k a b (fed (watching k a) bytes)
-  comes bytes more e =
-      let first = reading bytes in
-      let then = fed_after first.fault (first.buffered ++ more) in
-      let all : onto first.events then ≡ record { events = map (frame_of k) ls ++ refusal_frames o; buffered = []; fault = None } =
-      sym (reading_twice bytes more) ∙ ap reading e ∙ all_read k ls o sent.read refusal in
-      comes_at first (beginning o first.events then.events (map (frame_of k) ls) (ap (λ (r : Read). r.events) all))
+-- ---- a reflector after bytes
 
--- ---- and then more of them
+-- no bytes change nothing, where nothing is buffered
+pub none_fed : (s : Reflector) → s.buffered ≡ [] → fed s [] ≡ record { deltas = []; ended = None; after = s }
+none_fed s h = sym (no_cutting_matters s [] h)
 
--- what comes of more bytes, after those that were read
-pub record GoesOnFurther (h : History) (k : Kind) (b : ℕ) (s : Reflector) (f : Fed) : Type 0 where
-  pub below : f.after.revision ≤ b
-  pub applies : apply_deltas (list h (whole k) s.revision) f.deltas ≡ list h (whole k) f.after.revision
+kind_in : (p : Phase) (bytes : List ℕ) (s : Reflector) → (fed_in p bytes s).after.kind ≡ s.kind
+kind_in Listing bytes s = refl
+kind_in Streaming bytes s = refl
+kind_in Watching bytes s = refl
 
-pub further : (h : History) (k : Kind) (a b : ℕ) (ls : List Line) (o : Option Refusal) (read piece more : List ℕ) → IsSent h k a b ls → IfSome o IsRefusalRead
-    → read ++ (piece ++ more) ≡ text_of_lines k ls ++ refusal_text o → (let s = (fed (watching k a) read).after in GoesOnFurther h k b s (fed s piece))
-further h k a b ls o read piece more sent refusal e =
-    let f = fed (watching k a) read in
-    let g = fed f.after piece in
-    let first = comes h k a b ls o sent refusal read (piece ++ more) e in
-    let both : Comes h k a b (joined f g) = subst (Comes h k a b) (sym (fed_twice (watching k a) read piece)) (comes h k a b ls o sent refusal (read ++ piece) more (append_assoc read piece more ∙ e)) in
-    record {
-      below = both.below;
-      applies = ap (λ z. apply_deltas z g.deltas) (sym first.applies) ∙ sym (applied_twice (list h (whole k) a) f.deltas g.deltas) ∙ both.applies;
-    }
+pub same_kind : (s : Reflector) (piece : List ℕ) → (fed s piece).after.kind ≡ s.kind
+same_kind s piece = kind_in s.phase (s.buffered ++ piece) s
 
--- two pieces that come to no end come to none together
-pub no_end : (e f : Option End) → e ≡ None → f ≡ None → or_later e f ≡ None
-no_end None f is so = so
-no_end (Some e) f is so = is
+clear_in : (p : Phase) (bytes : List ℕ) (s : Reflector) (e : End) → (fed_in p bytes s).ended ≡ Some e → IsClear (fed_in p bytes s).after
+clear_in Listing bytes s e is = cc
+clear_in Streaming bytes s e is =
+    let r = reading bytes in
+    record { holds = ap (λ z. held_after z r.buffered) is; initial = ap (λ z. initial_after z (course Streaming s.kind s.revision s.initial r.events).initial) is }
+clear_in Watching bytes s e is =
+    let r = reading bytes in
+    record { holds = ap (λ z. held_after z r.buffered) is; initial = ap (λ z. initial_after z s.initial) is }
 
--- after an end nothing is buffered
-end_buffers_at : (p : Phase) (bytes : List ℕ) (s : Reflector) (e : End) → (fed_in p bytes s).ended ≡ Some e → (fed_in p bytes s).after.buffered ≡ []
-end_buffers_at Listing bytes s e is = cc
-end_buffers_at Watching bytes s e is = ap (λ z. held_after z (reading bytes).buffered) is
+-- after an end it holds nothing
+pub end_clears : (s : Reflector) (piece : List ℕ) (e : End) → (fed s piece).ended ≡ Some e → IsClear (fed s piece).after
+end_clears s piece e is = clear_in s.phase (s.buffered ++ piece) s e is
 
-pub end_buffers : (s : Reflector) (piece : List ℕ) (e : End) → (fed s piece).ended ≡ Some e → (fed s piece).after.buffered ≡ []
-end_buffers s piece e is = end_buffers_at s.phase (s.buffered ++ piece) s e is
-
--- ---- the revision never falls
+-- ---- the revision of a watch never falls
 
 abbrev pub NotBelow : ℕ → Result Step End → Type 0
 NotBelow last (Ok t) = last ≤ t.revision
@@ -167,17 +155,5 @@ step_rises Deleted k last d = remove_shown last (shown k d)
 step_rises Bookmark k last d = mark_kind (is_of k d) last (revision d)
 step_rises Error k last d = tt
 
-run_rises_on : (k : Kind) (last : ℕ) (es : List Frame) (o : Result Step End) → NotBelow last o → ((r : ℕ) → r ≤ (run k r es).revision) → last ≤ (going_on last (λ r. run k r es) o).revision
-run_rises_on k last es (Err e) low rise = omega arith
-run_rises_on k last es (Ok t) low rise = let up : t.revision ≤ (run k t.revision es).revision = rise t.revision in let at : last ≤ t.revision = low in omega (arith, up, at)
-
-pub run_rises : (k : Kind) (es : List Frame) (last : ℕ) → last ≤ (run k last es).revision
-run_rises k [] last = omega arith
-run_rises k (e ∷ es) last = run_rises_on k last es (step k last e) (step_rises e.kind k last e.object) (λ r. run_rises k es r)
-
-fed_rises : (p : Phase) (bytes : List ℕ) (s : Reflector) → s.revision ≤ (fed_in p bytes s).after.revision
-fed_rises Listing bytes s = omega arith
-fed_rises Watching bytes s = run_rises s.kind (reading bytes).events s.revision
-
-pub rises : (s : Reflector) (piece : List ℕ) → s.revision ≤ (fed s piece).after.revision
-rises s piece = fed_rises s.phase (s.buffered ++ piece) s
+pub frame_rises : (k : Kind) (last : ℕ) (e : Frame) (t : Step) → step k last e ≡ Ok t → last ≤ t.revision
+frame_rises k last e t is = subst (NotBelow last) is (step_rises e.kind k last e.object)

@@ -1,13 +1,16 @@
 -- A follower of what has happened follows what has happened since.
-use Rattle.std.proofs.Common.{◌≡◌, ◌≤◌, ℕ, ◌++◌, length, Option, Some, None, sym, ap, ◌∙◌, arith, length-append}
+use Rattle.std.proofs.Common.{◌≡◌, ◌≤◌, ℕ, List, ◌++◌, length, true, Option, Some, None, sym, ap, ◌∙◌, subst, arith, length-append}
 use Rattle.definitions.specs.declared.kinds.Kind.{Kind}
 use Rattle.definitions.specs.History.{History, writes, present, viewed}
+use Rattle.definitions.specs.Streams.{Line}
+use Rattle.definitions.specs.WatchReplies.{opening_lines}
+use Rattle.server_state.specs.Snapshots.{Snapshot}
 use Rattle.controllers.specs.Reflectors.{Reflector}
 use Rattle.laws.specs.SentLaws.{whole}
 use Rattle.laws.proofs.Looks.{still_streams}
 use Rattle.laws.proofs.Past.{writes-append, past}
 use Rattle.simulation.specs.Followers.{Link}
-use Rattle.simulation_laws.specs.FollowerLaws.{list_at, IsLinked, FollowersStand}
+use Rattle.simulation_laws.specs.FollowerLaws.{list_at, Begins, watching, streaming, IsLinked, FollowersStand}
 
 pub list_past : (h more : History) (k : Kind) (r : ℕ) → r ≤ present h → list_at (h ++ more) k r ≡ list_at h k r
 list_past h more k r le = λ i. record { members = viewed (whole k) (past h more r le i); revision = r }
@@ -15,26 +18,33 @@ list_past h more k r le = λ i. record { members = viewed (whole k) (past h more
 pub further : (h more : History) → present h ≤ present (h ++ more)
 further h more = omega (arith, ap length (writes-append h more), length-append (writes h) (writes more))
 
+still_begins : (h more : History) (k : Kind) (a : ℕ) (s : Reflector) (opening : List Line) → a ≤ present h → Begins h k a s opening → Begins (h ++ more) k a s opening
+still_begins h more k a s opening le (watching at) = watching at
+still_begins h more k a s opening le (streaming at low) =
+    subst (λ (m : Snapshot). Begins (h ++ more) k a s (opening_lines true a m.members)) (list_past h more k a le) (streaming at low)
+
 still_linked : (h more : History) (k : Kind) (s : Reflector) (o : Option Link) → IsLinked h k s o → IsLinked (h ++ more) k s o
-still_linked h more k s None l = l
-still_linked h more k s (Some o) l =
-    let is = l.4 in (
-      l.0,
-      l.1,
-      l.2,
-      l.3,
-      record {
-        forward = is.forward;
-        reached = omega (arith, is.reached, further h more);
-        stream = still_streams h more (whole k) l.0 o.stands l.1 is.forward is.reached is.stream;
-        lines_read = is.lines_read;
-        refusal_read = is.refusal_read;
-        is_refused = is.is_refused;
-        bytes = is.bytes;
-        goes_on = is.goes_on;
-        taken = is.taken;
-      },
-    )
+still_linked h more k s None is = is
+still_linked h more k s (Some o) is =
+    record {
+      from = is.from;
+      start = is.start;
+      opening = is.opening;
+      lines = is.lines;
+      refusal = is.refusal;
+      read = is.read;
+      kind = is.kind;
+      begins = still_begins h more k is.from is.start is.opening (omega (arith, is.forward, is.reached)) is.begins;
+      forward = is.forward;
+      reached = omega (arith, is.reached, further h more);
+      stream = still_streams h more (whole k) is.from o.stands is.lines is.forward is.reached is.stream;
+      lines_read = is.lines_read;
+      refusal_read = is.refusal_read;
+      is_refused = is.is_refused;
+      bytes = is.bytes;
+      goes_on = is.goes_on;
+      taken = is.taken;
+    }
 
 pub stand : FollowersStand
 stand k h more f is = record {

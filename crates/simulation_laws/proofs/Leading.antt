@@ -1,25 +1,33 @@
 -- Each delta that waits leads from the server's list at one revision to that at a later one.
-use Rattle.std.proofs.Common.{◌≡◌, ◌≤◌, ℕ, List, [], ◌∷◌, ◌++◌, map, Option, None, IfSome, Result, Ok, Err, refl, sym, ap, ◌∙◌, subst, arith, append-nil, append_assoc}
+use Rattle.std.proofs.Common.{◌≡◌, ◌≤◌, inl, inr, ℕ, List, [], ◌∷◌, ◌++◌, map, true, Option, None, IfSome, Result, Ok, Err, refl, sym, ap, ◌∙◌, subst, arith, append-nil, append_assoc}
+use Rattle.std.specs.List.{AllByRecursion}
 use Rattle.definitions.specs.declared.kinds.Kind.{Kind}
-use Rattle.definitions.specs.Frames.{Frame, error_frame}
-use Rattle.definitions.specs.History.{History, present, list}
+use Rattle.definitions.specs.Events.{events}
+use Rattle.definitions.specs.Frames.{Frame}
+use Rattle.definitions.specs.History.{History, Entries, present, list}
+use Rattle.definitions.specs.Reached.{IsReached}
 use Rattle.definitions.specs.Refusals.{Refusal}
-use Rattle.definitions.specs.Streams.{Line, frame_of, text_of_lines}
+use Rattle.definitions.specs.Streams.{Line, initial_end, added_lines, frame_of, text_of_lines}
+use Rattle.definitions.specs.WatchReplies.{opening_lines}
 use Rattle.server_state.specs.Snapshots.{Snapshot}
 use Rattle.controllers.specs.declared.reflectors.End.{End}
+use Rattle.controllers.specs.declared.reflectors.Phase.TheVariants.{Streaming, Watching}
 use Rattle.controllers.specs.Informers.{applied, all_applied}
-use Rattle.controllers.specs.ReadFrames.{Read, reading, onto}
-use Rattle.controllers.specs.Reflectors.{Delta, Fed, Run, Step, fed, run, step, going_on, apply_deltas}
-use Rattle.framing.specs.Decoders.{fed_after}
-use Rattle.laws.specs.SentLaws.{whole}
-use Rattle.reflector.specs.Laws.{IsSent}
-use Rattle.reflector.proofs.Cutting.{fed_twice, reading_twice, run_on, run_then}
-use Rattle.informer_laws.proofs.Publishing.{applied_members, fed_names}
-use Rattle.simulation_laws.specs.FollowerLaws.{list_at, watching, refusal_text, IsRefusalRead}
+use Rattle.controllers.specs.ReadFrames.{reading}
+use Rattle.controllers.specs.Reflectors.{Reflector, Delta, replace, Fed, Run, Step, Course, Initial, none_yet, objects_of, open_run, fed, joined, run, step, going_on, apply_deltas, put_all}
+use Rattle.laws.specs.SentLaws.{whole, objects_in}
+use Rattle.laws.proofs.Limited.{limited}
+use Rattle.laws.proofs.SentLists.{lists_put}
+use Rattle.laws.proofs.Streamed.{list_ascending}
+use Rattle.reflector.specs.Laws.{IsSent, IsReadBack, IsAt, IsAtStart}
+use Rattle.reflector.proofs.Cutting.{fed_twice, at_place}
+use Rattle.reflector.proofs.Followed.{Reaches, follows}
+use Rattle.reflector.proofs.Opened.{IsOf, Plays, all_listed, plays}
+use Rattle.informer_laws.proofs.Publishing.{fed_names, step_names}
+use Rattle.simulation_laws.specs.FollowerLaws.{list_at, refusal_text, IsRefusalRead, Begins, watching, streaming}
 use Rattle.simulation_laws.specs.LeadLaws.{Leads}
-use Rattle.simulation_laws.proofs.Feeding.{Beginning, before, whole_of, beginning, all_read, reached, comes, refusal_frames, run_rises}
+use Rattle.simulation_laws.proofs.Feeding.{Beginning, before, whole_of, begun_frames, refused_run, refused_opening, frame_rises}
 use Rattle.simulation_laws.proofs.Growing.{list_past, further}
-use Rattle.informer_laws.proofs.Publishing.{step_names}
 
 -- ---- deltas after deltas
 
@@ -37,6 +45,17 @@ leads_past h more k m [] all = tt
 leads_past h more k m (d ∷ ds) all =
     let r = (applied m d).revision in
     (all.0, omega (arith, all.1, further h more), all.2 ∙ sym (list_past h more k r all.1), leads_past h more k (applied m d) ds all.3)
+
+-- from a list they lead to a list, which is not below it and has happened
+pub record Ends (h : History) (k : Kind) (r : ℕ) (m : Snapshot) : Type 0 where
+  pub above : r ≤ m.revision
+  pub below : m.revision ≤ present h
+  pub lists : m ≡ list_at h k m.revision
+
+pub lead_to : (h : History) (k : Kind) (m : Snapshot) (ds : List Delta) → m.revision ≤ present h → m ≡ list_at h k m.revision → Leads h k m ds → Ends h k m.revision (all_applied m ds)
+lead_to h k m [] low is all = record { above = omega arith; below = low; lists = is }
+lead_to h k m (d ∷ ds) low is all =
+    let more = lead_to h k (applied m d) ds all.1 all.2 all.3 in record { above = omega (arith, all.0, more.above); below = more.below; lists = more.lists }
 
 -- ---- frames
 
@@ -58,7 +77,7 @@ run_leads h k b (f ∷ es) last m top at goes =
         let s = applied m t.delta in
         let named : s.revision ≡ t.revision = step_names f.kind k last f.object m.revision t is in
         let one : GoesTo h k b m (going_on last (λ r. run k r []) (Ok t)) = subst (λ o. GoesTo h k b m (going_on last (λ r. run k r []) o)) is (goes (f ∷ []) es refl) in
-        let up : last ≤ t.revision = subst (λ o. last ≤ (going_on last (λ r. run k r []) o).revision) is (run_rises k (f ∷ []) last) in
+        let up : last ≤ t.revision = frame_rises k last f t is in
         let high : t.revision ≤ b = one.0 in
         let members : s.members ≡ list h (whole k) s.revision = one.1 ∙ ap (list h (whole k)) (sym named) in (
           omega (arith, at, up, named),
@@ -67,43 +86,106 @@ run_leads h k b (f ∷ es) last m top at goes =
           later t s named (λ x y e. subst (λ o. GoesTo h k b m (going_on last (λ r. run k r x) o)) is (goes (f ∷ x) y (ap (λ z. f ∷ z) e))),
         )
 
--- ---- bytes
+-- ---- the frames of a watch
 
-refused : (h : History) (k : Kind) (m : Snapshot) (f : Refusal) (t : Run) → t.ended ≡ None → Leads h k m t.deltas → Leads h k m (run_then t.ended t (run k t.revision (error_frame f ∷ []))).deltas
-refused h k m f t none leads = rw none (subst (Leads h k m) (sym (append-nil t.deltas)) leads)
+module _ (h : History) (k : Kind) (a b : ℕ) (ls : List Line) (sent : IsSent h k a b ls) (top : b ≤ present h) where
+  reached : (es later : List Frame) → es ++ later ≡ map (frame_of k) ls → Reaches h (whole k) a b later (run k a es)
+  reached es later e = follows ls es later h k a b (events h (whole k) a b) sent.forward sent.low refl sent.stream sent.told e
 
-module _ (h : History) (k : Kind) (a b : ℕ) (ls : List Line) (o : Option Refusal) (sent : IsSent h k a b ls) (refusal : IfSome o IsRefusalRead) (top : b ≤ present h) where
   frames_lead : (es later : List Frame) → es ++ later ≡ map (frame_of k) ls → Leads h k (list_at h k a) (run k a es).deltas
   frames_lead es later e =
       run_leads h k b es a (list_at h k a) top refl
-      (λ x y is. let r = reached h k a b ls o sent refusal x (y ++ later) (sym (append_assoc x y later) ∙ ap (λ z. z ++ later) is ∙ e) in (r.below, r.applies))
+      (λ x y is. let r = reached x (y ++ later) (sym (append_assoc x y later) ∙ ap (λ z. z ++ later) is ∙ e) in (r.below, r.applies))
 
-  events_lead : (es : List Frame) → Beginning es (map (frame_of k) ls) o → Leads h k (list_at h k a) (run k a es).deltas
-  events_lead es (before later e) = frames_lead es later e
-  events_lead es (whole_of f e) =
+  watch_leads : (es : List Frame) (o : Option Refusal) → Beginning es (map (frame_of k) ls) o → Leads h k (list_at h k a) (run k a es).deltas
+  watch_leads es o (before later e) = frames_lead es later e
+  watch_leads es o (whole_of f e) =
       let fs = map (frame_of k) ls in
-      let r = reached h k a b ls o sent refusal fs [] (append-nil fs) in
-      subst (λ (u : Run). Leads h k (list_at h k a) u.deltas) (sym (ap (run k a) e ∙ run_on k fs (error_frame f ∷ []) a))
-      (refused h k (list_at h k a) f (run k a fs) r.ended (frames_lead fs [] (append-nil fs)))
+      subst (Leads h k (list_at h k a)) (sym (ap (λ z. (run k a z).deltas) e ∙ refused_run k f fs a)) (frames_lead fs [] (append-nil fs))
 
-  bytes_lead : (bytes more : List ℕ) → bytes ++ more ≡ text_of_lines k ls ++ refusal_text o → Leads h k (list_at h k a) (fed (watching k a) bytes).deltas
-  bytes_lead bytes more e =
-      let first = reading bytes in
-      let then = fed_after first.fault (first.buffered ++ more) in
-      let all : onto first.events then ≡ record { events = map (frame_of k) ls ++ refusal_frames o; buffered = []; fault = None } =
-      sym (reading_twice bytes more) ∙ ap reading e ∙ all_read k ls o sent.read refusal in
-      events_lead first.events (beginning o first.events then.events (map (frame_of k) ls) (ap (λ (r : Read). r.events) all))
+-- ---- the frames of a stream of initial events
+
+objects_are : (k : Kind) (a : ℕ) (ms : Entries) → AllByRecursion (IsOf k a) ms → objects_of ms ≡ objects_in k ms
+objects_are k a [] h = refl
+objects_are k a (m ∷ ms) h = ap (λ z. record { kind = z; value = m.1 } ∷ objects_of ms) (sym h.0.0) ∙ ap (λ os. record { kind = k; value = m.1 } ∷ os) (objects_are k a ms h.1)
+
+-- what comes at once where the initial events are closed
+closing_leads : (h : History) (k : Kind) (r a : ℕ) (i : Initial) (ds : List Delta) → IsReached h → r ≤ a → a ≤ present h → i.members ≡ list h (whole k) a → Leads h k (list_at h k a) ds
+    → Leads h k (list_at h k r) (replace a (objects_of i.members) ∷ ds)
+closing_leads h k r a i ds happened low top is more =
+    let put : put_all [] (objects_of i.members) ≡ list h (whole k) a =
+    ap (λ ms. put_all [] (objects_of ms)) is ∙ ap (put_all []) (objects_are k a (list h (whole k) a) (all_listed h k a happened)) ∙ lists_put h k a happened in
+    let there : applied (list_at h k r) (replace a (objects_of i.members)) ≡ list_at h k a = λ j. record { members = put j; revision = a } in
+    (low, top, there, subst (λ m. Leads h k m ds) (sym there) more)
+
+module _ (h : History) (k : Kind) (r a b : ℕ) (ls : List Line) (happened : IsReached h) (sent : IsSent h k a b ls) (top : b ≤ present h) (low : r ≤ a) where
+  abbrev ms : Entries
+  ms = list h (whole k) a
+
+  abbrev all : List Line
+  all = opening_lines true a ms ++ ls
+
+  played : (es later : List Frame) → es ++ later ≡ map (frame_of k) all → Plays k a r ms ms ls es later (open_run k r none_yet es)
+  played es later e =
+      let few : present h ≤ 9007199254740991 = (limited h happened).1 in
+      plays k a r ms [] none_yet es later ls (all_listed h k a happened) (list_ascending h (whole k) a) refl (omega arith) (omega (arith, sent.forward, top, few))
+      (e ∙ ap (map (frame_of k)) (append_assoc (added_lines ms) (initial_end a ∷ []) ls))
+
+  by_play : (es later : List Frame) (c : Course) → Plays k a r ms ms ls es later c → Leads h k (list_at h k r) c.run.deltas
+  by_play es later c (inl u) = subst (λ (c : Course). Leads h k (list_at h k r) c.run.deltas) (sym u.is) tt
+  by_play es later c (inr u) =
+      subst (λ (c : Course). Leads h k (list_at h k r) c.run.deltas) (sym u.is)
+      (closing_leads h k r a u.so_far (run k a u.then).deltas happened low (omega (arith, sent.forward, top)) u.members (frames_lead h k a b ls sent top u.then later u.rest))
+
+  stream_leads : (es : List Frame) (o : Option Refusal) → Beginning es (map (frame_of k) all) o → Leads h k (list_at h k r) (open_run k r none_yet es).run.deltas
+  stream_leads es o (before later e) = by_play es later (open_run k r none_yet es) (played es later e)
+  stream_leads es o (whole_of f e) =
+      let fs = map (frame_of k) all in
+      subst (Leads h k (list_at h k r)) (sym (ap (λ z. (open_run k r none_yet z).run.deltas) e ∙ refused_opening k f fs r none_yet))
+      (by_play fs [] (open_run k r none_yet fs) (played fs [] (append-nil fs)))
+
+-- ---- the bytes of a link
+
+-- a reflector at the beginning of a link, by its parts
+watches_by : (s : Reflector) (a : ℕ) → IsAt s a → at_place s.is_streaming s.kind (record { phase = Watching; revision = a; initial = s.initial }) [] ≡ s
+watches_by s a at = λ i. record { kind = s.kind; revision = sym at.revision i; phase = sym at.watches i; buffered = sym at.holds i; is_streaming = s.is_streaming; initial = s.initial }
+
+streams_by : (s : Reflector) → IsAtStart s → at_place s.is_streaming s.kind (record { phase = Streaming; revision = s.revision; initial = none_yet }) [] ≡ s
+streams_by s at = λ i. record { kind = s.kind; revision = s.revision; phase = sym at.streams i; buffered = sym at.holds i; is_streaming = s.is_streaming; initial = sym at.initial i }
+
+module _ (h : History) (k : Kind) (a b : ℕ) (start : Reflector) (opening ls : List Line) (o : Option Refusal) (happened : IsReached h) (kind : start.kind ≡ k) (begins : Begins h k a start opening)
+    (sent : IsSent h k a b ls) (back : AllByRecursion (IsReadBack k) (opening ++ ls)) (refusal : IfSome o IsRefusalRead) (top : b ≤ present h) where
+  -- what is given leads from the list where the reflector was
+  abbrev GivesLeads : List ℕ → Reflector → Type 0
+  GivesLeads bytes s = Leads h k (list_at h k s.revision) (fed s bytes).deltas
+
+  leads_as : (bytes : List ℕ) (opening : List Line) → Begins h k a start opening → Beginning (reading bytes).events (map (frame_of k) (opening ++ ls)) o → GivesLeads bytes start
+  leads_as bytes opening (watching at) es =
+      subst (GivesLeads bytes) (watches_by start a at)
+      (subst (λ n. Leads h k (list_at h k a) (run n a (reading bytes).events).deltas) (sym kind) (watch_leads h k a b ls sent top (reading bytes).events o es))
+  leads_as bytes opening (streaming at low) es =
+      subst (GivesLeads bytes) (streams_by start at)
+      (subst (λ n. Leads h k (list_at h k start.revision) (open_run n start.revision none_yet (reading bytes).events).run.deltas) (sym kind)
+      (stream_leads h k start.revision a b ls happened sent top low (reading bytes).events o es))
+
+  bytes_lead : (bytes more : List ℕ) → bytes ++ more ≡ text_of_lines k (opening ++ ls) ++ refusal_text o → GivesLeads bytes start
+  bytes_lead bytes more e = leads_as bytes opening begins (begun_frames k (opening ++ ls) o bytes more back refusal e)
+
+  low_start : (opening : List Line) → Begins h k a start opening → start.revision ≤ present h
+  low_start opening (watching at) = omega (arith, at.revision, sent.forward, top)
+  low_start opening (streaming at low) = omega (arith, low, sent.forward, top)
 
   -- what more bytes give, after those that were read
-  pub further_leads : (read piece more : List ℕ) → read ++ (piece ++ more) ≡ text_of_lines k ls ++ refusal_text o
-      → (let s = (fed (watching k a) read).after in Leads h k (list_at h k s.revision) (fed s piece).deltas)
-  further_leads read piece more e =
-      let f = fed (watching k a) read in
+  pub further_leads : (read piece more : List ℕ) → (fed start read).ended ≡ None → read ++ (piece ++ more) ≡ text_of_lines k (opening ++ ls) ++ refusal_text o
+      → (let s = (fed start read).after in (s.revision ≤ present h) × Leads h k (list_at h k s.revision) (fed s piece).deltas)
+  further_leads read piece more goes_on e =
+      let f = fed start read in
       let g = fed f.after piece in
-      let start = list_at h k a in
-      let on = comes h k a b ls o sent refusal read (piece ++ more) e in
-      let members : (all_applied start f.deltas).members ≡ list h (whole k) f.after.revision = applied_members start f.deltas ∙ on.applies in
-      let named : (all_applied start f.deltas).revision ≡ f.after.revision = fed_names (watching k a) read start refl in
-      let there : all_applied start f.deltas ≡ list_at h k f.after.revision = λ i. record { members = members i; revision = named i } in
-      let both : Leads h k start (f.deltas ++ g.deltas) = subst (λ (z : Fed). Leads h k start z.deltas) (sym (fed_twice (watching k a) read piece)) (bytes_lead (read ++ piece) more (append_assoc read piece more ∙ e)) in
-      subst (λ s. Leads h k s g.deltas) there (leads_then h k start f.deltas g.deltas both)
+      let at = list_at h k start.revision in
+      let on = lead_to h k at f.deltas (low_start opening begins) refl (bytes_lead read (piece ++ more) e) in
+      let named : (all_applied at f.deltas).revision ≡ f.after.revision = fed_names start read at refl in
+      let there : all_applied at f.deltas ≡ list_at h k f.after.revision = on.lists ∙ ap (list_at h k) named in
+      let twice : joined None f g ≡ fed start (read ++ piece) = ap (λ z. joined z f g) (sym goes_on) ∙ fed_twice start read piece in
+      let both : Leads h k at (f.deltas ++ g.deltas) =
+      subst (λ (z : Fed). Leads h k at z.deltas) (sym twice) (bytes_lead (read ++ piece) more (append_assoc read piece more ∙ e)) in
+      (omega (arith, named, on.below), subst (λ m. Leads h k m g.deltas) there (leads_then h k at f.deltas g.deltas both))

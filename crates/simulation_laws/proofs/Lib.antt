@@ -1,11 +1,13 @@
-mod Appending
-mod Feeding
+pub mod Appending
+mod Delivering
+pub mod Feeding
 mod FramesRead
 pub mod Growing
 pub mod Leading
 pub mod LeadMoves
 pub mod LeadRuns
 mod Moving
+pub mod OpeningsRead
 mod RefusalsRead
 pub mod Requests
 mod Rising

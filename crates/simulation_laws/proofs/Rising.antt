@@ -1,18 +1,18 @@
 -- The revision that is published never falls.
-use Rattle.std.proofs.Common.{◌≡◌, ◌≤◌, ◌==◌, ℕ, [], ◌∷◌, Bool, true, false, cond, Option, Some, None, Result, Ok, Err, refl, ap, arith}
+use Rattle.std.proofs.Common.{◌≡◌, ◌≤◌, ◌==◌, ℕ, List, [], ◌∷◌, Bool, true, false, cond, Option, Some, None, Result, Ok, Err, refl, ap, arith}
 use Rattle.definitions.specs.declared.kinds.Kind.{Kind}
 use Rattle.definitions.specs.History.{History, present}
 use Rattle.definitions.specs.Refusals.{Refusal}
-use Rattle.definitions.specs.Streams.{bookmark}
+use Rattle.definitions.specs.Streams.{Line, bookmark}
 use Rattle.definitions.specs.Versions.{Watched, watched_from}
 use Rattle.server_state.specs.Snapshots.{Snapshot}
 use Rattle.controllers.specs.declared.reflectors.Phase.{Phase}
-use Rattle.controllers.specs.declared.reflectors.Phase.TheVariants.{Listing, Watching}
+use Rattle.controllers.specs.declared.reflectors.Phase.TheVariants.{Listing, Streaming, Watching}
 use Rattle.controllers.specs.Informers.{all_applied}
 use Rattle.laws.specs.SentLaws.{whole}
 use Rattle.simulation.specs.Followers.{Link, Follower}
 use Rattle.simulation.specs.Moves as moving
-use Rattle.simulation.specs.Moves.{Moved, Answers, answers_after, list_in, watch_in, open_by, after_lines, with_link, write_changes, send_on, write_bookmark, bookmark_on, deliver_on, deliver_all_on, cut_on, publish_now, closed}
+use Rattle.simulation.specs.Moves.{Moved, Answers, answers_after, list_in, watch_in, open_by, stream_in, after_lines, with_link, write_changes, send_next, send_on, write_bookmark, bookmark_next, bookmark_on, deliver_on, deliver_all_on, cut_on, publish_now, closed}
 use Rattle.simulation_laws.specs.FollowerLaws.{IsFollowing, MovesRise}
 
 abbrev named : Follower → ℕ
@@ -26,6 +26,7 @@ module _ (k : Kind) (h : History) (f : Follower) where
   of_list : (p : Phase) (size : ℕ) → Stays (list_in k p (answers_after k size h) f)
   of_list Listing size = refl
   of_list Watching size = refl
+  of_list Streaming size = refl
 
   of_open : (o : Result Watched Refusal) → Stays (open_by k o f)
   of_open (Ok w) = refl
@@ -35,6 +36,13 @@ module _ (k : Kind) (h : History) (f : Follower) where
   of_watch Watching None size = of_open (watched_from size h (whole k) f.reflector.revision 0)
   of_watch Watching (Some l) size = refl
   of_watch Listing o size = refl
+  of_watch Streaming o size = refl
+
+  of_stream : (p : Phase) (o : Option Link) (size : ℕ) → Stays (stream_in k p o (answers_after k size h) f)
+  of_stream Streaming None size = refl
+  of_stream Streaming (Some l) size = refl
+  of_stream Listing o size = refl
+  of_stream Watching o size = refl
 
   of_changes : (o : Result Watched Refusal) (l : Link) → Stays (write_changes k o l f)
   of_changes (Ok w) l = refl
@@ -44,9 +52,13 @@ module _ (k : Kind) (h : History) (f : Follower) where
   unless true m is = refl
   unless false m is = is
 
+  of_next : (is : List Line) (n size : ℕ) (l : Link) → Stays (send_next k is n (answers_after k size h) l f)
+  of_next [] n size l = of_changes (watched_from size h (whole k) l.stands n) l
+  of_next (i ∷ is) n size l = refl
+
   of_send : (o : Option Link) (n size : ℕ) → Stays (send_on k o n (answers_after k size h) f)
   of_send None n size = refl
-  of_send (Some l) n size = unless l.is_refused (write_changes k (watched_from size h (whole k) l.stands n) l f) (of_changes (watched_from size h (whole k) l.stands n) l)
+  of_send (Some l) n size = unless l.is_refused (send_next k l.initial n (answers_after k size h) l f) (of_next l.initial n size l)
 
   mark_if : (b : Bool) (now : ℕ) (l : Link) → Stays (cond b (record { follower = with_link (after_lines k (bookmark now ∷ []) now l) f; outcome = moving.sent k 1 }) (closed f))
   mark_if true now l = refl
@@ -56,9 +68,13 @@ module _ (k : Kind) (h : History) (f : Follower) where
   of_mark (Ok w) now l = mark_if (w.stands == now) now l
   of_mark (Err e) now l = refl
 
+  mark_next : (is : List Line) (size : ℕ) (l : Link) → Stays (bookmark_next k is (answers_after k size h) l f)
+  mark_next [] size l = of_mark (watched_from size h (whole k) l.stands 0) (present h) l
+  mark_next (i ∷ is) size l = refl
+
   of_bookmark : (o : Option Link) (size : ℕ) → Stays (bookmark_on k o (answers_after k size h) f)
   of_bookmark None size = refl
-  of_bookmark (Some l) size = unless l.is_refused (write_bookmark k (watched_from size h (whole k) l.stands 0) (present h) l f) (of_mark (watched_from size h (whole k) l.stands 0) (present h) l)
+  of_bookmark (Some l) size = unless l.is_refused (bookmark_next k l.initial (answers_after k size h) l f) (mark_next l.initial size l)
 
   of_deliver : (o : Option Link) (n : ℕ) → Stays (deliver_on k o n f)
   of_deliver None n = refl
@@ -81,6 +97,7 @@ module _ (k : Kind) (h : History) (f : Follower) where
 pub rise : MovesRise
 rise k size h f moving.list is = omega (arith, of_list k h f f.reflector.phase size)
 rise k size h f moving.watch is = omega (arith, of_watch k h f f.reflector.phase f.link size)
+rise k size h f moving.stream is = omega (arith, of_stream k h f f.reflector.phase f.link size)
 rise k size h f (moving.send n) is = omega (arith, of_send k h f f.link n size)
 rise k size h f moving.send_bookmark is = omega (arith, of_bookmark k h f f.link size)
 rise k size h f (moving.deliver n) is = omega (arith, of_deliver k h f f.link n)

@@ -13,6 +13,7 @@ use Rattle.line_protocol.specs.Lines.{Line, cut, line_of, session_after}
 use Rattle.server_state.specs.Snapshots.{Snapshot}
 use Rattle.laws.proofs.ReadRequests.{IsTimed, timed_from, by_line}
 use Rattle.laws.proofs.Runs.{Begins, nothing as none_more, begins-write, begins-entry}
+use Rattle.simulation.specs.declared.initial_syncs.InitialSync.{InitialSync}
 use Rattle.simulation.specs.Followers.{Follower, begun}
 use Rattle.simulation.specs.Moves as moving
 use Rattle.simulation.specs.Clusters.{Cluster, with_new_followers, opened, history, follower, with_follower, ClusterStep, request, compact, moves, restart, step, run}
@@ -24,15 +25,16 @@ use Rattle.simulation_laws.proofs.Rising.{rise}
 
 -- ---- parts of a cluster
 
-pub begun_follows : (h : History) (k : Kind) → IsFollowing h k (begun k)
-begun_follows h k = record { kind = refl; reached = omega arith; published = refl; passed = omega arith; pending = refl; linked = refl }
+pub begun_follows : (h : History) (i : InitialSync) (k : Kind) → IsFollowing h k (begun i k)
+begun_follows h i k =
+    record { kind = refl; reached = omega arith; published = refl; passed = omega arith; pending = refl; linked = record { holds = refl; initial = refl } }
 
 -- a property of the follower of each kind, at the beginning
-pub at_first : (P : Kind → Follower → Type 0) (s : Session) → ((k : Kind) → P k (begun k)) → (k : Kind) → P k (follower k (with_new_followers s))
-at_first P s p ConfigMap = p ConfigMap
-at_first P s p Pod = p Pod
-at_first P s p ReplicaSet = p ReplicaSet
-at_first P s p Deployment = p Deployment
+pub at_first : (P : Kind → Follower → Type 0) (i : InitialSync) (s : Session) → ((k : Kind) → P k (begun i k)) → (k : Kind) → P k (follower k (with_new_followers i s))
+at_first P i s p ConfigMap = p ConfigMap
+at_first P i s p Pod = p Pod
+at_first P i s p ReplicaSet = p ReplicaSet
+at_first P i s p Deployment = p Deployment
 
 -- and with another session
 pub with_session : (P : Kind → Follower → Type 0) (c : Cluster) (s : Session) → ((k : Kind) → P k (follower k c)) → (k : Kind) → P k (follower k (record c { session = s }))
@@ -97,23 +99,23 @@ keeps c (moves k m) is =
     let here = moves_follow k c.session.window (history c) (follower k c) m is.0 (is.2 k) in
     subst (λ s. IsReached s.history × IsTimestamp s.moment × ((j : Kind) → IsFollowing s.history j (follower j (with_follower k f c)))) (sym (same_session c k f))
     (is.0, is.1, with_moved (IsFollowing (history c)) c k f here is.2)
-keeps c restart is = (is.0, is.1, at_first (IsFollowing (history c)) c.session (begun_follows (history c)))
+keeps c restart is = (is.0, is.1, at_first (IsFollowing (history c)) c.initial c.session (begun_follows (history c) c.initial))
 
 -- ---- all steps
 
-pub opens : (size : ℕ) → IsFollowed (opened size)
-opens size = (reached.opened, (omega arith, omega arith, IsUtf8-are_ascii (codes "2026-01-01T00:00:00Z") refl), at_first (IsFollowing []) (start size) (begun_follows []))
+pub opens : (size : ℕ) (i : InitialSync) → IsFollowed (opened size i)
+opens size i = (reached.opened, (omega arith, omega arith, IsUtf8-are_ascii (codes "2026-01-01T00:00:00Z") refl), at_first (IsFollowing []) i (start size) (begun_follows [] i))
 
 run_keeps : (c : Cluster) (ss : List ClusterStep) → IsFollowed c → IsFollowed (run c ss)
 run_keeps c [] is = is
 run_keeps c (s ∷ ss) is = run_keeps (step c s).cluster ss (keeps c s is)
 
 pub runs_followed : RunsAreFollowed
-runs_followed size ss = run_keeps (opened size) ss (opens size)
+runs_followed size i ss = run_keeps (opened size i) ss (opens size i)
 
 pub lists_shown : InformersShowServerLists
-lists_shown size ss k =
-    let is = (runs_followed size ss).2 k in (ap (λ (z : Snapshot). z.members) is.published, omega (arith, is.passed, is.reached))
+lists_shown size i ss k =
+    let is = (runs_followed size i ss).2 k in (ap (λ (z : Snapshot). z.members) is.published, omega (arith, is.passed, is.reached))
 
 -- ---- the revisions that are published
 
@@ -146,9 +148,9 @@ module _ (k : Kind) where
       let later = rise_all (step c s).cluster ss parts.1 (keeps c s is) in omega (arith, here, later)
 
 pub revisions_rise : PublishedRevisionsRise
-revisions_rise size before ss k none = rise_all k (run (opened size) before) ss none (runs_followed size before)
+revisions_rise size i before ss k none = rise_all k (run (opened size i) before) ss none (runs_followed size i before)
 
 -- ---- restarts
 
 pub restarts : RestartsBeginAnew
-restarts c k = (at_first (λ k f. f ≡ begun k) c.session (λ k. refl) k, refl)
+restarts c k = (at_first (λ k f. f ≡ begun c.initial k) c.initial c.session (λ k. refl) k, refl, refl)

@@ -18,6 +18,7 @@ use Rattle.definitions.specs.Verbs.{accept, history_after, object_in}
 use Rattle.line_protocol.specs.Lines.{line_of, ask, reply_text}
 use Rattle.laws.specs.LifecycleLaws.{ReplacesVersion}
 use Rattle.laws.specs.SentLaws.{whole}
+use Rattle.simulation.specs.declared.initial_syncs.InitialSync.{InitialSync}
 use Rattle.simulation.specs.Followers.{begun}
 use Rattle.simulation.specs.Moves.{replied}
 use Rattle.simulation.specs.Clusters.{Cluster, opened, history, follower, ClusterStep, request, restart, step, run}
@@ -35,7 +36,7 @@ StepsKeep = (c : Cluster) (s : ClusterStep) → IsFollowed c → IsFollowed (ste
 
 -- and so it is over every list of steps of clients, reflectors, cut streams and compactions
 abbrev pub RunsAreFollowed : Type 0
-RunsAreFollowed = (size : ℕ) (steps : List ClusterStep) → IsFollowed (run (opened size) steps)
+RunsAreFollowed = (size : ℕ) (initial : InitialSync) (steps : List ClusterStep) → IsFollowed (run (opened size initial) steps)
 
 -- the published map of each kind is the server's list at the revision that is published with it, which has happened
 abbrev pub ShowsServerLists : Cluster → Type 0
@@ -46,7 +47,7 @@ ShowsServerLists c =
 
 -- whatever steps are taken
 abbrev pub InformersShowServerLists : Type 0
-InformersShowServerLists = (size : ℕ) (steps : List ClusterStep) → ShowsServerLists (run (opened size) steps)
+InformersShowServerLists = (size : ℕ) (initial : InitialSync) (steps : List ClusterStep) → ShowsServerLists (run (opened size initial) steps)
 
 -- no step but a restart
 abbrev pub NoRestart : List ClusterStep → Type 0
@@ -57,12 +58,14 @@ NoRestart (s ∷ ss) = NoRestart ss
 -- the revisions that an informer publishes never fall between two restarts
 abbrev pub PublishedRevisionsRise : Type 0
 PublishedRevisionsRise =
-    (size : ℕ) (before steps : List ClusterStep) (k : Kind) → NoRestart steps
-    → (let c = run (opened size) before in (follower k c).informer.published.revision ≤ (follower k (run c steps)).informer.published.revision)
+    (size : ℕ) (initial : InitialSync) (before steps : List ClusterStep) (k : Kind) → NoRestart steps
+    → (let c = run (opened size initial) before in (follower k c).informer.published.revision ≤ (follower k (run c steps)).informer.published.revision)
 
--- a restart leaves what has happened, and nothing of what followed it
+-- a restart leaves what has happened, and nothing of what followed it, which begins as it began at first
 abbrev pub RestartsBeginAnew : Type 0
-RestartsBeginAnew = (c : Cluster) (k : Kind) → (follower k (step c restart).cluster ≡ begun k) × ((step c restart).cluster.session ≡ c.session)
+RestartsBeginAnew =
+    (c : Cluster) (k : Kind)
+    → (follower k (step c restart).cluster ≡ begun c.initial k) × ((step c restart).cluster.session ≡ c.session) × ((step c restart).cluster.initial ≡ c.initial)
 
 -- ---- conditional writes
 

@@ -1,5 +1,5 @@
 -- What a follower has published, and what it has still to publish, by what has happened at the server.
-use Rattle.std.specs.Prelude.{◌≡◌, ◌≤◌, ℕ, List, [], ◌++◌, Option, Some, None, IfSome, is_some}
+use Rattle.std.specs.Prelude.{◌≡◌, ◌≤◌, ℕ, List, [], ◌++◌, true, Option, Some, None, IfSome, is_some}
 use Rattle.std.specs.List.{AllByRecursion}
 use Rattle.definitions.specs.declared.kinds.Kind.{Kind}
 use Rattle.definitions.specs.Frames.{frame_text, error_frame}
@@ -7,14 +7,14 @@ use Rattle.definitions.specs.History.{History, present, list}
 use Rattle.definitions.specs.Reached.{IsReached}
 use Rattle.definitions.specs.Refusals.{Refusal}
 use Rattle.definitions.specs.Streams.{Line, IsStream, text_of_lines}
+use Rattle.definitions.specs.WatchReplies.{opening_lines}
 use Rattle.server_state.specs.Servers.{Server, IsServerAfter}
 use Rattle.server_state.specs.Snapshots.{Snapshot}
-use Rattle.controllers.specs.declared.reflectors.Phase.TheVariants.{Watching}
 use Rattle.controllers.specs.Informers.{all_applied}
-use Rattle.controllers.specs.Reflectors.{Reflector, fed}
+use Rattle.controllers.specs.Reflectors.{Reflector, none_yet, fed}
 use Rattle.laws.specs.SentLaws.{whole}
 use Rattle.framing.specs.Texts.{ReadsAs}
-use Rattle.reflector.specs.Laws.{IsReadBack}
+use Rattle.reflector.specs.Laws.{IsReadBack, IsAt, IsAtStart}
 use Rattle.simulation.specs.Followers.{Link, Follower}
 use Rattle.simulation.specs.Moves.{Move, answers_by, move_by, move}
 
@@ -23,10 +23,6 @@ use Rattle.simulation.specs.Moves.{Move, answers_by, move_by, move}
 -- the server's list of a kind at a revision, with the revision
 abbrev pub list_at : History → Kind → ℕ → Snapshot
 list_at h k r = record { members = list h (whole k) r; revision = r }
-
--- a reflector that watches from a revision, with nothing buffered
-abbrev pub watching : Kind → ℕ → Reflector
-watching k a = record { kind = k; revision = a; phase = Watching; buffered = [] }
 
 -- the bytes of an ERROR frame, if one was written
 abbrev pub refusal_text : Option Refusal → List ℕ
@@ -37,23 +33,43 @@ refusal_text (Some e) = frame_text (error_frame e)
 abbrev pub IsRefusalRead : Refusal → Type 0
 IsRefusalRead e = ReadsAs (frame_text (error_frame e)) (error_frame e)
 
--- the link began at a revision, these lines were written on it, a stream from there to where it stands, and then maybe a refusal;
--- the reflector is as it is after the bytes that were read, which came to no end, and the others are to come
-pub record IsLinkedFrom (h : History) (k : Kind) (s : Reflector) (l : Link) (from : ℕ) (ls : List Line) (refusal : Option Refusal) (read : List ℕ) : Type 0 where
+-- nothing of a frame is buffered, and no initial events are held
+pub record IsClear (s : Reflector) : Type 0 where
+  pub holds : s.buffered ≡ []
+  pub initial : s.initial ≡ none_yet
+
+-- how a reflector is where a link begins at a revision, and the lines with which it begins: it watches from there, and there are none;
+-- or it asks for a stream, at a revision that is not above that one, and there is the list at that one, and the bookmark that closes it
+pub data Begins (h : History) (k : Kind) (from : ℕ) (s : Reflector) : List Line → Type 0 where
+  watching : IsAt s from → Begins h k from s []
+  streaming : IsAtStart s → s.revision ≤ from → Begins h k from s (opening_lines true from (list h (whole k) from))
+
+-- the link began at a revision, with its opening lines; then come lines that were written on it, a stream from there to where it
+-- stands, and then maybe a refusal. That is what was read, what is written and not read, and the initial lines that are still to be
+-- written. The reflector is as it is after the bytes that were read, which came to no end
+pub record IsOpen (h : History) (k : Kind) (s : Reflector) (l : Link) : Type 0 where
+  pub from : ℕ
+  pub start : Reflector
+  pub opening : List Line
+  pub lines : List Line
+  pub refusal : Option Refusal
+  pub read : List ℕ
+  pub kind : start.kind ≡ k
+  pub begins : Begins h k from start opening
   pub forward : from ≤ l.stands
   pub reached : l.stands ≤ present h
-  pub stream : IsStream h (whole k) from l.stands ls
-  pub lines_read : AllByRecursion (IsReadBack k) ls
+  pub stream : IsStream h (whole k) from l.stands lines
+  pub lines_read : AllByRecursion (IsReadBack k) (opening ++ lines)
   pub refusal_read : IfSome refusal IsRefusalRead
   pub is_refused : l.is_refused ≡ is_some refusal
-  pub bytes : read ++ l.unread ≡ text_of_lines k ls ++ refusal_text refusal
-  pub goes_on : (fed (watching k from) read).ended ≡ None
-  pub taken : s ≡ (fed (watching k from) read).after
+  pub bytes : read ++ (l.unread ++ text_of_lines k l.initial) ≡ text_of_lines k (opening ++ lines) ++ refusal_text refusal
+  pub goes_on : (fed start read).ended ≡ None
+  pub taken : s ≡ (fed start read).after
 
--- where no link is open, nothing of a frame is buffered
+-- where no link is open, the reflector holds nothing of what it read
 abbrev pub IsLinked : History → Kind → Reflector → Option Link → Type 0
-IsLinked h k s None = s.buffered ≡ []
-IsLinked h k s (Some l) = (from : ℕ) × (ls : List Line) × (refusal : Option Refusal) × (read : List ℕ) × IsLinkedFrom h k s l from ls refusal read
+IsLinked h k s None = IsClear s
+IsLinked h k s (Some l) = IsOpen h k s l
 
 -- what is published is the server's list at the revision that is published with it, which the reflector has passed; with what waits
 -- to be published it is the list at the reflector's revision; and the link goes on from there

@@ -32,7 +32,7 @@ after_same w p s is = (step_follows w p s is).0
 
 pub follows : (s : Option WorldState) (c : Option ControlPlane) (line : List ℕ) → Follows s c → (reply_by_stored s line ≡ reply_by_plane c line) × Follows (next_stored s line) (next_plane c line)
 follows =
-    following.follows opened_stored stored_after told_by_stored opened_with plane_after told_by_plane StandsFor (λ c. stands_for_begun c.window c.workers) told_same after_same
+    following.follows opened_stored stored_after told_by_stored opened_with plane_after told_by_plane StandsFor (λ c. stands_for_begun c.window c.workers c.initial) told_same after_same
 
 -- ---- where no line is refused
 

@@ -13,7 +13,7 @@ abbrev pub coded_simulation : Coded (Option WorldState)
 coded_simulation = coded_option coded_world
 
 abbrev pub opened_stored : Config → WorldState
-opened_stored c = stored.opened c.window c.workers
+opened_stored c = stored.opened c.window c.workers c.initial
 
 unfoldable pub stored_after : WorldState → Step → WorldState
 stored_after w step = (stored.step w step).world

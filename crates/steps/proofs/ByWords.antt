@@ -4,7 +4,7 @@ use Rattle.std.specs.List.{onto_first}
 use Rattle.line_protocol.specs.Lines.{cut}
 use Rattle.reconciling.specs.StepLines.{step_in_words}
 use Rattle.simulation.specs.StepLines.{words, move_of, config_in}
-use Rattle.steps.specs.Words.{with_first, few_words, step_by_words, config_by}
+use Rattle.steps.specs.Words.{with_first, few_words, step_by_words}
 use Rattle.steps.specs.PlaneSteps.{plane_step_by_words}
 
 -- ---- words, by where the text is cut
@@ -61,12 +61,12 @@ move_by_words (a ∷ b ∷ []) = refl
 move_by_words (a ∷ b ∷ c ∷ []) = refl
 move_by_words (a ∷ b ∷ c ∷ d ∷ ws) = refl
 
-pub config_by_words : (ws : List (List ℕ)) → option_and_then config_by (few_words ws) ≡ config_in ws
-config_by_words [] = refl
-config_by_words (a ∷ []) = refl
-config_by_words (a ∷ b ∷ []) = refl
-config_by_words (a ∷ b ∷ c ∷ []) = refl
-config_by_words (a ∷ b ∷ c ∷ d ∷ ws) = refl
+-- the words of a configuration
+pub config_first : (t a r : List ℕ) → Some (a, r) ≡ cut t → config_in (a ∷ words r) ≡ config_in (words t)
+config_first t a r e = sym (ap config_in (cut-words t (Some (a, r)) e))
+
+pub config_alone : (t : List ℕ) → None ≡ cut t → None ≡ config_in (words t)
+config_alone t e = sym (ap config_in (cut-words t None e))
 
 pub plane_step_in_words : (ws : List (List ℕ)) → option_and_then plane_step_by_words (few_words ws) ≡ step_in_words ws
 plane_step_in_words [] = refl

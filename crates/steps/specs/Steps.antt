@@ -10,6 +10,7 @@ use Rattle.steps.specs.declared.steps.Step.TheVariants as step
 abbrev pub move_of : Move → moves.Move
 move_of code.List = moves.list
 move_of code.Watch = moves.watch
+move_of code.Stream = moves.stream
 move_of (code.Send n) = moves.send n
 move_of code.SendBookmark = moves.send_bookmark
 move_of (code.Deliver n) = moves.deliver n

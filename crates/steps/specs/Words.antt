@@ -1,10 +1,11 @@
 -- Words of a line as code has them.
-use Rattle.std.specs.Prelude.{ℕ, ◌&&◌, nat_lt, nat_le, List, [], ◌∷◌, length, Bool, Option, Some, None, option_map, option_and_then, codes, if◌then◌else◌}
+use Rattle.std.specs.Prelude.{ℕ, ◌&&◌, nat_lt, nat_le, List, [], ◌∷◌, length, Bool, Option, Some, None, option_map, option_and_then}
 use Rattle.std.specs.Borrow.{Bor}
 use Rattle.std.specs.List.{list_all}
-use Rattle.std.specs.Str.{bytes_eq}
 use Rattle.definitions.specs.Moments.{is_digit}
-use Rattle.simulation.specs.StepLines.{number_of, kind_of, after_prefix, move_named, move_with, Config, config_within}
+use Rattle.simulation.specs.declared.initial_syncs.InitialSync.{InitialSync}
+use Rattle.simulation.specs.declared.initial_syncs.InitialSync.TheVariants as sync
+use Rattle.simulation.specs.StepLines.{kind_of, move_named, move_with, Config, initial_said, config_said}
 use Rattle.simulation.specs.Clusters.{ClusterStep, moves}
 use Rattle.simulation.specs.Moves.{Move}
 use Rattle.steps.specs.declared.words.Words.{Words}
@@ -40,14 +41,11 @@ step_by_words w = option_and_then (λ k. option_map (moves k) (movement_of w)) (
 abbrev pub is_number : List ℕ → Bool
 is_number t = nat_lt 0 (length t) && nat_le (length t) 9 && list_all is_digit t
 
--- the number that follows a name
-abbrev pub number_after : List ℕ → List ℕ → Option ℕ
-number_after name t = option_and_then number_of (after_prefix name t)
+-- how followers begin, as a word says, or else by lists
+abbrev pub initial_by : Option (List ℕ) → Option InitialSync
+initial_by None = Some sync.List
+initial_by (Some t) = initial_said t
 
--- the sizes that three words say
+-- the sizes that two words say, and how followers begin, as a third one may say
 abbrev pub config_by : List ℕ × List ℕ × Option (List ℕ) → Option Config
-config_by (c, w, None) = None
-config_by (c, w, Some n) =
-    if bytes_eq c (codes "config") then
-    option_and_then (λ size. option_and_then (config_within size) (number_after (codes "workers=") n)) (number_after (codes "window=") w)
-    else None
+config_by (w, n, i) = config_said w n (initial_by i)

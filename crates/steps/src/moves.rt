@@ -10,7 +10,9 @@ pub enum Move {
     List,
     /// A watch is opened.
     Watch,
-    /// The server writes the next changes, at most so many.
+    /// A watch is opened that begins with all objects and a closing bookmark.
+    Stream,
+    /// The server writes the next lines, at most so many.
     Send(u64),
     /// The server writes a bookmark.
     SendBookmark,
@@ -36,6 +38,8 @@ impl Move {
             Some(Move::List)
         } else if is(verb, "watch") {
             Some(Move::Watch)
+        } else if is(verb, "stream") {
+            Some(Move::Stream)
         } else if is(verb, "cut") {
             Some(Move::Cut)
         } else if is(verb, "publish") {
@@ -45,7 +49,7 @@ impl Move {
         }
     }
 
-    /// Returns the move by which so many changes are written, or a bookmark.
+    /// Returns the move by which so many lines are written, or a bookmark.
     fn send(amount: &[u8]) -> Option<Move>
         ensures { option_map move_of result ≡ send_of amount.now }
     {

@@ -5,6 +5,8 @@ use Rattle.std.specs.Coded.{Coded, code_by, coded×, coded⊎, coded_ℕ, coded_
 use Rattle.definitions.specs.contracts.kinds.Kind as kind
 use Rattle.definitions.specs.declared.kinds.Kind.{Kind}
 use Rattle.codes.specs.Codes.{coded_text}
+use Rattle.simulation.specs.contracts.initial_syncs.InitialSync as initial_sync
+use Rattle.simulation.specs.declared.initial_syncs.InitialSync.{InitialSync}
 use Rattle.simulation.specs.Clusters.{ClusterStep, request, compact, moves, restart}
 use Rattle.simulation.specs.Moves as move
 use Rattle.simulation.specs.Moves.{Move}
@@ -74,26 +76,29 @@ MoveParts = ℕ ⊎ (ℕ ⊎ ℕ)
 abbrev pub move_parts : Move → MoveParts
 move_parts move.list = inl 0
 move_parts move.watch = inl 1
-move_parts move.send_bookmark = inl 2
-move_parts move.deliver_all = inl 3
-move_parts move.cut = inl 4
-move_parts move.publish = inl 5
+move_parts move.stream = inl 2
+move_parts move.send_bookmark = inl 3
+move_parts move.deliver_all = inl 4
+move_parts move.cut = inl 5
+move_parts move.publish = inl 6
 move_parts (move.send n) = inr (inl n)
 move_parts (move.deliver n) = inr (inr n)
 
 abbrev pub move_from : MoveParts → Move
 move_from (inl zero) = move.list
 move_from (inl (suc zero)) = move.watch
-move_from (inl (suc (suc zero))) = move.send_bookmark
-move_from (inl (suc (suc (suc zero)))) = move.deliver_all
-move_from (inl (suc (suc (suc (suc zero))))) = move.cut
-move_from (inl (suc (suc (suc (suc (suc n)))))) = move.publish
+move_from (inl (suc (suc zero))) = move.stream
+move_from (inl (suc (suc (suc zero)))) = move.send_bookmark
+move_from (inl (suc (suc (suc (suc zero))))) = move.deliver_all
+move_from (inl (suc (suc (suc (suc (suc zero)))))) = move.cut
+move_from (inl (suc (suc (suc (suc (suc (suc n))))))) = move.publish
 move_from (inr (inl n)) = move.send n
 move_from (inr (inr n)) = move.deliver n
 
 pub move_back : (m : Move) → move_from (move_parts m) ≡ m
 move_back move.list = refl
 move_back move.watch = refl
+move_back move.stream = refl
 move_back move.send_bookmark = refl
 move_back move.deliver_all = refl
 move_back move.cut = refl
@@ -157,5 +162,5 @@ coded_step = code_by StepParts (coded⊎ (coded⊎ coded_cluster_step kind.the_r
 
 abbrev pub coded_taken : Coded Taken
 coded_taken =
-    code_by (ℕ × (ℕ × List Step)) (coded× coded_ℕ (coded× coded_ℕ (coded_list coded_step))) (λ t. (t.window, (t.workers, t.steps)))
-    (λ p. record { window = p.0; workers = p.1.0; steps = p.1.1 }) (λ _. refl)
+    code_by ((ℕ × ℕ) × (InitialSync × List Step)) (coded× (coded× coded_ℕ coded_ℕ) (coded× initial_sync.the_row.coded (coded_list coded_step))) (λ t. ((t.window, t.workers), (t.initial, t.steps)))
+    (λ p. record { window = p.0.0; workers = p.0.1; initial = p.1.0; steps = p.1.1 }) (λ _. refl)

@@ -1,16 +1,19 @@
 -- What was done since a control plane was opened.
 use Rattle.std.specs.Prelude.{ℕ, List, [], ◌∷◌, ◌++◌}
+use Rattle.simulation.specs.declared.initial_syncs.InitialSync.{InitialSync}
 use Rattle.reconciling.specs.ControlPlanes.{ControlPlane, Step, opened, run}
 
--- the size of the server's windows and the number of workers with which it was opened, and the steps that were taken since, the first one first
+-- the size of the server's windows, the number of workers and how followers begin, as it was opened, and the steps that were taken since, the first
+-- one first
 pub record Taken : Type 0 where
   pub window : ℕ
   pub workers : ℕ
+  pub initial : InitialSync
   pub steps : List Step
 
 -- no step
-abbrev pub begun : ℕ → ℕ → Taken
-begun window workers = record { window = window; workers = workers; steps = [] }
+abbrev pub begun : ℕ → ℕ → InitialSync → Taken
+begun window workers initial = record { window = window; workers = workers; initial = initial; steps = [] }
 
 -- one step more
 abbrev pub followed : Taken → Step → Taken
@@ -22,7 +25,7 @@ followed_by_all t ss = record t { steps = t.steps ++ ss }
 
 -- the control plane that was opened, and what these steps made of it
 abbrev pub opening : Taken → ControlPlane
-opening t = opened t.window t.workers
+opening t = opened t.window t.workers t.initial
 
 abbrev pub plane : Taken → ControlPlane
 plane t = run (opening t) t.steps

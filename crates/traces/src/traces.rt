@@ -7,7 +7,7 @@ ghost use Rattle.traces.specs.Taken.{Taken};
 use std::marker::Model;
 use steps::{Config, PlaneStep};
 
-/// The sizes with which a control plane was opened, and the steps that were taken since. It takes no memory.
+/// The sizes with which a control plane was opened, how its followers begin, and the steps that were taken since. It takes no memory.
 #[derive(Drop)]
 pub struct Trace {
     pub ghost taken: { Taken } by { coded_taken },
@@ -22,9 +22,9 @@ impl Trace {
     ghost use Rattle.steps.specs.PlaneSteps.{plane_step_of};
     ghost use Rattle.traces.specs.Taken.{begun, followed};
 
-    /// Returns the trace of what was opened with these sizes, and took no step.
+    /// Returns the trace of what was opened so, and took no step.
     pub fn begun(config: &Config) -> Trace
-        ensures { result.taken ≡ begun config.now.window config.now.workers }
+        ensures { result.taken ≡ begun config.now.window config.now.workers config.now.initial }
     {
         Trace {}
     }

@@ -12,7 +12,7 @@ use Rattle.world.specs.StoredStates.{StoredState}
 
 pub asked : (w : StoredState) (n : ℕ) (a : Action) → Stands w → CanBeAsked w.cluster n a w.manager
 unfolding Stands
-asked w n a (window, workers, steps, is) =
-    let p = planes.run (planes.opened window workers) steps in
+asked w n a (window, workers, initial, steps, is) =
+    let p = planes.run (planes.opened window workers initial) steps in
     let same : act (client_of w.cluster) n a w.manager ≡ act (planes.client p.cluster) n a p.manager = λ i. act (same_client w.cluster p.cluster is.cluster i) n a (is.manager i) in
-    subst (λ (r : Acted). IfSome r.request CanBeRead) (sym same) (asks_readable (planes.client p.cluster) n a p.manager (all_well window workers steps).1)
+    subst (λ (r : Acted). IfSome r.request CanBeRead) (sym same) (asks_readable (planes.client p.cluster) n a p.manager (all_well window workers initial steps).1)

@@ -53,7 +53,7 @@ module _ (P P' : Kind → Snapshot → Type 0) (Q Q' : Read → Type 0) (looks :
 
 cluster_stands : (w : WorldState) → Stands w → stored.Stands w.stored.cluster
 unfolding Stands stored.Stands
-cluster_stands w is = ((plane w.trace).cluster, is.cluster, followed w.trace.window w.trace.workers w.trace.steps)
+cluster_stands w is = ((plane w.trace).cluster, is.cluster, followed w.trace.window w.trace.workers w.trace.initial w.trace.steps)
 
 plane_stands : (w : WorldState) → Stands w → StandsFor w (plane w.trace)
 unfolding Stands
@@ -61,19 +61,19 @@ plane_stands w is = is
 
 apart_in : (w : WorldState) → Stands w → AreApart w.stored.manager.turns
 unfolding Stands
-apart_in w is = subst (λ (m : Manager). AreApart m.turns) (sym is.manager) (apart w.trace.window w.trace.workers w.trace.steps)
+apart_in w is = subst (λ (m : Manager). AreApart m.turns) (sym is.manager) (apart w.trace.window w.trace.workers w.trace.initial w.trace.steps)
 
 issued_in : (w : WorldState) → Stands w → AllByRecursion (WasIssued (opening w.trace) w.trace.steps) w.stored.manager.issued
 unfolding Stands
 issued_in w is =
-    subst (λ (m : Manager). AllByRecursion (WasIssued (opening w.trace) w.trace.steps) m.issued) (sym is.manager) (were_issued w.trace.window w.trace.workers w.trace.steps)
+    subst (λ (m : Manager). AllByRecursion (WasIssued (opening w.trace) w.trace.steps) m.issued) (sym is.manager) (were_issued w.trace.window w.trace.workers w.trace.initial w.trace.steps)
 
 turns_in : (w : WorldState) → Stands w → TurnsAreUnderWay w.trace (λ n u. slice_get w.stored.manager.turns n ≡ Some (Some u))
 unfolding Stands
 turns_in w is =
     record {
       under_way = λ n u here.
-          under_way w.trace.window w.trace.workers w.trace.steps n u (subst (λ (m : Manager). slice_get m.turns n ≡ Some (Some u)) is.manager here);
+          under_way w.trace.window w.trace.workers w.trace.initial w.trace.steps n u (subst (λ (m : Manager). slice_get m.turns n ≡ Some (Some u)) is.manager here);
     }
 
 looks_in : (w : WorldState) → Stands w
@@ -86,11 +86,11 @@ looks_in w is =
     let h = clusters.history p.cluster in
     let j = w.stored.cluster.journal in
     let same : h ≡ j = sym is.cluster.journal in
-    let looks : (k : Kind) (s : Snapshot) → WasPublished o t.steps k s → IsServerList j k s = λ k s x. subst (λ g. IsServerList g k s) same (look_listed t.window t.workers t.steps k s x) in
+    let looks : (k : Kind) (s : Snapshot) → WasPublished o t.steps k s → IsServerList j k s = λ k s x. subst (λ g. IsServerList g k s) same (look_listed t.window t.workers t.initial t.steps k s x) in
     let reads : (r : Read) → WasThere h r → WasThere j r = λ r x. subst (λ g. WasThere g r) same x in
     subst (λ (m : Manager). AllByRecursion (λ (i : Issued). IsNext (IsServerList j) (WasThere j) i.turn i.command) m.issued) (sym is.manager)
     (all_map (λ (i : Issued). IsNext (WasPublished o t.steps) (WasThere h) i.turn i.command) (λ (i : Issued). IsNext (IsServerList j) (WasThere j) i.turn i.command)
-    (λ i n. next_so (WasPublished o t.steps) (IsServerList j) (WasThere h) (WasThere j) looks reads i.turn i.command n) p.manager.issued (issued_next t.window t.workers t.steps))
+    (λ i n. next_so (WasPublished o t.steps) (IsServerList j) (WasThere h) (WasThere j) looks reads i.turn i.command n) p.manager.issued (issued_next t.window t.workers t.initial t.steps))
 
 pub headline : (w : WorldState) → Stands w → Headline w
 headline w is =

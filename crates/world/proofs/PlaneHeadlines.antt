@@ -66,14 +66,14 @@ module _ (t : Taken) where
       }
 
   pub forgets : ForgetsNothing t
-  forgets = record { kept = λ before after rest k n at among none. nothing_forgotten t.window t.workers before after k n among none }
+  forgets = record { kept = λ before after rest k n at among none. nothing_forgotten t.window t.workers t.initial before after k n among none }
 
   pub rises : RevisionsRise t
   rises =
       record {
         rise = λ before middle after k at none.
             subst (λ (p : ControlPlane). (follower k (plane_after t before).cluster).informer.published.revision ≤ (follower k p.cluster).informer.published.revision)
-            (sym (run_append (opening t) before middle)) (revisions_rise t.window t.workers before middle k none);
+            (sym (run_append (opening t) before middle)) (revisions_rise t.window t.workers t.initial before middle k none);
       }
 
   pub takes : TakesTheHeads t
@@ -94,8 +94,8 @@ module _ (t : Taken) where
   pub spares : SparesLiveOwners t
   spares =
       record {
-        spares = λ before after n a x w at of adds. spared t.window t.workers before n a x w of (sym (one_history before (works n a)) ∙ adds);
+        spares = λ before after n a x w at of adds. spared t.window t.workers t.initial before n a x w of (sym (one_history before (works n a)) ∙ adds);
       }
 
   pub overshoots : NeverOvershoots t
-  overshoots = record { few = λ o before after at alone. no_overshoot t.window t.workers before o alone }
+  overshoots = record { few = λ o before after at alone. no_overshoot t.window t.workers t.initial before o alone }

@@ -33,5 +33,5 @@ same_client w c is =
 -- a request, if one was asked
 pub request_follows : (w : ClusterState) (c : Cluster) (o : Option Request) → StandsFor w c → StandsFor (after_request o w) (planes.after_request o c)
 request_follows w c None is =
-    record { session = is.session; journal = is.journal; config_maps = is.config_maps; pods = is.pods; replica_sets = is.replica_sets; deployments = is.deployments }
+    record { session = is.session; journal = is.journal; initial = is.initial; config_maps = is.config_maps; pods = is.pods; replica_sets = is.replica_sets; deployments = is.deployments }
 request_follows w c (Some q) is = stands_after w c q (write_of (accepted w.session q)) refl is

@@ -1,5 +1,6 @@
 -- A world stands for the control plane that was opened, after the steps that were taken.
 use Rattle.std.proofs.Common.{◌≡◌, sym, ap, subst, ◌∙◌, ℕ, List, [], ◌∷◌, Result, Ok, Err, IfOk, OnOk, append-nil, append_assoc}
+use Rattle.simulation.specs.declared.initial_syncs.InitialSync.{InitialSync}
 use Rattle.reconciling.specs.ControlPlanes as planes
 use Rattle.reconciling.specs.ControlPlanes.{ControlPlane, Step}
 use Rattle.reconciling.specs.Outcomes.{Outcome}
@@ -15,25 +16,25 @@ use Rattle.world.specs.WorldStates.{WorldState, Stepped, opened, step, run}
 abbrev Goes : Stepped → planes.Stepped → Type 0
 Goes v q = StandsFor v.world q.plane × (v.outcome ≡ q.outcome)
 
-pub stands_for_begun : (window workers : ℕ) → StandsFor (opened window workers) (planes.opened window workers)
-stands_for_begun window workers = stored.stands_for_begun window workers
+pub stands_for_begun : (window workers : ℕ) (initial : InitialSync) → StandsFor (opened window workers initial) (planes.opened window workers initial)
+stands_for_begun window workers initial = stored.stands_for_begun window workers initial
 
 pub step_follows : (w : WorldState) (p : ControlPlane) (s : Step) → StandsFor w p → Goes (step w s) (planes.step p s)
 step_follows w p s is = stored.step_follows w.stored p s is
 
 -- ---- what it stands for
 
-pub stands_opened : (window workers : ℕ) → Stands (opened window workers)
+pub stands_opened : (window workers : ℕ) (initial : InitialSync) → Stands (opened window workers initial)
 unfolding Stands
-stands_opened window workers = stands_for_begun window workers
+stands_opened window workers initial = stands_for_begun window workers initial
 
 pub stood : (w : WorldState) (s : Step) → Stands w → Stands (step w s).world
 unfolding Stands
 stood w s is = subst (StandsFor (step w s).world) (sym (run_one (opening w.trace) w.trace.steps s)) (step_follows w (plane w.trace) s is).0
 
 -- what is stored, and what was noted
-pub stands_made : (window workers : ℕ) (v : StoredState) (t : Taken) → v ≡ states.opened window workers → t ≡ begun window workers → Stands (record { stored = v; trace = t })
-stands_made window workers v t made noted = subst Stands (λ i. record { stored = sym made i; trace = sym noted i }) (stands_opened window workers)
+pub stands_made : (window workers : ℕ) (initial : InitialSync) (v : StoredState) (t : Taken) → v ≡ states.opened window workers initial → t ≡ begun window workers initial → Stands (record { stored = v; trace = t })
+stands_made window workers initial v t made noted = subst Stands (λ i. record { stored = sym made i; trace = sym noted i }) (stands_opened window workers initial)
 
 pub stands_taken : (w : WorldState) (s : Step) (v : StoredState) (t : Taken) → v ≡ (states.step w.stored s).world → t ≡ followed w.trace s → Stands w → Stands (record { stored = v; trace = t })
 stands_taken w s v t made noted is = subst Stands (λ i. record { stored = sym made i; trace = sym noted i }) (stood w s is)

@@ -6,6 +6,7 @@ use Rattle.controllers.specs.Informers.{Looks}
 use Rattle.controllers.specs.OwedKeys.{keys_of}
 use Rattle.controllers.specs.WorkQueues.{WorkKey}
 use Rattle.control.specs.Boards.{observed, may_tick, ticked}
+use Rattle.simulation.specs.declared.initial_syncs.InitialSync.{InitialSync}
 use Rattle.simulation.specs.Clusters as clusters
 use Rattle.simulation.specs.Clusters.{Cluster, ClusterStep}
 use Rattle.simulation.specs.Followers.{Follower, Notification}
@@ -122,20 +123,21 @@ run_follows w p (s ∷ ss) is = run_follows (step w s).world (planes.step p s).p
 
 -- ---- what it stands for stays so
 
-pub stands_for_begun : (window workers : ℕ) → StandsFor (opened window workers) (planes.opened window workers)
-stands_for_begun window workers = record { cluster = stands_for_opened window; manager = refl }
+pub stands_for_begun : (window workers : ℕ) (initial : InitialSync) → StandsFor (opened window workers initial) (planes.opened window workers initial)
+stands_for_begun window workers initial = record { cluster = stands_for_opened window initial; manager = refl }
 
-pub stands_opened : (window workers : ℕ) → Stands (opened window workers)
+pub stands_opened : (window workers : ℕ) (initial : InitialSync) → Stands (opened window workers initial)
 unfolding Stands
-stands_opened window workers = (window, workers, [], stands_for_begun window workers)
+stands_opened window workers initial = (window, workers, initial, [], stands_for_begun window workers initial)
 
 pub stood : (w : StoredState) (s : Step) → Stands w → Stands (step w s).world
 unfolding Stands
-stood w s (window, workers, steps, is) = (
+stood w s (window, workers, initial, steps, is) = (
   window,
   workers,
+  initial,
   steps ++ s ∷ [],
-  subst (StandsFor (step w s).world) (sym (run_last (λ q r. (planes.step q r).plane) planes.run (λ _. refl) (λ _ _ _. refl) (planes.opened window workers) steps s)) (step_follows w (planes.run (planes.opened window workers) steps) s is).0,
+  subst (StandsFor (step w s).world) (sym (run_last (λ q r. (planes.step q r).plane) planes.run (λ _. refl) (λ _ _ _. refl) (planes.opened window workers initial) steps s)) (step_follows w (planes.run (planes.opened window workers initial) steps) s is).0,
 )
 
 pub run_stood : (w : StoredState) (ss : List Step) → Stands w → Stands (run w ss)

@@ -6,6 +6,7 @@ use Rattle.std.proofs.lemmas.List.{length-map}
 use Rattle.definitions.specs.declared.kinds.Kind.{Kind}
 use Rattle.controllers.specs.WorkQueues as queues
 use Rattle.control.specs.Boards.{Observation, observed, may_tick, passed, ticked}
+use Rattle.simulation.specs.declared.initial_syncs.InitialSync.{InitialSync}
 use Rattle.simulation.specs.Clusters.{ClusterStep}
 use Rattle.simulation.specs.Followers.{Notification}
 use Rattle.reconciling.specs.ControlPlanes.{in_cluster, handle, works, tick, manager_after}
@@ -31,8 +32,8 @@ use Rattle.world.specs.StoredStates.{StoredState, closed, owed, handle_in, step}
 abbrev pub world_of : ClusterState → Manager → StoredState
 world_of c m = record { cluster = c; manager = m }
 
-pub stands_begun : (window workers : ℕ) (c : ClusterState) (m : Manager) → c ≡ clusters.opened window → m ≡ managers.begun workers → Stands (world_of c m)
-stands_begun window workers c m cs ms = subst Stands (λ i. world_of (sym cs i) (sym ms i)) (stands_opened window workers)
+pub stands_begun : (window workers : ℕ) (initial : InitialSync) (c : ClusterState) (m : Manager) → c ≡ clusters.opened window initial → m ≡ managers.begun workers → Stands (world_of c m)
+stands_begun window workers initial c m cs ms = subst Stands (λ i. world_of (sym cs i) (sym ms i)) (stands_opened window workers initial)
 
 -- ---- steps of the cluster
 

@@ -1,5 +1,6 @@
 -- What a stored world stands for.
 use Rattle.std.specs.Prelude.{◌≡◌, ℕ, List}
+use Rattle.simulation.specs.declared.initial_syncs.InitialSync.{InitialSync}
 use Rattle.reconciling.specs.ControlPlanes as planes
 use Rattle.reconciling.specs.ControlPlanes.{ControlPlane, Step}
 use Rattle.cluster.specs.Standing as cluster
@@ -12,4 +13,4 @@ pub record StandsFor (w : StoredState) (p : ControlPlane) : Type 0 where
 
 -- it stands for what some list of steps made of an opening control plane
 unfoldable pub Stands : StoredState → Type 0
-Stands w = (window workers : ℕ) × (steps : List Step) × StandsFor w (planes.run (planes.opened window workers) steps)
+Stands w = (window workers : ℕ) × (initial : InitialSync) × (steps : List Step) × StandsFor w (planes.run (planes.opened window workers initial) steps)

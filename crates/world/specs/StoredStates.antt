@@ -5,6 +5,7 @@ use Rattle.definitions.specs.declared.kinds.Kind.{Kind}
 use Rattle.control.specs.Boards.{observed, may_tick, ticked}
 use Rattle.controllers.specs.OwedKeys.{keys_of}
 use Rattle.controllers.specs.WorkQueues.{WorkKey}
+use Rattle.simulation.specs.declared.initial_syncs.InitialSync.{InitialSync}
 use Rattle.simulation.specs.Clusters.{ClusterStep}
 use Rattle.simulation.specs.Followers.{Notification}
 use Rattle.reconciling.specs.ControlPlanes.{Step, in_cluster, handle, works, tick, change_of, manager_after}
@@ -28,9 +29,9 @@ abbrev pub coded_stored : Coded StoredState
 coded_stored =
     code_by (ClusterState × Manager) (coded× coded_cluster coded_manager) (λ w. (w.cluster, w.manager)) (λ p. record { cluster = p.0; manager = p.1 }) (λ _. refl)
 
--- nothing has happened yet; windows have this size, and there are so many workers
-abbrev pub opened : ℕ → ℕ → StoredState
-opened window workers = record { cluster = clusters.opened window; manager = managers.begun workers }
+-- nothing has happened yet; windows have this size, there are so many workers, and followers begin so
+abbrev pub opened : ℕ → ℕ → InitialSync → StoredState
+opened window workers initial = record { cluster = clusters.opened window initial; manager = managers.begun workers }
 
 -- ---- steps
 

@@ -1,6 +1,7 @@
 -- A world: what is stored of it, with what it was opened, and the steps that it took since.
 use Rattle.std.specs.Prelude.{ℕ, List, [], ◌∷◌, refl}
 use Rattle.std.specs.Coded.{Coded, code_by, coded×}
+use Rattle.simulation.specs.declared.initial_syncs.InitialSync.{InitialSync}
 use Rattle.reconciling.specs.ControlPlanes.{Step}
 use Rattle.reconciling.specs.Outcomes.{Outcome}
 use Rattle.traces.specs.Codes.{coded_taken}
@@ -18,9 +19,9 @@ pub record WorldState : Type 0 where
 abbrev pub coded_world : Coded WorldState
 coded_world = code_by (StoredState × Taken) (coded× coded_stored coded_taken) (λ w. (w.stored, w.trace)) (λ p. record { stored = p.0; trace = p.1 }) (λ _. refl)
 
--- nothing has happened yet; windows have this size, and there are so many workers
-abbrev pub opened : ℕ → ℕ → WorldState
-opened window workers = record { stored = stored.opened window workers; trace = traces.begun window workers }
+-- nothing has happened yet; windows have this size, there are so many workers, and followers begin so
+abbrev pub opened : ℕ → ℕ → InitialSync → WorldState
+opened window workers initial = record { stored = stored.opened window workers initial; trace = traces.begun window workers initial }
 
 -- ---- steps
 

@@ -84,10 +84,10 @@ impl StoredWorld {
 
     /// Returns the opening world, in which nothing has happened yet. The error is running out of memory.
     pub(crate) fn open(alloc: Global, config: Config) -> Result<StoredWorld, AllocError>
-        ensures { IfOk result (λ w. w ≡ opened config.window config.workers) }
+        ensures { IfOk result (λ w. w ≡ opened config.window config.workers config.initial) }
     {
         Ok(StoredWorld {
-            cluster: Cluster::open(alloc, config.window)?,
+            cluster: Cluster::open(alloc, config.window, config.initial)?,
             manager: Manager::new(alloc, config.workers)?,
         })
     }

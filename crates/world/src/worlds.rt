@@ -44,7 +44,7 @@ impl World {
 
     /// Returns the opening world, in which nothing has happened yet, and which took no step. The error is running out of memory.
     pub fn open(alloc: Global, config: Config) -> Result<World, AllocError>
-        ensures opened { IfOk result (λ w. w ≡ opened config.window config.workers) }
+        ensures opened { IfOk result (λ w. w ≡ opened config.window config.workers config.initial) }
         ensures headline { IfOk result Headline }
     {
         Ok(World {
@@ -66,7 +66,7 @@ impl World {
 
     /// Takes a step, and returns what came of it. The error is running out of memory, and changes nothing.
     ///
-    /// What comes of it is what comes of it in the control plane that was opened with these sizes, after all steps that were taken since,
+    /// What comes of it is what comes of it in the control plane that was opened so, after all steps that were taken since,
     /// whichever calls took them; and the world stands for what it is after this step too.
     ///
     /// Over all these steps: each published map is the server's list at the revision published with it, and that falls by a restart

@@ -8,7 +8,7 @@ use revisions::Journal;
 use selector::View;
 use std::alloc::{AllocError, Global};
 use std::test::Fail;
-use steps::{Move, Step};
+use steps::{InitialSync, Move, Step};
 use turns::Entry;
 
 /// How many steps are taken.
@@ -52,14 +52,15 @@ fn request(alloc: Global, numbers: &mut Numbers) -> Result<String, AllocError> {
 
 /// Returns a move of what follows the ConfigMaps.
 fn movement(numbers: &mut Numbers) -> Move {
-    match numbers.below(12) {
+    match numbers.below(13) {
         0 => Move::List,
         1 => Move::Watch,
-        2 => Move::Cut,
-        3 => Move::SendBookmark,
-        4 => Move::DeliverAll,
-        5 | 6 => Move::Deliver(numbers.below(400)),
-        7 | 8 => Move::Send(numbers.below(4)),
+        2 => Move::Stream,
+        3 => Move::Cut,
+        4 => Move::SendBookmark,
+        5 => Move::DeliverAll,
+        6 | 7 => Move::Deliver(numbers.below(400)),
+        8 | 9 => Move::Send(numbers.below(4)),
         _ => Move::Publish,
     }
 }
@@ -131,18 +132,34 @@ fn shows_list(alloc: Global, cluster: &Cluster, kind: Kind) -> Result<bool, Allo
     are_same(alloc, shown.as_slice(), listed.as_slice())
 }
 
-#[test]
-fn each_published_map_is_the_list_at_its_revision(rt: HostRuntime) -> Result<(), Fail> {
-    let alloc = rt.alloc();
-    let mut cluster = Cluster::open(alloc, 16)?;
+/// Takes random steps of a cluster whose followers begin so, and returns how often something was published, and whether it was the
+/// server's list each time.
+fn publishes(alloc: Global, initial: InitialSync) -> Result<(u64, bool), AllocError> {
+    let mut cluster = Cluster::open(alloc, 16, initial)?;
     let mut numbers = Numbers { state: 1 };
     let mut published = 0_u64;
+    let mut are_lists = true;
     for _ in 0..STEPS {
         if let ClusterOutcome::Published(kind, _, _) = take(alloc, &mut cluster, &mut numbers)? {
             published = published.saturating_add(1);
-            assert!(rt; shows_list(alloc, &cluster, kind)?);
+            are_lists &= shows_list(alloc, &cluster, kind)?;
         }
     }
+    Ok((published, are_lists))
+}
+
+#[test]
+fn each_published_map_is_the_list_at_its_revision(rt: HostRuntime) -> Result<(), Fail> {
+    let (published, are_lists) = publishes(rt.alloc(), InitialSync::List)?;
+    assert!(rt; are_lists);
+    assert!(rt; published > 500);
+    Ok(())
+}
+
+#[test]
+fn so_is_each_map_of_streams_of_initial_events(rt: HostRuntime) -> Result<(), Fail> {
+    let (published, are_lists) = publishes(rt.alloc(), InitialSync::Stream)?;
+    assert!(rt; are_lists);
     assert!(rt; published > 500);
     Ok(())
 }

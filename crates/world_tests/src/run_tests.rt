@@ -2,7 +2,7 @@
 use definitions::kinds::Kind;
 use recorded_sessions::Entry;
 use std::alloc::{AllocError, Global};
-use steps::{Action, Config, Delivery, Move, PlaneStep, Step};
+use steps::{Action, Config, Delivery, InitialSync, Move, PlaneStep, Step};
 use turns::Command;
 use world::World;
 
@@ -44,8 +44,8 @@ fn cut_letter(alloc: Global) -> Result<Vec<PlaneStep<'static>>, AllocError> {
     Ok(steps)
 }
 
-/// Returns the steps in which a ReplicaSet of two gets its pods.
-fn two_pods(alloc: Global) -> Result<Vec<PlaneStep<'static>>, AllocError> {
+/// Returns the steps in which a ReplicaSet of two gets its pods, once all kinds were taken in and published by these moves.
+fn two_pods(alloc: Global, first: &[Move]) -> Result<Vec<PlaneStep<'static>>, AllocError> {
     let mut steps = Vec::new(alloc);
     steps.push(asks(WEB))?;
     for kind in [
@@ -54,8 +54,9 @@ fn two_pods(alloc: Global) -> Result<Vec<PlaneStep<'static>>, AllocError> {
         Kind::ReplicaSet,
         Kind::Deployment,
     ] {
-        steps.push(moves(kind, Move::List))?;
-        steps.push(moves(kind, Move::Publish))?;
+        for movement in first {
+            steps.push(moves(kind, *movement))?;
+        }
     }
     steps.push(PlaneStep::Handle(Kind::ReplicaSet))?;
     let actions = [
@@ -157,6 +158,7 @@ fn a_cut_letter_leaves_the_journal(rt: HostRuntime) -> Result<(), AllocError> {
     let config = Config {
         window: 4,
         workers: 1,
+        initial: InitialSync::List,
     };
     let steps = cut_letter(rt.alloc())?;
     let is_told = is_told(
@@ -169,15 +171,30 @@ fn a_cut_letter_leaves_the_journal(rt: HostRuntime) -> Result<(), AllocError> {
     Ok(())
 }
 
-#[test]
-fn two_pods_are_created(rt: HostRuntime) -> Result<(), AllocError> {
+/// Returns whether the two pods come where followers begin so, and take all in and publish it by these moves.
+fn come_two_pods(alloc: Global, initial: InitialSync, first: &[Move]) -> Result<bool, AllocError> {
     let config = Config {
         window: 16,
         workers: 2,
+        initial,
     };
-    let steps = two_pods(rt.alloc())?;
+    let steps = two_pods(alloc, first)?;
     let wanted = "web 2\nweb-bbbbf 3\nweb-bbbbg 4\nweb 5\ncreate\ncreate\nstatus\n";
-    let is_told = is_told(rt.alloc(), config, steps.as_slice(), wanted)?;
-    assert!(rt; is_told);
+    is_told(alloc, config, steps.as_slice(), wanted)
+}
+
+#[test]
+fn two_pods_are_created(rt: HostRuntime) -> Result<(), AllocError> {
+    let first = [Move::List, Move::Publish];
+    let come = come_two_pods(rt.alloc(), InitialSync::List, &first)?;
+    assert!(rt; come);
+    Ok(())
+}
+
+#[test]
+fn two_pods_are_created_after_streams(rt: HostRuntime) -> Result<(), AllocError> {
+    let first = [Move::Stream, Move::Send(9), Move::DeliverAll, Move::Publish];
+    let come = come_two_pods(rt.alloc(), InitialSync::Stream, &first)?;
+    assert!(rt; come);
     Ok(())
 }

@@ -4,4 +4,4 @@ use Rattle.simulation_examples.proofs.line_examples.configurations_are_read.Goal
 
 pub returns : goal.returns
 unfolding on_literals
-returns c = (refl, refl, refl, refl, refl)
+returns c = (refl, refl, refl, refl, refl, refl, refl, refl, refl, refl)

@@ -4,4 +4,4 @@ use Rattle.simulation_examples.proofs.line_examples.moves_are_read.Goals as goal
 
 pub returns : goal.returns
 unfolding on_literals
-returns c = (refl, refl, refl, refl, refl, refl, refl, refl, refl, refl, refl)
+returns c = (refl, refl, refl, refl, refl, refl, refl, refl, refl, refl, refl, refl)

@@ -49,7 +49,7 @@ module _ {M : Type 1} {𝓤 : Ura M} (𝓛 : Logic 𝓤) (at_mem : Memory → SP
     walks =
         let a = z.0.3 in
         let vss = z.0.4 in
-        let made : (Trace.the_row).Denot = record { taken = begun a.0.now.window a.0.now.workers } in
+        let made : (Trace.the_row).Denot = record { taken = begun a.0.now.window a.0.now.workers a.0.now.initial } in
         qed 𝓛 ((raw (alive 𝓛 f.ended.signature z.0.0 z.0.1) ⊛ ‵ (owns (types_at f.ended.signature.params z.0.0) a vss)) ∷ raw ((held z.0.0 a).requires z.1) ∷ []) ∵
         keep ! (0 ∷ []) $ split ! $ move ! (1 ∷ []) $
         fsplit ! $ fsplit ! $ feq_l ! (λ is₀. drop ! $ drop ! $

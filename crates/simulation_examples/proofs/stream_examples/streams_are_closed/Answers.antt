@@ -1,0 +1,7 @@
+use Rattle.std.proofs.Common.{refl}
+use Rattle.definitions.proofs.OnLiterals.{on_literals}
+use Rattle.simulation_examples.proofs.stream_examples.streams_are_closed.Goals as goal
+
+pub returns : goal.returns
+unfolding on_literals
+returns c = refl
