@@ -1,0 +1,13 @@
+mod Answered
+mod Asking
+mod Closed
+mod Closings
+mod EventsParsed
+mod FramesRead
+mod LastLines
+mod LinesRead
+mod Opening
+mod Played
+mod Standing
+mod TakenIn
+mod ToldLooks

@@ -1,0 +1,5 @@
+use Rattle.stream_laws.proofs.Asking.{cuts_drop}
+use Rattle.stream_laws.proofs.streaming_laws.cuts_drop_initial_events.Goals as goal
+
+pub returns : goal.returns
+returns c = cuts_drop

@@ -1,0 +1,2 @@
+pub mod ServedStreamLaws
+pub mod StreamingLaws
