@@ -1,5 +1,5 @@
 -- What was asked, one thing after another.
-use Rattle.std.proofs.Common.{◌≡◌, ◌≤◌, ◌+◌, ℕ, zero, suc, List, Option, Some, None, Result, Ok, Err, inl, inr, refl, sym, ap, subst, ◌∙◌, arith}
+use Rattle.std.proofs.Common.{◌≡◌, ◌≤◌, ◌+◌, ℕ, zero, suc, Bool, true, false, List, Option, Some, None, Result, Ok, Err, inl, inr, refl, sym, ap, subst, ◌∙◌, arith}
 use Rattle.definitions.specs.ListQueries.{ListOptions}
 use Rattle.definitions.specs.History.{View}
 use Rattle.definitions.specs.ObjectRequests.{Request}
@@ -18,7 +18,7 @@ use Rattle.http_loop.specs.Asked.{IsRequest, IsLook, AreLooks, AreAsked, HasAske
 use Rattle.http_loop.specs.declared.asker.Asker.{Asker}
 
 module _ {S : Type 0} (calls : S → Request → List ℕ → Outcome → S → Type 0) (lists : S → View → ListOptions → Outcome → S → Type 0)
-    (begins : S → View → Result Listed Refusal → S → Type 0) (watches : S → View → ℕ → ℕ → Look → S → Type 0) where
+    (begins : S → View → Option ℕ → Result Listed Refusal → S → Type 0) (watches : S → View → ℕ → ℕ → Look → S → Type 0) where
   looks_on : (j k : ℕ) (s m t : S) → AreLooks calls lists begins watches j s m → AreLooks calls lists begins watches k m t → AreLooks calls lists begins watches (j + k) s t
   looks_on j zero s m t first same =
       let whole : j ≡ j + 0 = omega arith in
@@ -40,9 +40,17 @@ module _ {S : Type 0} (calls : S → Request → List ℕ → Outcome → S → 
       let whole : suc (n + m) ≡ n + suc m = omega arith in
       subst (λ i. AreAsked calls lists begins watches i s t) whole (before, after, asked_on n m s mid before first asked, one, looks)
 
-  -- ---- by what asks
+  -- a look
+  looked : (w : Watching) (s t : S) (at : Option Standing) (p : Phase) → LooksFrom watches w s t at p → (k : ℕ) × AreLooks calls lists begins watches k s t
+  looked w s t None p (same, is) = (0, same)
+  looked w s t (Some at) p (inl (over, same, adds)) = (0, same)
+  looked w s t (Some at) p (inr (short, (look, given, shows))) = (1, (s, refl, (view_of w.view, at.revision, look, given)))
 
-  pub asks_nothing : (a b : Asker S) → b.site ≡ a.site → b.asked ≡ a.asked → a.taken ≤ b.taken → HasAsked calls lists begins watches a b
+-- ---- by what asks
+
+module _ {S L : Type 0} (calls : S → Request → List ℕ → Outcome → S → Type 0) (lists : S → View → ListOptions → Outcome → S → Type 0)
+    (begins : S → View → Option ℕ → Result Listed Refusal → S → Type 0) (watches : S → View → ℕ → ℕ → Look → S → Type 0) where
+  pub asks_nothing : (a b : Asker S L) → b.site ≡ a.site → b.asked ≡ a.asked → a.taken.count ≤ b.taken.count → HasAsked calls lists begins watches a b
   asks_nothing a b site asked taken = record {
     requests = 0;
     chain = (0, site);
@@ -50,17 +58,23 @@ module _ {S : Type 0} (calls : S → Request → List ℕ → Outcome → S → 
     taken = taken;
   }
 
-  pub asks_on : (a b c : Asker S) → HasAsked calls lists begins watches a b → HasAsked calls lists begins watches b c → HasAsked calls lists begins watches a c
+  -- a connection takes a turn, if one is left
+  pub takes : (a b : Asker S L) (has : Bool) → b.site ≡ a.site → b.asked ≡ a.asked → (has ≡ true → b.taken.count ≡ a.taken.count + 1) → (has ≡ false → b.taken.count ≡ a.taken.count)
+      → HasAsked calls lists begins watches a b
+  takes a b true site asked some none = let one = some refl in asks_nothing a b site asked (omega (arith, one))
+  takes a b false site asked some none = let same = none refl in asks_nothing a b site asked (omega (arith, same))
+
+  pub asks_on : (a b c : Asker S L) → HasAsked calls lists begins watches a b → HasAsked calls lists begins watches b c → HasAsked calls lists begins watches a c
   asks_on a b c first second = record {
     requests = first.requests + second.requests;
-    chain = asked_on first.requests second.requests a.site b.site c.site first.chain second.chain;
+    chain = asked_on calls lists begins watches first.requests second.requests a.site b.site c.site first.chain second.chain;
     counted = omega (arith, first.counted, second.counted);
     taken = omega (arith, first.taken, second.taken);
   }
 
   -- a request that is whole
-  pub asks_one : (a b : Asker S) (moment : List ℕ) (asked : targets.Asked) (p : Phase) → Answers calls lists begins watches moment a.site b.site asked p
-      → b.asked ≡ a.asked + 1 → a.taken ≤ b.taken → HasAsked calls lists begins watches a b
+  pub asks_one : (a b : Asker S L) (moment : List ℕ) (asked : targets.Asked) (p : Phase) → Answers calls lists begins watches moment a.site b.site asked p
+      → b.asked ≡ a.asked + 1 → a.taken.count ≤ b.taken.count → HasAsked calls lists begins watches a b
   asks_one a b moment asked p (r, responds, written) counted taken = record {
     requests = 1;
     chain = (a.site, b.site, (0, refl), (moment, asked, r, responds), (0, refl));
@@ -69,16 +83,11 @@ module _ {S : Type 0} (calls : S → Request → List ℕ → Outcome → S → 
   }
 
   -- a look
-  looked : (w : Watching) (s t : S) (at : Option Standing) (p : Phase) → LooksFrom watches w s t at p → (k : ℕ) × AreLooks calls lists begins watches k s t
-  looked w s t None p (same, is) = (0, same)
-  looked w s t (Some at) p (inl (over, same, adds)) = (0, same)
-  looked w s t (Some at) p (inr (short, (look, given, shows))) = (1, (s, refl, (view_of w.view, at.revision, look, given)))
-
-  pub asks_look : (a b : Asker S) (w : Watching) (at : Option Standing) (p : Phase) → LooksFrom watches w a.site b.site at p → b.asked ≡ a.asked → a.taken ≤ b.taken
+  pub asks_look : (a b : Asker S L) (w : Watching) (at : Option Standing) (p : Phase) → LooksFrom watches w a.site b.site at p → b.asked ≡ a.asked → a.taken.count ≤ b.taken.count
       → HasAsked calls lists begins watches a b
   asks_look a b w at p looks asked taken = record {
     requests = 0;
-    chain = looked w a.site b.site at p looks;
+    chain = looked calls lists begins watches w a.site b.site at p looks;
     counted = asked ∙ sym (omega arith);
     taken = taken;
   }

@@ -8,6 +8,7 @@ use denote.Struct.Field as Field
 use Rattle.std.proofs.Crossing as heap
 use Rattle.std.proofs.MapsCrossing as maps
 use Rattle.std.specs.contracts.alloc.Global as Global
+use Rattle.std.specs.declared.sync.ledger.Ledger.{Ghosts}
 use Rattle.routes.below.matchit.proofs.route.Route.TheSendSync as route
 use Rattle.routes.below.matchit.proofs.tree.Node.TheLaws.TheKnot as knot
 use Rattle.routes.below.slab.proofs.Entry.TheSendSync as place
@@ -31,13 +32,13 @@ routes = search (knot.crosses, route.the_send, place.the_send, place.the_field_s
 pub shared : IsSync Loops.the_row
 shared = loops_of.the_sync
 
-module _ (a : NamedLft) (S : RattleType) (s : IsSend S) where
-  asker : IsSend (as_row (Asker.the_field S))
-  asker = search (asker_of.the_send, s, sendable)
+module _ (a : NamedLft) (S L : RattleType) (k : Ghosts L.Denot) (s : IsSend S) where
+  asker : IsSend (as_row (Asker.the_field a S L k))
+  asker = search (asker_of.the_send, s, heap.crosses, sendable)
 
   lent_loops : IsSend (as_row (Field.shr_ref_field a Loops.the_row tt))
   lent_loops = search (loops_of.the_sync, sendable)
 
-  pub event_loop : IsSend (EventLoop.the_row a S)
-  event_loop = declared_send (EventLoop.the_type a S)
+  pub event_loop : IsSend (EventLoop.the_row a S L k)
+  event_loop = declared_send (EventLoop.the_type a S L k)
       (asker, (alloc, (routes, (lent_loops, (search (sendable), (search (poll_of.the_send, heap.crosses, sendable), (search (accepting_of.the_send, heap.crosses, sendable) depth 30, tt)))))))

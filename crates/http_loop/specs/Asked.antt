@@ -1,5 +1,5 @@
 -- What a loop makes of the server that it asks.
-use Rattle.std.specs.Prelude.{◌≡◌, ◌≤◌, ◌+◌, ℕ, zero, suc, List, Some, Result, Ok}
+use Rattle.std.specs.Prelude.{◌≡◌, ◌≤◌, ◌+◌, ℕ, zero, suc, List, Option, Some, Result, Ok}
 use Rattle.definitions.specs.ListQueries.{ListOptions}
 use Rattle.definitions.specs.History.{View}
 use Rattle.definitions.specs.ObjectRequests.{Request}
@@ -13,11 +13,11 @@ use Rattle.api.specs.declared.response.Response.{Response}
 use Rattle.http_loop.specs.declared.asker.Asker.{Asker}
 
 -- it asks this server, and has not yet
-abbrev pub IsNewAsker : {S : Type 0} → S → Asker S → Type 0
-IsNewAsker s a = (a.site ≡ s) × (a.taken ≡ 0) × (a.asked ≡ 0)
+abbrev pub IsNewAsker : {S L : Type 0} → S → Asker S L → Type 0
+IsNewAsker s a = (a.site ≡ s) × (a.taken.count ≡ 0) × (a.asked ≡ 0)
 
 module _ {S : Type 0} (calls : S → Request → List ℕ → Outcome → S → Type 0) (lists : S → View → ListOptions → Outcome → S → Type 0)
-    (begins : S → View → Result Listed Refusal → S → Type 0) (watches : S → View → ℕ → ℕ → Look → S → Type 0) where
+    (begins : S → View → Option ℕ → Result Listed Refusal → S → Type 0) (watches : S → View → ℕ → ℕ → Look → S → Type 0) where
   -- what one connection asks is done at some moment: a request, a list, or the beginning of a watch
   abbrev pub IsRequest : S → S → Type 0
   IsRequest s t = (moment : List ℕ) × (a : targets.Asked) × (r : Response) × Responds calls lists begins watches moment s t (Some (Ok a)) r
@@ -37,8 +37,8 @@ module _ {S : Type 0} (calls : S → Request → List ℕ → Outcome → S → 
   AreAsked (suc n) s t = (before : S) × (after : S) × AreAsked n s before × IsRequest before after × ((k : ℕ) × AreLooks k after t)
 
   -- between the two so much was asked as was counted
-  pub record HasAsked (a b : Asker S) : Type 0 where
+  pub record HasAsked {L : Type 0} (a b : Asker S L) : Type 0 where
     pub requests : ℕ
     pub chain : AreAsked requests a.site b.site
     pub counted : b.asked ≡ a.asked + requests
-    pub taken : a.taken ≤ b.taken
+    pub taken : a.taken.count ≤ b.taken.count

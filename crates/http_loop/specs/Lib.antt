@@ -1,4 +1,5 @@
 -- The definitions, in reading order.
 pub mod Asked
+pub mod Counted
 pub mod Deadlines
 pub mod Rotas

@@ -8,6 +8,13 @@ use std::io::ErrorKind;
 /// The token of the listener.
 pub(crate) const LISTENER: Token = Token(usize::MAX);
 
+/// A listener whose connections loops answer, and how many at most, if they are counted.
+#[derive(Drop)]
+pub struct Listening {
+    pub listener: std::net::TcpListener,
+    pub limit: Option<u64>,
+}
+
 /// What accepts connections, and to which loop the next one is handed.
 #[derive(Drop)]
 pub(crate) struct Accepting {
@@ -18,12 +25,9 @@ pub(crate) struct Accepting {
 }
 
 impl Accepting {
-    /// Returns what accepts from a listener, so many connections at most, where the poll reports them.
-    pub(crate) fn new(
-        poll: &Poll,
-        listener: std::net::TcpListener,
-        limit: Option<u64>,
-    ) -> io::Result<Accepting> {
+    /// Returns what accepts from a listener where the poll reports its connections.
+    pub(crate) fn new(poll: &Poll, listening: Listening) -> io::Result<Accepting> {
+        let Listening { listener, limit } = listening;
         listener.set_nonblocking(true)?;
         let mut listener = TcpListener::from_std(listener);
         poll.registry()

@@ -1,5 +1,5 @@
 //! What a loop asks its server.
-ghost use Rattle.std.specs.Prelude.{◌≡◌, ◌≤◌, ◌<◌, ◌+◌, ◌^◌, ℕ, List};
+ghost use Rattle.std.specs.Prelude.{◌≡◌, ◌<◌, ◌+◌, ℕ, List, true, false};
 ghost use Rattle.asked.specs.Asked.{asked_seen};
 ghost use Rattle.http_connection.specs.Looking.{LooksFrom};
 ghost use Rattle.http_connection.specs.Phases.{Answers, Stands};
@@ -7,50 +7,58 @@ ghost use Rattle.http_connection.specs.declared.phase.Phase.TheVariants as phase
 ghost use Rattle.http_loop.specs.Asked.{HasAsked, IsNewAsker};
 
 use crate::asker::Asker;
+use crate::turns::Turns;
 use api::Served;
 use asked::Asked;
 use http_connection::{Phase, Watching, answer, look_on};
 use sites::Site;
 use stamps::moments::Moment;
 use std::alloc::Global;
+use std::sync::ledger::Ledger;
+use std::sync::{Mutex, Wait};
 
-impl<S> Asker<S> {
+impl<'a, S, L: Ledger> Asker<'a, S, L> {
     /// Returns what asks a server, and has not yet.
-    pub fn new(site: S) -> Asker<S>
+    pub fn new<R: Wait>(rt: &R, site: S, turns: &'a Mutex<Turns<L>>) -> Asker<'a, S, L>
         ensures { IsNewAsker site result }
     {
+        let taken = turns.lock(rt).take_none();
         Asker {
             site,
-            taken: 0,
+            turns,
+            taken,
             asked: 0,
         }
     }
 
-    /// Counts a connection.
-    pub fn take(&mut self)
+    /// Takes a turn for a connection, and returns whether one was left.
+    pub fn take<R: Wait>(&mut self, rt: &R) -> bool
         ensures site { self.new.site ≡ self.old.site }
         ensures asked { self.new.asked ≡ self.old.asked }
-        ensures taken { self.old.taken ≤ self.new.taken }
-        ensures one { self.new.taken ≤ self.old.taken + 1 }
-        ensures counts { self.old.taken + 1 < 2 ^ 64 → self.new.taken ≡ self.old.taken + 1 }
+        ensures taken { result ≡ true → self.new.taken.count ≡ self.old.taken.count + 1 }
+        ensures none { result ≡ false → self.new.taken.count ≡ self.old.taken.count }
     {
-        self.taken = self.taken.saturating_add(1);
+        let turn = self.turns.lock(rt).take();
+        match turn {
+            Some(turn) => self.taken.add(turn),
+            None => false,
+        }
     }
 }
 
-impl<S: Site> Asker<S> {
+impl<S: Site, L: Ledger> Asker<'_, S, L> {
     /// Asks what a connection asks whose request is whole, and returns where it then stands.
     #[tactic(auto, using(crate::proofs::Chains::asks_one, crate::proofs::Chains::asks_nothing))]
     pub fn answer(&mut self, alloc: Global, asked: Asked, moment: Moment) -> Phase
         ensures asked { HasAsked S.Calls S.Lists S.Begins S.Watches self.old self.new }
-        ensures counts { self.old.asked < self.old.taken → self.new.asked ≡ self.old.asked + 1 }
-        ensures answers { self.old.asked < self.old.taken
+        ensures counts { self.old.asked < self.old.taken.count → self.new.asked ≡ self.old.asked + 1 }
+        ensures answers { self.old.asked < self.old.taken.count
             → Answers S.Calls S.Lists S.Begins S.Watches moment self.old.site self.new.site (asked_seen asked) result }
-        ensures stands { self.old.asked < self.old.taken → (read written : List ℕ)
+        ensures stands { self.old.asked < self.old.taken.count → (read written : List ℕ)
             → Stands S.Calls S.Lists S.Begins S.Watches (phase.Asked asked) read written
             → Stands S.Calls S.Lists S.Begins S.Watches result read written }
     {
-        if self.asked >= self.taken {
+        if self.asked >= self.taken.count {
             return Phase::Closing(Served::NotAsked);
         }
         self.asked += 1;

@@ -1,20 +1,21 @@
 //! A loop.
-ghost use Rattle.std.specs.Prelude.{◌≡◌, IfOk};
+ghost use Rattle.std.specs.Prelude.{IfOk};
 ghost use Rattle.http_loop.specs.Asked.{HasAsked, IsNewAsker};
 
-use crate::accepting::Accepting;
+use crate::accepting::{Accepting, Listening};
 use crate::asker::Asker;
 use crate::loops::Loops;
 use crate::open_connections::Connections;
 use crate::place::Place;
 use crate::rounds::Rounds;
+use crate::turns::Turns;
 use mio::{Events, Poll};
 use routes::table::Routes;
 use sites::Site;
-use std::alloc::{AllocError, Global};
+use std::alloc::Global;
 use std::io;
-use std::net::TcpListener;
-use std::sync::Wait;
+use std::sync::ledger::Ledger;
+use std::sync::{Mutex, Wait};
 use std::time::Clock;
 
 /// How many events one wait gives at most.
@@ -22,9 +23,9 @@ const EVENTS: usize = 1024;
 
 /// A loop that answers connections at a server, with what it needs to run on a thread of its own. It holds connections as long as it runs.
 #[derive(Drop)]
-pub struct EventLoop<'a, S> {
+pub struct EventLoop<'a, S, L: Ledger> {
     /// What it asks the server.
-    pub asker: Asker<S>,
+    pub asker: Asker<'a, S, L>,
     alloc: Global,
     routes: Routes,
     loops: &'a Loops,
@@ -33,39 +34,41 @@ pub struct EventLoop<'a, S> {
     accepting: Option<Accepting>,
 }
 
-impl<'a, S: Drop> EventLoop<'a, S> {
-    /// Returns the loop of this place, which takes the connections that it is given.
-    pub fn new(
+impl<'a, S: Drop, L: Ledger> EventLoop<'a, S, L> {
+    /// Returns the loop of this place, which takes the connections that it is given, each with one of the turns.
+    ///
+    /// Where it is to listen it accepts connections, for itself and the others by turns: no more than the limit, if there is one, after the
+    /// last of which all loops stop. Where no connection can be accepted, as the system has no descriptor or 10,000 are open, it is tried again
+    /// later.
+    pub fn new<R: Wait>(
+        rt: &R,
         alloc: Global,
         loops: &'a Loops,
+        turns: &'a Mutex<Turns<L>>,
         place: Place,
+        listening: Option<Listening>,
         site: S,
-    ) -> Result<EventLoop<'a, S>, AllocError>
+    ) -> io::Result<EventLoop<'a, S, L>>
         ensures { IfOk result (λ made. IsNewAsker site made.asker) }
     {
         let Place { poll, number } = place;
+        let accepting = match listening {
+            Some(listening) => Some(Accepting::new(&poll, listening)?),
+            None => None,
+        };
         Ok(EventLoop {
-            asker: Asker::new(site),
+            asker: Asker::new(rt, site, turns),
             alloc,
             routes: Routes::new(alloc)?,
             loops,
             number,
             poll,
-            accepting: None,
+            accepting,
         })
-    }
-
-    /// Has the loop accept connections, for itself and the others by turns: no more than the limit, if there is one, after the last of which
-    /// all loops stop. Where no connection can be accepted, as the system has no descriptor or 10,000 are open, it is tried again later.
-    pub fn listen(&mut self, listener: TcpListener, limit: Option<u64>) -> io::Result<()>
-        ensures { self.new.asker ≡ self.old.asker }
-    {
-        self.accepting = Some(Accepting::new(&self.poll, listener, limit)?);
-        Ok(())
     }
 }
 
-impl<S: Site> EventLoop<'_, S> {
+impl<S: Site, L: Ledger> EventLoop<'_, S, L> {
     /// Runs until all loops are to stop.
     #[tactic(auto, using(crate::proofs::Chains::asks_on, crate::proofs::Chains::asks_nothing))]
     fn run_until_stop<R: Wait + Clock>(&mut self, rt: &R) -> io::Result<()>
@@ -84,6 +87,9 @@ impl<S: Site> EventLoop<'_, S> {
             return Ok(());
         };
         let mut events = Events::with_capacity(*alloc, EVENTS)?;
+        if accepting.as_ref().is_some_and(Accepting::is_over) {
+            loops.end();
+        }
         let connections = Connections::new(*alloc, routes, loops, wakes);
         let mut rounds = Rounds::new(rt, loops, wakes, *number, connections)?;
         for _ in rt.forever() {
@@ -96,9 +102,9 @@ impl<S: Site> EventLoop<'_, S> {
         rounds.stop(rt, poll, &mut events, asker)
     }
 
-    /// Answers connections until a stop: one that is asked for, or the end of the last connection of those that are counted. Then it takes no
-    /// more; requests that are whole are answered, watches are written their end, and all others are left, within two seconds. An error of
-    /// the system ends it and all other loops.
+    /// Answers connections until a stop: one that is asked for, or the end of all connections of those that are counted but watches. Then it
+    /// takes no more; requests that are whole are answered, watches are told what has been written and that they end, and all others are left,
+    /// within two seconds. An error of the system ends it and all other loops.
     pub fn run<R: Wait + Clock>(&mut self, rt: &R) -> io::Result<()>
         ensures { HasAsked S.Calls S.Lists S.Begins S.Watches self.old.asker self.new.asker }
     {

@@ -14,6 +14,7 @@ use sites::Site;
 use std::alloc::Global;
 use std::io::{ErrorKind, Read};
 use std::net::Shutdown;
+use std::sync::ledger::Ledger;
 use std::time::Instant;
 
 /// How many bytes of a watch may be unwritten for it to be looked at.
@@ -94,11 +95,11 @@ impl Held {
 
     /// Reads and writes as far as that goes now. A request that is whole is asked.
     #[tactic(auto, using(crate::proofs::Chains::asks_on, crate::proofs::Chains::asks_nothing))]
-    pub(crate) fn go_on<S: Site>(
+    pub(crate) fn go_on<S: Site, L: Ledger>(
         &mut self,
         alloc: Global,
         routes: &Routes,
-        asker: &mut Asker<S>,
+        asker: &mut Asker<'_, S, L>,
         tick: &Tick,
     )
         ensures { HasAsked S.Calls S.Lists S.Begins S.Watches asker.old asker.new }
@@ -116,11 +117,11 @@ impl Held {
 
     /// Takes a look of a watch, and writes it as far as its peer takes it.
     #[tactic(auto, using(crate::proofs::Chains::asks_on, crate::proofs::Chains::asks_nothing))]
-    pub(crate) fn look<S: Site>(
+    pub(crate) fn look<S: Site, L: Ledger>(
         &mut self,
         alloc: Global,
         routes: &Routes,
-        asker: &mut Asker<S>,
+        asker: &mut Asker<'_, S, L>,
         now: Instant,
     )
         ensures { HasAsked S.Calls S.Lists S.Begins S.Watches asker.old asker.new }

@@ -6,9 +6,10 @@
 //! and written of a connection `http_connection` says. What the system reports no contract says.
 #![tactic(auto)]
 
-mod accepting;
+pub mod accepting;
 pub mod asker;
 pub mod asking;
+pub mod counting;
 pub mod deadlines;
 pub mod event_loop;
 mod held;
@@ -19,9 +20,13 @@ pub mod place;
 pub mod rota;
 mod rounds;
 mod ticks;
+pub mod turns;
 mod wakes;
 
+pub use accepting::Listening;
 pub use asker::Asker;
+pub use counting::count_taken;
 pub use event_loop::EventLoop;
 pub use loops::Loops;
 pub use place::Place;
+pub use turns::{Taken, Turns};

@@ -90,12 +90,23 @@ impl Loops {
         self.open.enter();
     }
 
-    /// Counts a connection no longer. After the last all loops are to stop; where there was no room the loop that accepts is to know.
+    /// Counts a connection no longer. After the last that is no watch all loops are to stop; where there was no room the loop that accepts is to know.
     pub(crate) fn leave(&self) {
         if self.open.leave() {
             self.wake_all();
         }
         self.stop_if_over();
+    }
+
+    /// Counts a connection as a watch.
+    pub(crate) fn watch(&self) {
+        self.open.watch();
+        self.stop_if_over();
+    }
+
+    /// Counts it as a watch no longer.
+    pub(crate) fn leave_watch(&self) {
+        self.open.leave_watch();
     }
 
     /// Says that no more connections will come.
@@ -104,7 +115,7 @@ impl Loops {
         self.stop_if_over();
     }
 
-    /// Stops all loops where no connection is open, and no more will come.
+    /// Stops all loops where no connection is open but watches, and no more will come.
     fn stop_if_over(&self) {
         if self.open.is_over() {
             self.stop();

@@ -15,10 +15,15 @@ use routes::table::Routes;
 use sites::Site;
 use slab::Slab;
 use std::alloc::Global;
+use std::sync::Wait;
+use std::sync::ledger::Ledger;
 use std::time::Instant;
 
 /// How many watches of which nothing is known to have changed are looked at in a tick.
-const MOST_IDLE_LOOKS: usize = 600;
+const MOST_IDLE_LOOKS: usize = 64;
+
+/// How many looks a watch takes as the loop stops, at most.
+const MOST_LAST_LOOKS: usize = 64;
 
 /// The connections of a loop, and the turns of those that watch.
 #[derive(Drop)]
@@ -68,18 +73,18 @@ impl<'a> Connections<'a> {
     }
 
     /// Holds a connection, whose bytes are then awaited.
-    #[tactic(auto, using(crate::proofs::Chains::asks_on, crate::proofs::Chains::asks_nothing))]
-    pub(crate) fn hold<S: Site>(
+    #[tactic(auto, using(crate::proofs::Chains::asks_on, crate::proofs::Chains::takes))]
+    pub(crate) fn hold<S: Site, L: Ledger, R: Wait>(
         &mut self,
+        rt: &R,
         registry: &Registry,
         stream: TcpStream,
-        asker: &mut Asker<S>,
+        asker: &mut Asker<'_, S, L>,
         now: Instant,
     )
         ensures { HasAsked S.Calls S.Lists S.Begins S.Watches asker.old asker.new }
     {
-        asker.take();
-        if !self.is_held(registry, stream, now) {
+        if !asker.take(rt) || !self.is_held(registry, stream, now) {
             self.loops.leave();
         }
     }
@@ -108,7 +113,12 @@ impl<'a> Connections<'a> {
 
     /// Lets a connection go on of which the system reports something.
     #[tactic(auto, using(crate::proofs::Chains::asks_on, crate::proofs::Chains::asks_nothing))]
-    pub(crate) fn go_on<S: Site>(&mut self, event: &Event, asker: &mut Asker<S>, tick: &Tick)
+    pub(crate) fn go_on<S: Site, L: Ledger>(
+        &mut self,
+        event: &Event,
+        asker: &mut Asker<'_, S, L>,
+        tick: &Tick,
+    )
         ensures { HasAsked S.Calls S.Lists S.Begins S.Watches asker.old asker.new }
     {
         let key = event.token().0;
@@ -148,6 +158,7 @@ impl<'a> Connections<'a> {
         let is_added = self.rota.add(key).is_ok();
         if is_added {
             self.wakes.of(kind).watch();
+            self.loops.watch();
             self.is_behind = true;
         }
         if let Some(held) = self.held.get_mut(key) {
@@ -164,6 +175,7 @@ impl<'a> Connections<'a> {
     /// Takes the watch at a place from its turns. Another one takes its place, and may have been passed over by then.
     fn end(&mut self, place: usize, kind: Kind) {
         self.wakes.of(kind).leave();
+        self.loops.leave_watch();
         let _ = self.rota.remove(place);
         self.is_behind = true;
         if let Some(key) = self.rota.keys.get(place) {
@@ -175,7 +187,7 @@ impl<'a> Connections<'a> {
 
     /// Looks at a watch, if its peer has taken enough of what was to be written.
     #[tactic(auto, using(crate::proofs::Chains::asks_on, crate::proofs::Chains::asks_nothing))]
-    fn look<S: Site>(&mut self, key: usize, asker: &mut Asker<S>, now: Instant)
+    fn look<S: Site, L: Ledger>(&mut self, key: usize, asker: &mut Asker<'_, S, L>, now: Instant)
         ensures { HasAsked S.Calls S.Lists S.Begins S.Watches asker.old asker.new }
     {
         if let Some(held) = self.held.get_mut(key) {
@@ -217,7 +229,7 @@ impl<'a> Connections<'a> {
 
     /// Takes one look of each watch that may have something to see. Each time another one is the first.
     #[tactic(auto, using(crate::proofs::Chains::asks_on, crate::proofs::Chains::asks_nothing))]
-    pub(crate) fn look_due<S: Site>(&mut self, asker: &mut Asker<S>, now: Instant)
+    pub(crate) fn look_due<S: Site, L: Ledger>(&mut self, asker: &mut Asker<'_, S, L>, now: Instant)
         ensures { HasAsked S.Calls S.Lists S.Begins S.Watches asker.old asker.new }
     {
         if !self.is_behind {
@@ -236,7 +248,11 @@ impl<'a> Connections<'a> {
 
     /// Takes one look of each of the watches whose turn it is, of no more than may be looked at in a tick.
     #[tactic(auto, using(crate::proofs::Chains::asks_on, crate::proofs::Chains::asks_nothing))]
-    pub(crate) fn look_in_turn<S: Site>(&mut self, asker: &mut Asker<S>, now: Instant)
+    pub(crate) fn look_in_turn<S: Site, L: Ledger>(
+        &mut self,
+        asker: &mut Asker<'_, S, L>,
+        now: Instant,
+    )
         ensures { HasAsked S.Calls S.Lists S.Begins S.Watches asker.old asker.new }
     {
         for _ in 0..self.rota.len().min(MOST_IDLE_LOOKS) {
@@ -259,14 +275,47 @@ impl<'a> Connections<'a> {
         }
     }
 
-    /// Ends all connections as far as that goes without their peers: requests that are whole by now are asked.
+    /// Lets all connections go on as far as that goes without their peers: requests that are whole by now are asked.
     #[tactic(auto, using(crate::proofs::Chains::asks_on, crate::proofs::Chains::asks_nothing))]
-    pub(crate) fn stop<S: Site>(&mut self, asker: &mut Asker<S>, tick: &Tick)
+    fn go_on_all<S: Site, L: Ledger>(&mut self, asker: &mut Asker<'_, S, L>, tick: &Tick)
         ensures { HasAsked S.Calls S.Lists S.Begins S.Watches asker.old asker.new }
     {
         for key in 0..self.held.capacity() {
             if let Some(held) = self.held.get_mut(key) {
                 held.go_on(self.alloc, self.routes, asker, tick);
+            }
+            self.settle(key, tick.now);
+        }
+    }
+
+    /// Takes the last looks of a watch: all that has been written is to be told.
+    #[tactic(auto, using(crate::proofs::Chains::asks_on, crate::proofs::Chains::asks_nothing))]
+    fn look_last<S: Site, L: Ledger>(
+        &mut self,
+        key: usize,
+        asker: &mut Asker<'_, S, L>,
+        now: Instant,
+    )
+        ensures { HasAsked S.Calls S.Lists S.Begins S.Watches asker.old asker.new }
+    {
+        for _ in 0..MOST_LAST_LOOKS {
+            self.look(key, asker, now);
+            if !self.is_due(key) {
+                return;
+            }
+        }
+    }
+
+    /// Ends all connections as far as that goes without their peers: requests that are whole by now are asked, and watches are told what has
+    /// been written.
+    #[tactic(auto, using(crate::proofs::Chains::asks_on, crate::proofs::Chains::asks_nothing))]
+    pub(crate) fn stop<S: Site, L: Ledger>(&mut self, asker: &mut Asker<'_, S, L>, tick: &Tick)
+        ensures { HasAsked S.Calls S.Lists S.Begins S.Watches asker.old asker.new }
+    {
+        self.go_on_all(asker, tick);
+        for key in 0..self.held.capacity() {
+            self.look_last(key, asker, tick.now);
+            if let Some(held) = self.held.get_mut(key) {
                 held.stop::<S>(self.alloc, self.routes, tick.now);
             }
             self.settle(key, tick.now);

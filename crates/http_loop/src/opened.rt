@@ -4,10 +4,11 @@ use std::sync::atomic::{AtomicU64, Ordering};
 /// How many connections may be open, over all loops.
 const MOST_OPEN: u64 = 10_000;
 
-/// How many connections are open, over all loops, and whether more will come.
+/// How many connections are open, over all loops, how many of them watch, and whether more will come.
 #[derive(Drop)]
 pub(crate) struct Open {
     count: AtomicU64,
+    watches: AtomicU64,
     is_last: AtomicU64,
 }
 
@@ -16,6 +17,7 @@ impl Open {
     pub(crate) const fn new() -> Open {
         Open {
             count: AtomicU64::new(0),
+            watches: AtomicU64::new(0),
             is_last: AtomicU64::new(0),
         }
     }
@@ -35,13 +37,24 @@ impl Open {
         self.count.fetch_sub(1, Ordering::SeqCst) >= MOST_OPEN
     }
 
+    /// Counts one of them as a watch.
+    pub(crate) fn watch(&self) {
+        self.watches.fetch_add(1, Ordering::SeqCst);
+    }
+
+    /// Counts it as a watch no longer.
+    pub(crate) fn leave_watch(&self) {
+        self.watches.fetch_sub(1, Ordering::SeqCst);
+    }
+
     /// Says that no more will come.
     pub(crate) fn end(&self) {
         self.is_last.store(1, Ordering::SeqCst);
     }
 
-    /// Returns whether none is open, and no more will come.
+    /// Returns whether none is open but watches, and no more will come.
     pub(crate) fn is_over(&self) -> bool {
-        self.is_last.load(Ordering::SeqCst) != 0 && self.count.load(Ordering::SeqCst) == 0
+        self.is_last.load(Ordering::SeqCst) != 0
+            && self.count.load(Ordering::SeqCst) <= self.watches.load(Ordering::SeqCst)
     }
 }

@@ -14,6 +14,7 @@ use sites::Site;
 use std::io;
 use std::io::ErrorKind;
 use std::sync::Wait;
+use std::sync::ledger::Ledger;
 use std::time::{Clock, Duration, Instant};
 
 /// How long a loop waits for events at most.
@@ -90,13 +91,13 @@ impl<'a> Rounds<'a> {
 
     /// Hands a connection to the loop whose turn it is. One that has too many waiting leaves it here.
     #[tactic(auto, using(crate::proofs::Chains::asks_on, crate::proofs::Chains::asks_nothing))]
-    fn hand_on<S: Site, R: Wait>(
+    fn hand_on<S: Site, L: Ledger, R: Wait>(
         &mut self,
         rt: &R,
         registry: &Registry,
         number: usize,
         stream: TcpStream,
-        asker: &mut Asker<S>,
+        asker: &mut Asker<'_, S, L>,
     )
         ensures { HasAsked S.Calls S.Lists S.Begins S.Watches asker.old asker.new }
     {
@@ -110,17 +111,17 @@ impl<'a> Rounds<'a> {
             }
         }
         self.connections
-            .hold(registry, stream, asker, self.tick.now);
+            .hold(rt, registry, stream, asker, self.tick.now);
     }
 
     /// Accepts all connections that wait and for which there is room.
     #[tactic(auto, using(crate::proofs::Chains::asks_on, crate::proofs::Chains::asks_nothing))]
-    pub(crate) fn accept_all<S: Site, R: Wait>(
+    pub(crate) fn accept_all<S: Site, L: Ledger, R: Wait>(
         &mut self,
         rt: &R,
         registry: &Registry,
         accepting: &mut Accepting,
-        asker: &mut Asker<S>,
+        asker: &mut Asker<'_, S, L>,
     )
         ensures { HasAsked S.Calls S.Lists S.Begins S.Watches asker.old asker.new }
     {
@@ -138,14 +139,19 @@ impl<'a> Rounds<'a> {
 
     /// Holds the connections that the loop was given.
     #[tactic(auto, using(crate::proofs::Chains::asks_on, crate::proofs::Chains::asks_nothing))]
-    fn take_given<S: Site, R: Wait>(&mut self, rt: &R, registry: &Registry, asker: &mut Asker<S>)
+    fn take_given<S: Site, L: Ledger, R: Wait>(
+        &mut self,
+        rt: &R,
+        registry: &Registry,
+        asker: &mut Asker<'_, S, L>,
+    )
         ensures { HasAsked S.Calls S.Lists S.Begins S.Watches asker.old asker.new }
     {
         for _ in 0..u64::MAX {
             match self.wakes.take(rt) {
                 Some(stream) => self
                     .connections
-                    .hold(registry, stream, asker, self.tick.now),
+                    .hold(rt, registry, stream, asker, self.tick.now),
                 None => return,
             }
         }
@@ -153,7 +159,7 @@ impl<'a> Rounds<'a> {
 
     /// Lets connections go on of which the system reports something, and returns whether it reports a new one.
     #[tactic(auto, using(crate::proofs::Chains::asks_on, crate::proofs::Chains::asks_nothing))]
-    fn heed<S: Site>(&mut self, events: &Events, asker: &mut Asker<S>) -> bool
+    fn heed<S: Site, L: Ledger>(&mut self, events: &Events, asker: &mut Asker<'_, S, L>) -> bool
         ensures { HasAsked S.Calls S.Lists S.Begins S.Watches asker.old asker.new }
     {
         let mut is_called = false;
@@ -171,7 +177,7 @@ impl<'a> Rounds<'a> {
     /// Looks at the watches that may have something to see, and at times at those whose turn it is; looks at deadlines at times. Returns
     /// whether a while has passed.
     #[tactic(auto, using(crate::proofs::Chains::asks_on, crate::proofs::Chains::asks_nothing))]
-    fn tend<S: Site>(&mut self, asker: &mut Asker<S>) -> bool
+    fn tend<S: Site, L: Ledger>(&mut self, asker: &mut Asker<'_, S, L>) -> bool
         ensures { HasAsked S.Calls S.Lists S.Begins S.Watches asker.old asker.new }
     {
         self.connections.hear_writes();
@@ -191,12 +197,12 @@ impl<'a> Rounds<'a> {
     /// Lets connections go on of which the system reports something, and holds those that the loop was given. Returns whether the system
     /// reports new ones.
     #[tactic(auto, using(crate::proofs::Chains::asks_on, crate::proofs::Chains::asks_nothing))]
-    fn take_in<S: Site, R: Wait>(
+    fn take_in<S: Site, L: Ledger, R: Wait>(
         &mut self,
         rt: &R,
         registry: &Registry,
         events: &Events,
-        asker: &mut Asker<S>,
+        asker: &mut Asker<'_, S, L>,
     ) -> bool
         ensures { HasAsked S.Calls S.Lists S.Begins S.Watches asker.old asker.new }
     {
@@ -207,12 +213,12 @@ impl<'a> Rounds<'a> {
 
     /// Lets all connections go on, and returns whether new ones are to be looked for.
     #[tactic(auto, using(crate::proofs::Chains::asks_on, crate::proofs::Chains::asks_nothing))]
-    fn attend<S: Site, R: Wait>(
+    fn attend<S: Site, L: Ledger, R: Wait>(
         &mut self,
         rt: &R,
         registry: &Registry,
         events: &Events,
-        asker: &mut Asker<S>,
+        asker: &mut Asker<'_, S, L>,
     ) -> bool
         ensures { HasAsked S.Calls S.Lists S.Begins S.Watches asker.old asker.new }
     {
@@ -223,13 +229,13 @@ impl<'a> Rounds<'a> {
 
     /// Goes one round.
     #[tactic(auto, using(crate::proofs::Chains::asks_on, crate::proofs::Chains::asks_nothing))]
-    pub(crate) fn go<S: Site, R: Wait + Clock>(
+    pub(crate) fn go<S: Site, L: Ledger, R: Wait + Clock>(
         &mut self,
         rt: &R,
         poll: &mut Poll,
         events: &mut Events,
         accepting: &mut Option<Accepting>,
-        asker: &mut Asker<S>,
+        asker: &mut Asker<'_, S, L>,
     ) -> io::Result<()>
         ensures { HasAsked S.Calls S.Lists S.Begins S.Watches asker.old asker.new }
     {
@@ -247,12 +253,12 @@ impl<'a> Rounds<'a> {
 
     /// Ends all connections, as far as their peers let it within a while.
     #[tactic(auto, using(crate::proofs::Chains::asks_on, crate::proofs::Chains::asks_nothing))]
-    pub(crate) fn stop<S: Site, R: Wait + Clock>(
+    pub(crate) fn stop<S: Site, L: Ledger, R: Wait + Clock>(
         &mut self,
         rt: &R,
         poll: &mut Poll,
         events: &mut Events,
-        asker: &mut Asker<S>,
+        asker: &mut Asker<'_, S, L>,
     ) -> io::Result<()>
         ensures { HasAsked S.Calls S.Lists S.Begins S.Watches asker.old asker.new }
     {

@@ -1,0 +1,6 @@
+use Rattle.http_loop.specs.Asked.{HasAsked}
+use Rattle.http_loop.proofs.open_connections.Connections.look_last.Given as goal
+
+-- so much was asked as was counted
+abbrev pub invariant-loop : goal.invariant-loop
+invariant-loop g l = HasAsked g.S.Site.Calls g.S.Site.Lists g.S.WatchSource.Begins g.S.WatchSource.Watches l.fn.asker l.asker

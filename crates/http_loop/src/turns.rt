@@ -1,0 +1,100 @@
+//! The turns to answer a connection, which loops share.
+ghost use Rattle.std.specs.Prelude.{◌≡◌, ◌+◌, ◌^◌, ◌<◌, ◌≤◌, IfSome, true, false};
+
+use std::sync::ledger::{Blank, Ledger, Share};
+
+/// The turns that are left. They are as many parts of a ledger, of which nobody has two at once: who takes a turn has its
+/// part, so no more are ever taken than there are. The parts exist in proofs alone.
+#[derive(Drop)]
+pub struct Turns<L: Ledger> {
+    left: u64,
+    parts: Share<L>,
+    ghost counted: { parts.parts ≡ left },
+    ghost unused: { parts.amount ≡ 0 },
+}
+
+/// How many turns were taken.
+#[derive(Drop)]
+pub struct Taken<L: Ledger> {
+    pub count: u64,
+    parts: Share<L>,
+    ghost counted: { parts.parts ≡ count },
+    ghost unused: { parts.amount ≡ 0 },
+}
+
+impl<L: Ledger> Turns<L> {
+    /// Returns so many turns.
+    pub fn new(most: u64, blank: Blank) -> Turns<L>
+        requires name { blank.name ≡ L.name }
+        requires parts { blank.parts ≡ L.parts }
+        requires most { most ≡ L.parts }
+    {
+        let (_, parts) = blank.open::<L>();
+        Turns { left: most, parts }
+    }
+
+    /// Takes no turn.
+    pub fn take_none(&mut self) -> Taken<L>
+        ensures { result.count ≡ 0 }
+    {
+        Taken {
+            count: 0,
+            parts: self.parts.empty(),
+        }
+    }
+
+    /// Takes a turn, if one is left.
+    pub fn take(&mut self) -> Option<Taken<L>>
+        ensures { IfSome result (λ taken. taken.count ≡ 1) }
+    {
+        if self.left == 0 {
+            return None;
+        }
+        let Turns { left, parts } = self;
+        let part = parts.split_off(1, 0);
+        *left -= 1;
+        Some(Taken {
+            count: 1,
+            parts: part,
+        })
+    }
+}
+
+impl<L: Ledger> Taken<L> {
+    /// Adds the turns that were taken elsewhere, and returns whether they could be counted: they can where there are no more turns than a
+    /// count can say.
+    pub fn add(&mut self, other: Taken<L>) -> bool
+        ensures sum { result ≡ true → self.new.count ≡ self.old.count + other.count }
+        ensures most { result ≡ true → self.new.count ≤ L.parts }
+        ensures none { result ≡ false → self.new.count ≡ self.old.count }
+        ensures counts { L.parts < 2 ^ 64 → result ≡ true }
+    {
+        let Taken {
+            count: more,
+            parts: others,
+        } = other;
+        let Taken { count, parts } = self;
+        parts.merge(others);
+        match count.checked_add(more) {
+            Some(sum) => {
+                *count = sum;
+                true
+            }
+            None => {
+                let _ = parts.split_off(more, 0);
+                false
+            }
+        }
+    }
+
+    /// Returns how many they are: no more than there are turns.
+    pub fn total(self) -> u64
+        ensures count { result ≡ self.count }
+        ensures most { result ≤ L.parts }
+    {
+        let Taken { count, mut parts } = self;
+        let none = parts.empty();
+        parts.merge(none);
+        count
+    }
+}
