@@ -6,24 +6,32 @@ clients two servers answer in turn: `kcp serve`, and a C program of a few lines 
 body that it announces, writes a fixed reply of the same length and closes: what the loopback allows. The clients are threads of
 another C program (http/load.c). The last figure is the resident memory of `kcp serve` with 10,000 ConfigMaps.
 
-With `--watchers` it measures watches instead: how long an event takes from the reply of its create to the watchers, one and so many
-(http/watch.c), and how much of a processor `kcp serve` uses while so many watch and nothing happens.
+With `--watchers` it measures watches instead: how long an event takes from the reply of its create to the watchers, one, 50 and so many
+(http/watch.c, which reads them all on one thread), and how much of a processor `kcp serve` uses while so many watch and nothing happens.
+
+With `--objects` it measures how so many ConfigMaps are taken in by one stream of initial events, and by pages of 500: how long it takes, after
+how long the first byte comes, and how much memory `kcp serve` takes for it beside what it has before.
 
 Usage: http.py --program PATH [--threads N] [--clients N,N] [--seconds S]
        http.py --program PATH --watchers N [--events N] [--seconds S]
+       http.py --program PATH --objects N [--runs N]
   --program PATH   the executable of kcp
   --threads N      threads of both servers, 1 if left out
   --clients N,N    numbers of clients, 1,16 if left out
   --seconds S      how long each run takes, 3 if left out
-  --watchers N     how many watch, 63 at most; the server has a thread more than they are
+  --watchers N     how many watch, 127 at most: the server has a thread more than they are
   --events N       how many objects are created while they watch, 500 if left out
+  --objects N      how many are taken in
+  --runs N         how often, either way in turn, 5 if left out
 It uses loopback alone, and writes only to a temporary folder.
 """
 import argparse
+import concurrent.futures
 import json
 import os
 import pathlib
 import re
+import resource
 import socket
 import subprocess
 import sys
@@ -36,7 +44,17 @@ import http.client
 
 HERE = pathlib.Path(__file__).resolve().parent / "http"
 MAPS = "/api/v1/namespaces/default/configmaps"
+# How many microseconds lie between two events.
+PAUSE = 20_000
+# How many clients fill a server side by side.
+FILLERS = 8
 DATA = {"data": {"text": "x" * 100}}
+STREAM = f"{MAPS}?watch=true&allowWatchBookmarks=true&sendInitialEvents=true&resourceVersionMatch=NotOlderThan"
+ENDING = b'"k8s.io/initial-events-end":"true"'
+PAGE = 500
+CONTINUE = re.compile(rb'"continue":"([^"]*)"')
+# In how many bytes at its end a reply says that more follows, or that a list is whole, and how many are read at once.
+LAST, PIECE = 1_024, 1 << 20
 
 
 def compiled(folder, name):
@@ -75,10 +93,14 @@ class Server:
         fields = pathlib.Path(f"/proc/{self.program.pid}/stat").read_text().rsplit(") ", 1)[1].split()
         return (int(fields[11]) + int(fields[12])) / os.sysconf("SC_CLK_TCK")
 
-    def memory(self):
-        """Returns the resident memory in MB."""
+    def memory(self, kind="VmRSS"):
+        """Returns the resident memory in MB, or the peak of it (`VmHWM`)."""
         status = pathlib.Path(f"/proc/{self.program.pid}/status").read_text()
-        return int(re.search(r"VmRSS:\s+(\d+) kB", status)[1]) / 1000
+        return int(re.search(rf"{kind}:\s+(\d+) kB", status)[1]) / 1000
+
+    def forget_peak(self):
+        """Has the system measure the peak of the memory from now on."""
+        pathlib.Path(f"/proc/{self.program.pid}/clear_refs").write_text("5")
 
 
 def request(method, path, body=""):
@@ -101,8 +123,8 @@ def rate(load, port, clients, seconds, text, folder):
 def filled(program, threads, count):
     """Starts `kcp serve` with so many ConfigMaps."""
     server = Server([program, "serve", "--port", "0", "--threads", str(threads)])
-    for number in range(count):
-        server.ask("POST", MAPS, {"metadata": {"name": f"map-{number:05}"}, **DATA})
+    with concurrent.futures.ThreadPoolExecutor(FILLERS) as pool:
+        list(pool.map(lambda number: server.ask("POST", MAPS, {"metadata": {"name": f"map-{number:05}"}, **DATA}), range(count)))
     return server
 
 
@@ -111,12 +133,12 @@ def delays(watch, server, watchers, events, folder):
     paths = [pathlib.Path(folder) / name for name in ("asked-watch", "asked-create")]
     paths[0].write_bytes(request("GET", f"{MAPS}?watch=true&resourceVersion=1"))
     paths[1].write_bytes(request("POST", MAPS, json.dumps({"metadata": {"name": "new-#######"}, **DATA})))
-    words = [watch, str(server.port), str(watchers), str(events), *paths]
+    words = [watch, str(server.port), str(watchers), str(events), str(PAUSE), *paths]
     return [int(it) for it in subprocess.run(words, capture_output=True, check=True, text=True).stdout.split()]
 
 
 def idle_share(server, watchers, seconds):
-    """Returns how much of a processor the server uses while so many watch and nothing happens."""
+    """Returns how much of a processor the server uses while so many watch and nothing happens, and its resident memory then."""
     watching = [socket.create_connection(("127.0.0.1", server.port)) for _ in range(watchers)]
     for it in watching:
         it.sendall(request("GET", f"{MAPS}?watch=true&resourceVersion=1"))
@@ -124,21 +146,90 @@ def idle_share(server, watchers, seconds):
     time.sleep(1)
     before = server.processor_seconds()
     time.sleep(seconds)
-    return (server.processor_seconds() - before) / seconds
+    return (server.processor_seconds() - before) / seconds, server.memory()
 
 
 def measure_watches(asked):
     """Prints how long events take to watchers, and what idle watches cost."""
-    words = [asked.program, "serve", "--port", "0", "--threads", str(asked.watchers + 1)]
+    words = [asked.program, "serve", "--port", "0", "--threads", str(max(asked.threads, asked.watchers + 1))]
+    _, most = resource.getrlimit(resource.RLIMIT_NOFILE)
+    resource.setrlimit(resource.RLIMIT_NOFILE, (most, most))
     print("| Watchers | median, microseconds | median of the last watcher | greatest |")
     print("|---|---|---|---|")
     with tempfile.TemporaryDirectory() as folder:
         watch = compiled(folder, "watch")
-        for watchers in sorted({1, asked.watchers}):
+        for watchers in sorted({1, 50, asked.watchers}):
             with Server(words) as server:
                 print(f"| {watchers} | {' | '.join(f'{it:,}' for it in delays(watch, server, watchers, asked.events, folder))} |", flush=True)
     with Server(words) as server:
-        print(f"\n{asked.watchers} idle watches: {idle_share(server, asked.watchers, asked.seconds):.1%} of a processor")
+        share, memory = idle_share(server, asked.watchers, asked.seconds)
+        print(f"\n{asked.watchers} idle watches: {share:.1%} of a processor, {memory:.1f} MB")
+
+
+class Taken:
+    """What was taken in: the bytes of the replies, after how many seconds the first byte of a body came, and all had."""
+
+    def __init__(self, server):
+        self.port, self.pieces, self.began, self.first, self.took = server.port, [], time.monotonic(), None, None
+
+    def ask(self, target, is_whole):
+        """Takes in a reply up to its end, or to where its last bytes say that it is whole."""
+        last = b""
+        with socket.create_connection(("127.0.0.1", self.port)) as asked:
+            asked.sendall(request("GET", target))
+            while not is_whole(last) and (got := asked.recv(PIECE)):
+                self.pieces.append(got)
+                last = (last + got)[-LAST:]
+                if self.first is None and not got.endswith(b"\r\n\r\n"):
+                    self.first = time.monotonic() - self.began
+        self.took = time.monotonic() - self.began
+        return last
+
+    def by_stream(self):
+        """Takes in all by one stream of initial events."""
+        self.ask(STREAM, lambda last: ENDING in last and last.endswith(b"\n\r\n"))
+
+    def by_pages(self):
+        """Takes in all by pages."""
+        token = b""
+        while token is not None:
+            last = self.ask(f"{MAPS}?limit={PAGE}" + (f"&continue={token.decode()}" if token else ""), lambda last: False)
+            found = CONTINUE.search(last)
+            token = found[1] if found else None
+
+    def check(self, objects):
+        """Ends the program where it is not so many objects."""
+        count = b"".join(self.pieces).count(b'"name":"map-')
+        if count != objects:
+            sys.exit(f"{count} objects were taken in, not {objects}")
+
+
+def taken_in(server, objects, take):
+    """Takes in all objects one way, and returns how many MB came, how many seconds it took, after how many milliseconds the first byte came, and how
+    many MB of memory the server took for it."""
+    server.forget_peak()
+    before, taken = server.memory(), Taken(server)
+    take(taken)
+    more = server.memory("VmHWM") - before
+    taken.check(objects)
+    return sum(map(len, taken.pieces)) / 1e6, taken.took, taken.first * 1e3, more
+
+
+def measure_streams(asked):
+    """Prints how long it takes to take in all objects by one stream and by pages, and what memory it takes."""
+    ways = {"one stream": Taken.by_stream, f"pages of {PAGE}": Taken.by_pages}
+    found = {way: [] for way in ways}
+    with filled(asked.program, asked.threads, asked.objects) as server:
+        memory = server.memory()
+        for _ in range(asked.runs):
+            for way, take in ways.items():
+                found[way].append(taken_in(server, asked.objects, take))
+    print(f"{asked.objects:,} ConfigMaps, for which the server has {memory:.1f} MB; best of {asked.runs} runs, and the most memory:\n")
+    print("| Taken in by | MB | seconds | first byte, milliseconds | memory beside the store, MB |")
+    print("|---|---|---|---|---|")
+    for way, runs in found.items():
+        sizes, took, first, more = zip(*runs)
+        print(f"| {way} | {sizes[0]:.1f} | {min(took):.3f} | {min(first):.1f} | {max(more):.1f} |")
 
 
 def main():
@@ -149,9 +240,13 @@ def main():
     parser.add_argument("--seconds", type=float, default=3)
     parser.add_argument("--watchers", type=int)
     parser.add_argument("--events", type=int, default=500)
+    parser.add_argument("--objects", type=int)
+    parser.add_argument("--runs", type=int, default=5)
     asked = parser.parse_args()
     if asked.watchers:
         return measure_watches(asked)
+    if asked.objects:
+        return measure_streams(asked)
     create = json.dumps({"metadata": {"name": "new-#######"}, **DATA})
     kinds = {
         "create": (0, request("POST", MAPS, create), MAPS + "/new-0000000"),

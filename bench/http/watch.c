@@ -1,7 +1,7 @@
-// Measures how long an event takes to those who watch. `watch PORT WATCHERS EVENTS WATCH CREATE`: WATCH and CREATE are files with the
-// bytes of two requests; a run of seven '#' in CREATE becomes a number. So many threads send WATCH and read what comes; another sends
-// CREATE so many times, 5 ms apart. Prints, in microseconds after the reply of a create has come: the median over all frames,
-// the median of the last frame of each create, and the greatest. A frame that came before the reply counts as 0.
+// Measures how long an event takes to those who watch. `watch PORT WATCHERS EVENTS PAUSE WATCH CREATE`: WATCH and CREATE are files with the
+// bytes of two requests; a run of seven '#' in CREATE becomes a number. So many connections send WATCH, and one thread reads what comes over
+// all of them; another sends CREATE so many times, PAUSE microseconds apart. Prints, in microseconds after the reply of a create has come:
+// the median over all frames, the median of the last frame of each create, and the greatest. A frame that came before the reply counts as 0.
 #include <arpa/inet.h>
 #include <netinet/tcp.h>
 #include <pthread.h>
@@ -9,14 +9,22 @@
 #include <stdio.h>
 #include <stdlib.h>
 #include <string.h>
+#include <sys/epoll.h>
+#include <sys/resource.h>
 #include <time.h>
 #include <unistd.h>
+
+struct watcher {
+    int stream, seen, has_begun;
+    char before;
+};
 
 static struct sockaddr_in address = {.sin_family = AF_INET};
 static char watch[65536], create[65536];
 static size_t watch_length, create_length;
 static int watchers, events;
 static double *came, *replied;
+static struct watcher *all;
 static atomic_int ready;
 
 static double now(void) {
@@ -38,19 +46,23 @@ static int asked(const char *text, size_t length) {
 }
 
 // A frame ends with a brace and a newline, which stand together nowhere else in a reply of a watch.
-static void *look(void *place) {
-    double *times = place;
-    char buffer[65536], before = 0;
-    int stream = asked(watch, watch_length), seen = 0, has_begun = 0;
-    while (seen < events) {
-        ssize_t count = read(stream, buffer, sizeof buffer);
-        if (count <= 0) exit(4);
-        double at = now();
-        if (!has_begun) atomic_fetch_add(&ready, has_begun = 1);
-        for (ssize_t i = 0; i < count; before = buffer[i++])
-            if (buffer[i] == '\n' && before == '}' && seen < events) times[seen++] = at;
-    }
-    close(stream);
+static int take(int number) {
+    struct watcher *it = &all[number];
+    char buffer[65536];
+    ssize_t count = read(it->stream, buffer, sizeof buffer);
+    if (count <= 0) exit(4);
+    double at = now();
+    if (!it->has_begun) atomic_fetch_add(&ready, it->has_begun = 1);
+    int before = it->seen;
+    for (ssize_t i = 0; i < count; it->before = buffer[i++])
+        if (buffer[i] == '\n' && it->before == '}' && it->seen < events) came[(size_t)number * (size_t)events + (size_t)it->seen++] = at;
+    return before < events && it->seen == events;
+}
+
+static void *look(void *poll) {
+    struct epoll_event found[256];
+    for (int left = watchers; left > 0;)
+        for (int i = epoll_wait(*(int *)poll, found, 256, -1) - 1; i >= 0; i--) left -= take(found[i].data.u32);
     return NULL;
 }
 
@@ -78,26 +90,40 @@ static int rising(const void *one, const void *other) {
     return (a > b) - (a < b);
 }
 
+static void open_many(void) {
+    struct rlimit most;
+    getrlimit(RLIMIT_NOFILE, &most);
+    most.rlim_cur = most.rlim_max;
+    setrlimit(RLIMIT_NOFILE, &most);
+}
+
 int main(int count, char **words) {
-    if (count != 6) return 2;
+    if (count != 7) return 2;
     address.sin_port = htons((unsigned short)atoi(words[1]));
     address.sin_addr.s_addr = htonl(INADDR_LOOPBACK);
     watchers = atoi(words[2]), events = atoi(words[3]);
-    watch_length = read_file(words[4], watch), create_length = read_file(words[5], create);
-    int all = watchers * events;
-    came = calloc((size_t)all, sizeof *came), replied = calloc((size_t)events, sizeof *replied);
+    watch_length = read_file(words[5], watch), create_length = read_file(words[6], create);
+    size_t frames = (size_t)watchers * (size_t)events;
+    came = calloc(frames, sizeof *came), replied = calloc((size_t)events, sizeof *replied), all = calloc((size_t)watchers, sizeof *all);
     double *last = calloc((size_t)events, sizeof *last);
-    pthread_t threads[64];
-    for (int i = 0; i < watchers; i++) pthread_create(&threads[i], NULL, look, came + (size_t)i * (size_t)events);
+    open_many();
+    int poll = epoll_create1(0);
+    for (int i = 0; i < watchers; i++) {
+        struct epoll_event of = {.events = EPOLLIN, .data.u32 = (unsigned)i};
+        all[i].stream = asked(watch, watch_length);
+        epoll_ctl(poll, EPOLL_CTL_ADD, all[i].stream, &of);
+    }
+    pthread_t reader;
+    pthread_create(&reader, NULL, look, &poll);
     while (atomic_load(&ready) < watchers) nap(1000);
-    for (int i = 0; i < events; i++) nap(5000), make(i);
-    for (int i = 0; i < watchers; i++) pthread_join(threads[i], NULL);
-    for (int i = 0; i < all; i++) {
-        int event = i % events;
+    for (int i = 0; i < events; i++) nap(atol(words[4])), make(i);
+    pthread_join(reader, NULL);
+    for (size_t i = 0; i < frames; i++) {
+        size_t event = i % (size_t)events;
         came[i] = came[i] > replied[event] ? came[i] - replied[event] : 0;
         if (came[i] > last[event]) last[event] = came[i];
     }
-    qsort(came, (size_t)all, sizeof *came, rising), qsort(last, (size_t)events, sizeof *last, rising);
-    printf("%.0f %.0f %.0f\n", came[all / 2], last[events / 2], last[events - 1]);
+    qsort(came, frames, sizeof *came, rising), qsort(last, (size_t)events, sizeof *last, rising);
+    printf("%.0f %.0f %.0f\n", came[frames / 2], last[events / 2], last[events - 1]);
     return 0;
 }

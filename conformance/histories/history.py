@@ -173,6 +173,22 @@ class History:
                 self.fault(f"a watch from {start} shows {event}, where revision {revision} comes")
                 return
 
+    def check_stream(self, stream):
+        """A stream of initial events shows what a list at the revision of its closing bookmark shows, in that order, and then just the changes after it;
+        a later bookmark names the revision of the last of them."""
+        if not stream.is_closed():
+            self.fault(f"a stream ends after {len(stream.initial)} initial events, before the bookmark that closes them")
+            return
+        first, last = self.seen_by(stream)
+        versions = [self.version_before(name, stream.revision + 1) for name in sorted(self.of_name)]
+        wanted = [{"object": self.at(version).object, "type": "ADDED"} for version in versions if version]
+        if not first <= stream.revision <= last or stream.initial != wanted:
+            self.fault(f"a stream closed at {stream.revision}, asked between {first} and {last}, shows {stream.initial}, not {wanted}")
+        self.check_watch(stream.revision, stream.events)
+        for count, revision in stream.bookmarks:
+            if revision != stream.revision + count:
+                self.fault(f"a bookmark of {revision} comes after the change of {stream.revision + count}")
+
 
 def contents(value):
     """Returns an object without its version."""

@@ -4,8 +4,9 @@
 Each client creates, updates by version, deletes by uid, gets and lists a few ConfigMaps; some watch meanwhile, one of them from the
 beginning on. The order is that of the revisions, as the first watch shows them. Then: each accepted write is one of its entries; each
 update replaced just the version that it named; each answer is that of a state between its call and its answer; each watch shows
-just the changes after its start, in order.
-Usage: run.py --program PATH [--seconds N] [--clients N] [--threads N] [--seed N]
+just the changes after its start, in order; one that begins with a stream of initial events shows first what a list at the revision of the
+bookmark that closes them shows. With `--watchers N` so many more watch from the beginning on, each of which is to see every event once, in order.
+Usage: run.py --program PATH [--seconds N] [--clients N] [--threads N] [--watchers N] [--seed N]
 """
 import argparse
 import http.client
@@ -18,11 +19,14 @@ import sys
 import threading
 import time
 
+from crowd import Crowd
 from history import Call, History
+from streams import Streamer
 
 MAPS = "/api/v1/namespaces/default/configmaps"
 NAMES = [f"map-{number}" for number in range(6)]
-WATCHERS = 3
+# How many watch from a revision on, the first from the beginning, and how many begin with streams of initial events, again and again.
+WATCHERS, STREAMERS = 3, 2
 PATIENCE = 60
 
 
@@ -117,12 +121,14 @@ def side_by_side(targets):
 
 
 def recorded(port, asked):
-    """Has clients and watchers run, and returns their calls, the watchers, and the last revision."""
+    """Has clients and watchers run, and returns their calls, the watchers, the streams, and what is wrong with a crowd."""
     clients = [Client(port, f"{asked.seed}.{number}") for number in range(asked.clients)]
-    watchers = [Watcher(port, 1)]
-    side_by_side([(watchers[0].run,)])
+    watchers, crowd = [Watcher(port, 1)], Crowd(port, MAPS, asked.watchers) if asked.watchers else None
+    side_by_side([(watchers[0].run,)] + ([(crowd.run,)] if crowd else []))
     until = time.monotonic() + asked.seconds
     running = side_by_side([(client.run, until) for client in clients])
+    streamers = [Streamer(port, MAPS, f"{asked.seed}.{number}") for number in range(STREAMERS)]
+    side_by_side([(it.run,) for it in streamers])
     for number in range(1, WATCHERS):
         time.sleep(asked.seconds / (WATCHERS + 1))
         watchers.append(Watcher(port, 1 + len(watchers[0].events)))
@@ -131,9 +137,24 @@ def recorded(port, asked):
         thread.join()
     last = Client(port, "last")
     last.ask("list", "", "GET", MAPS)
-    for watcher in watchers:
+    for watcher in [*watchers, *streamers]:
         watcher.end(int(last.calls[0].value["metadata"]["resourceVersion"]))
-    return [call for client in [*clients, last] for call in client.calls], watchers
+    calls, streams = [call for client in [*clients, last] for call in client.calls], [it for streamer in streamers for it in streamer.streams]
+    return calls, watchers, streams, faults_of(crowd, len(watchers[0].events)) + faults_of_ends(streamers)
+
+
+def faults_of(crowd, events):
+    """Waits until each watcher of a crowd has seen so many events, if there is one, and returns what is wrong then."""
+    until, faults = time.monotonic() + PATIENCE, ["the crowd did not watch"]
+    while crowd and faults and time.monotonic() < until:
+        time.sleep(0.5)
+        faults = crowd.faults(events)
+    return faults if crowd else []
+
+
+def faults_of_ends(streamers):
+    """Returns what is wrong where the last stream of one did not show all."""
+    return [f"the last of {len(it.streams)} streams showed all up to {it.streams[-1].reached()}, not to {it.last}" for it in streamers if not it.is_over()]
 
 
 def main():
@@ -142,11 +163,12 @@ def main():
     parser.add_argument("--seconds", type=float, default=5)
     parser.add_argument("--clients", type=int, default=16)
     parser.add_argument("--threads", type=int, default=24)
+    parser.add_argument("--watchers", type=int, default=0)
     parser.add_argument("--seed", type=int, default=1)
     asked = parser.parse_args()
     started, port = serve(str(pathlib.Path(asked.program).resolve()), asked.threads)
     try:
-        calls, watchers = recorded(port, asked)
+        calls, watchers, streams, faults = recorded(port, asked)
     finally:
         started.kill()
     history = History(watchers[0].events, calls)
@@ -154,11 +176,17 @@ def main():
         history.check_reads()
         for watcher in watchers[1:]:
             history.check_watch(watcher.start, watcher.events)
+        for stream in streams:
+            history.check_stream(stream)
+    history.faults += faults
     for fault in history.faults[:10]:
         print(f"FAILED {fault}")
     kinds = {kind: sum(call.kind == kind for call in calls) for kind in ("create", "update", "delete", "get", "list")}
     refused = sum(call.code in (404, 409) for call in calls)
-    print(f"{len(calls)} calls {kinds}, {refused} of them refused; {len(history.writes)} writes; {sum(len(it.events) for it in watchers)} events")
+    print(
+        f"{len(calls)} calls {kinds}, {refused} of them refused; {len(history.writes)} writes; {sum(len(it.events) for it in watchers)} events;"
+        f" {len(streams)} streams, {sum(len(it.initial) for it in streams)} initial events and {sum(len(it.events) for it in streams)} after them"
+    )
     is_good = not history.faults and len(history.writes) > 10
     print(f"{int(is_good)} passed, {int(not is_good)} failed")
     sys.exit(0 if is_good else 1)
