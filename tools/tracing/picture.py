@@ -51,7 +51,7 @@ def mark_of(step):
     if verb == "config" or verb == "request" and rest[:1] == ["AT"]:
         return Mark("client", "client", " ".join(rest if verb == "config" else rest[1:]), "closed")
     makers = {"request": requested, "compact": requested, "restart": restarted, "tick": restarted}
-    makers |= dict.fromkeys(("list", "watch", "send", "deliver", "cut", "publish", "handle"), followed)
+    makers |= dict.fromkeys(("list", "stream", "watch", "send", "deliver", "cut", "publish", "handle"), followed)
     makers |= dict.fromkeys(("take", "look", "satisfied", "read", "expect", "finish"), turned)
     makers["issue"] = issued
     return makers[verb](step, verb, rest, told) if verb in makers else Mark("client", "client", step.told[:30], "closed")
@@ -73,6 +73,7 @@ def followed(step, verb, rest, told):
     look = "bad" if told[-1] in ("expired", "unreadable") or told[0] == "expired" else ""
     return {
         "list": lambda: Mark("server", informer, f"list at {told[2]}: {told[3]} objects"),
+        "stream": lambda: Mark(informer, "server", f"stream of initial events at {told[2]}"),
         "watch": lambda: Mark(informer, "server", f"watch from {told[2]}" if not look else "watch: expired", look),
         "send": lambda: Mark("server", link, "bookmark" if rest[1] == "bookmark" else f"{told[2]} sent"),
         "deliver": lambda: Mark(link, informer, f"took in {behind(told[2], step)}{' ' + told[3] if look else ''}", look),

@@ -7,7 +7,7 @@ import re
 KINDS = ("configmaps", "pods", "replicasets", "deployments")
 # The greatest window and number of workers that a configuration may have.
 MOST_CHANGES, MOST_WORKERS = 65536, 64
-CONFIGURATION = re.compile(r"config window=(\d{1,9}) workers=(\d{1,9})")
+CONFIGURATION = re.compile(r"config window=(\d{1,9}) workers=(\d{1,9})(?: initial=(?:list|stream))?")
 WATCH = re.compile(r"200 watch (\d+)")
 
 
