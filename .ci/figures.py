@@ -2,16 +2,24 @@
 
     figures.py FILE            prints the tables of a figures.json that .ci/gate.py has kept
     figures.py --write FILE    puts them into docs/GATE.md, between its two marker lines
+
+FILE may also be an output of the gate, or its last lines: they say the figures once more, briefly.
 """
 import argparse
 import functools
 import json
 import pathlib
 import re
+import sys
 
+sys.dont_write_bytecode = True
+ROOT = pathlib.Path(__file__).resolve().parent.parent
+sys.path.append(str(ROOT / "conformance"))
 import model
+from negative.pieces import libraries, pieces
 
-GUIDE = pathlib.Path(__file__).resolve().parent.parent / "docs" / "GATE.md"
+GUIDE = ROOT / "docs" / "GATE.md"
+BRIEFLY = "figures: "
 BEGIN, END = "<!-- figures begin -->\n", "<!-- figures end -->\n"
 KINDS = ("proofs", "tests", "programs", "negative tests")
 # Those that the table of crates shows.
@@ -108,12 +116,56 @@ def text_of(of):
     return "\n".join(lines)
 
 
+def brief(of):
+    """Returns the figures that no one can know without a run as a few lines, those of crates in the order of crates.txt."""
+    named = {name: of["crates"][name] for name in libraries() if name in of["crates"]}
+    lists = {kind: [it[kind] for it in named.values()] for kind in SHOWN}
+    lists["proved"] = [it["proved"] for it in named.values()]
+    whole = {part: of[part] for part in ("commit", "processors", "seconds", "passed", "used", "spans")}
+    rounded = {what: [None if it is None else round(it) for it in figures] for what, figures in lists.items()}
+    return [BRIEFLY + json.dumps({what: it}, separators=(",", ":")) for what, it in {"whole": whole, **rounded}.items()]
+
+
+def read_briefly(text):
+    """Returns the figures of which a text has the brief lines, with what the tree says of each crate."""
+    said = {}
+    for line in text.splitlines():
+        found = re.search(re.escape(BRIEFLY) + r"(\{.*\})", line)
+        said |= json.loads(found[1]) if found else {}
+    if not {"whole", "proved", *SHOWN} <= said.keys():
+        raise SystemExit("the brief lines of the figures are not all there")
+    lists = {what: dict(zip(libraries(), said[what])) for what in ("proved", *SHOWN)}
+    crates = {name: {**known, **dict.fromkeys(KINDS, 0), **{what: it[name] for what, it in lists.items()}} for name, known in known_of_tree().items()}
+    return {**said["whole"], "crates": crates}
+
+
+def lines_of(name):
+    """Returns how many lines a crate has, of code, contracts and proofs."""
+    folder = ROOT / "crates" / name
+    files = [file for part in ("src", "specs", "proofs") for file in (folder / part).rglob("*") if file.suffix in (".rt", ".antt")]
+    return sum(file.read_bytes().count(b"\n") for file in files)
+
+
+def known_of_tree():
+    """Returns what the tree says of each crate: its lines, what it uses, and how many negative tests it has."""
+    return {
+        name: {"lines": lines_of(name), "uses": used, "pieces": len(pieces(name, ["must-fail"])), "others": len(pieces(name, ["wrong-code"]))}
+        for name, used in libraries().items()
+    }
+
+
+def figures_in(file):
+    """Returns the figures that a file has."""
+    text = pathlib.Path(file).read_text(encoding="utf-8")
+    return json.loads(text) if text.startswith("{") else read_briefly(text)
+
+
 def main():
     parser = argparse.ArgumentParser(description=__doc__.splitlines()[0])
     parser.add_argument("--write", action="store_true", help="put the tables into docs/GATE.md")
-    parser.add_argument("file", metavar="FILE", help="a figures.json that .ci/gate.py has kept")
+    parser.add_argument("file", metavar="FILE", help="a figures.json that .ci/gate.py has kept, or what it printed")
     asked = parser.parse_args()
-    text = text_of(json.loads(pathlib.Path(asked.file).read_text()))
+    text = text_of(figures_in(asked.file))
     if not asked.write:
         print(text)
         return

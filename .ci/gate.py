@@ -32,7 +32,6 @@ MOST_WRONG, FEW_WRONG, LAST_LINES = 40, 5, 5
 sys.path[:0] = [str(ROOT / ".ci"), str(ROOT / "conformance")]
 import figures
 import sampler
-from negative import pieces
 
 
 class Run:
@@ -73,13 +72,6 @@ class Run:
         return next((second for second, line in self.lines if line == text), None)
 
 
-def lines_of(name):
-    """Returns how many lines a crate has, of code, contracts and proofs."""
-    folder = ROOT / "crates" / name
-    files = [file for part in ("src", "specs", "proofs") for file in (folder / part).rglob("*") if file.suffix in (".rt", ".antt")]
-    return sum(file.read_bytes().count(b"\n") for file in files)
-
-
 def commit():
     """Returns the name of the commit that is checked out, if git knows it."""
     ran = subprocess.run(["git", "rev-parse", "--short", "HEAD"], cwd=ROOT, capture_output=True, text=True, stdin=subprocess.DEVNULL)
@@ -88,14 +80,11 @@ def commit():
 
 def figures_of(proved, tried, asked, looking, used):
     """Returns the figures of a run, as figures.py shows them."""
-    seen, crates = looking.end(), {}
-    for name, libraries in pieces.libraries().items():
-        of_crate = {"lines": lines_of(name), "uses": libraries, "pieces": len(pieces.pieces(name, ["must-fail"]))}
-        of_crate["others"] = len(pieces.pieces(name, ["wrong-code"]))
+    seen, crates = looking.end(), figures.known_of_tree()
+    for name, of_crate in crates.items():
         of_crate["proved"] = proved.second_of(f"rt: {name} proved")
         for kind in figures.KINDS:
             of_crate[kind] = sum(it["seconds"] for it in seen if it["crate"] == name and it["kind"] == kind)
-        crates[name] = of_crate
     spans = {}
     for kind in figures.KINDS:
         runs = [it for it in seen if it["kind"] == kind]
@@ -146,6 +135,7 @@ def asked_of_program(log):
         "histories": ["histories/run.py"],
         "clients": ["clients/run.py"],
         "following": ["following/run.py", "--follower", FOLLOWER, "--short"],
+        "following, cut at each byte": ["following/cuts.py", "--follower", FOLLOWER, "--short"],
         "controllers": ["controllers/run.py", "--short"],
         "README": ["readme.py"],
     }
@@ -156,13 +146,14 @@ def asked_of_program(log):
 
 
 def show(room, *what):
-    """Keeps the figures, and prints them. Where that fails, it says so, and the gate goes on."""
+    """Keeps the figures, prints them, and returns the brief lines of them. Where that fails, it says so, and the gate goes on."""
     try:
         found = figures_of(*what)
         (room / "figures.json").write_text(json.dumps(found, indent=1))
         print(f"\n{figures.text_of(found)}")
+        return figures.brief(found)
     except Exception as error:
-        print(f"no figures: {error!r}")
+        return [f"no figures: {error!r}"]
 
 
 def failed(runs):
@@ -202,9 +193,10 @@ def main():
         asked = asked_of_program(log)
     runs = {**first, "rt ci": proved, "negative tests": tried, **asked}
     tell_wrong(runs, MOST_WRONG)
-    show(room, proved, tried, asked, looking, used)
+    briefly = show(room, proved, tried, asked, looking, used)
     print(f"kept: {room}/output.txt, {room}/figures.json\n")
     print("\n".join(line for _, line in first["negative tests apply"].lines))
+    print(*briefly, sep="\n")
     tell_end(runs)
     sys.exit(1 if any(run.status for run in runs.values()) else 0)
 
