@@ -10,9 +10,8 @@ use Rattle.definitions.specs.Verbs.{Outcome, refused}
 use Rattle.definitions.specs.Versions.{Listed}
 use Rattle.chunked.specs.declared.watched.Watched.{Watched}
 use Rattle.keys.specs.Faults.{refusal_of}
-use Rattle.selector.specs.Views.{view_of}
 use Rattle.watch_service.proofs.Going.{opened_follows}
-use Rattle.watch_service.specs.Opened.{Refuses, IsOpened}
+use Rattle.watch_service.specs.Opened.{Refuses, IsOpened, opening_of}
 use Rattle.watch_service.specs.Served.{Follows, Serves}
 use Rattle.watch_service.specs.Watches.{Look, opening_text}
 use Rattle.watch_service.specs.declared.fault.Cut.{Cut}
@@ -45,11 +44,11 @@ module _ {D : Type 0} (contents : D → Option (List ℕ)) (new : Watched D) whe
 module _ {S D : Type 0} (begins : S → View → Option ℕ → Result Listed Refusal → S → Type 0) (watches : S → View → ℕ → ℕ → Look → S → Type 0) (v : View) (bookmarks : Bool)
     (contents : D → Option (List ℕ)) (s mid t : S) (old new : Watched D) (start : Start) where
   serves : (w : Opened) (followed : Result (Unit {0}) Cut) → IsOpened begins watches v bookmarks start s mid (Ok w)
-      → Follows watches v bookmarks contents mid t old new w.text.items w.at.revision w.at.idle followed → Serves begins watches v bookmarks contents s t old new start (served_as followed)
+      → Follows watches v bookmarks contents mid t old new (opening_of w) w.at.revision w.at.idle followed → Serves begins watches v bookmarks contents s t old new start (served_as followed)
   serves w (Ok u) (o, opens, stands, idle, is) follows =
-      (o, mid, opens, opened_follows watches v bookmarks contents mid t old new w.text.items (opening_text v.kind o) w.at.revision w.at.idle o.stands o.idle (Ok u) stands idle is follows)
+      (o, mid, opens, opened_follows watches v bookmarks contents mid t old new (opening_of w) (opening_text v.kind o) w.at.revision w.at.idle o.stands o.idle (Ok u) stands idle is follows)
   serves w (Err c) (o, opens, stands, idle, is) follows =
-      (o, mid, opens, opened_follows watches v bookmarks contents mid t old new w.text.items (opening_text v.kind o) w.at.revision w.at.idle o.stands o.idle (Err c) stands idle is follows)
+      (o, mid, opens, opened_follows watches v bookmarks contents mid t old new (opening_of w) (opening_text v.kind o) w.at.revision w.at.idle o.stands o.idle (Err c) stands idle is follows)
 
 module _ {S D : Type 0} (calls : S → Request → List ℕ → Outcome → S → Type 0) (lists : S → View → ListOptions → Outcome → S → Type 0)
     (begins : S → View → Option ℕ → Result Listed Refusal → S → Type 0) (watches : S → View → ℕ → ℕ → Look → S → Type 0) (contents : D → Option (List ℕ)) (moment : List ℕ)
@@ -72,8 +71,8 @@ module _ {S D : Type 0} (calls : S → Request → List ℕ → Outcome → S �
   answers_watch (Ok (targets.request q)) w r opens goes = absurd opens
   answers_watch (Ok (targets.list v options)) w r opens goes = absurd opens
   answers_watch (Ok (targets.watch v options)) w r (view, bookmarks, opened) (followed, follows, is) =
-      let same = subst (λ b. Follows watches v b contents mid t old new w.opened.text.items w.opened.at.revision w.opened.at.idle followed) bookmarks
-      (subst (λ x. Follows watches x w.bookmarks contents mid t old new w.opened.text.items w.opened.at.revision w.opened.at.idle followed) view follows) in (
+      let same = subst (λ b. Follows watches v b contents mid t old new (opening_of w.opened) w.opened.at.revision w.opened.at.idle followed) bookmarks
+      (subst (λ x. Follows watches x w.bookmarks contents mid t old new (opening_of w.opened) w.opened.at.revision w.opened.at.idle followed) view follows) in (
         new,
         served_as followed,
         serves begins watches v options.bookmarks contents s mid t old new options.start w.opened followed opened same,

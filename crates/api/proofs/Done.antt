@@ -1,5 +1,5 @@
 -- What was done, and how a connection is left then.
-use Rattle.std.proofs.Common.{◌≡◌, ℕ, List, Bool, true, false, Option, Some, None, Result, Ok, Err, sym, ap, subst, true≢false, ◌∙◌}
+use Rattle.std.proofs.Common.{◌≡◌, ℕ, List, Bool, true, false, Option, Some, None, Result, Ok, Err, sym, ap, true≢false, ◌∙◌}
 use Rattle.definitions.specs.ListQueries.{ListOptions}
 use Rattle.definitions.specs.History.{View}
 use Rattle.definitions.specs.ObjectRequests.{Request}
@@ -14,7 +14,6 @@ use Rattle.received.specs.Receiving as received
 use Rattle.received.specs.Receiving.{IsNeeded, IsWhole, Needs}
 use Rattle.received.specs.declared.received.Received.{Received}
 use Rattle.request_heads.specs.declared.fault.ReadFault.TheVariants as read
-use Rattle.watch_service.specs.Served.{Serves}
 use Rattle.watch_service.specs.Watches.{Look}
 use Rattle.watch_service.specs.declared.fault.Cut.TheVariants as cut
 use Rattle.watch_service.specs.declared.fault.WatchFault.{WatchFault}

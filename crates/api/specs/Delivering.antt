@@ -5,6 +5,7 @@ use Rattle.chunked.specs.declared.watched.Watched.{Watched}
 use Rattle.selector.specs.Views.{view_of}
 use Rattle.watch_service.specs.declared.fault.Cut.{Cut}
 use Rattle.watch_service.specs.declared.fault.Cut.TheVariants as cut
+use Rattle.watch_service.specs.Opened.{opening_of}
 use Rattle.watch_service.specs.Served.{Follows}
 use Rattle.watch_service.specs.Watches.{Look}
 use Rattle.api.specs.Replying.{Sends}
@@ -26,7 +27,7 @@ module _ {S D : Type 0} (watches : S → View → ℕ → ℕ → Look → S →
   abbrev pub GoesOn : OpenWatch → Result (Unit {0}) ServeFault → Type 0
   GoesOn w result =
       (followed : Result (Unit {0}) Cut)
-      × Follows watches (view_of w.view) w.bookmarks contents s t old new w.opened.text.items w.opened.at.revision w.opened.at.idle followed
+      × Follows watches (view_of w.view) w.bookmarks contents s t old new (opening_of w.opened) w.opened.at.revision w.opened.at.idle followed
       × (result ≡ after_watch followed)
 
   -- a reply was written, or a watch; nothing where nothing is to be

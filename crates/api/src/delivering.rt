@@ -13,19 +13,20 @@ use watch_service::{Cut, Pace, WatchSource, go_on};
 /// Writes what a watch opened with, and goes on with it up to its end.
 fn deliver_watch<S: WatchSource, P: Pace, W: Write + Drop>(
     alloc: Global,
-    watch: &OpenWatch,
+    watch: OpenWatch,
     site: &mut S,
     pace: &mut P,
     writer: &mut Watched<W>,
 ) -> Result<(), ServeFault>
-    ensures { GoesOn S.Watches W.contents site.old site.new writer.old writer.new watch.now result }
+    ensures { GoesOn S.Watches W.contents site.old site.new writer.old writer.new watch result }
 {
+    let opened = watch.opened;
     match go_on(
         alloc,
         site,
         &watch.view,
         watch.bookmarks,
-        &watch.opened,
+        opened,
         pace,
         writer,
     ) {
@@ -38,16 +39,16 @@ fn deliver_watch<S: WatchSource, P: Pace, W: Write + Drop>(
 /// Writes a response: a reply at once, a watch up to its end.
 pub(crate) fn deliver<S: WatchSource, P: Pace, W: Write + Drop>(
     alloc: Global,
-    response: &Response,
+    response: Response,
     site: &mut S,
     pace: &mut P,
     writer: &mut Watched<W>,
 ) -> Result<(), ServeFault>
-    ensures { Delivers S.Watches W.contents site.old site.new writer.old writer.new response.now result }
+    ensures { Delivers S.Watches W.contents site.old site.new writer.old writer.new response result }
 {
     match response {
         Response::Nothing => Ok(()),
-        Response::Reply(text) => match send_reply(alloc, text, writer) {
+        Response::Reply(text) => match send_reply(alloc, &text, writer) {
             Ok(()) => Ok(()),
             Err(fault) => Err(fault),
         },

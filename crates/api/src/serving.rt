@@ -45,7 +45,7 @@ pub fn serve_one<S: Site, P: Pace, R: Read + Drop, W: Write + Drop>(
         Ok(received) => {
             let served = served_by(&received);
             let response = respond(alloc, received, site, moment);
-            match deliver(alloc, &response, site, pace, writer) {
+            match deliver(alloc, response, site, pace, writer) {
                 Ok(()) => Ok(served),
                 Err(fault) => Err(fault),
             }

@@ -1,6 +1,6 @@
 -- Where a connection stands after a step.
 use Rattle.std.proofs.Common.{◌≡◌, ℕ, List, [], ◌++◌, take, drop, Bool, Option, Some, Result, Ok, inl, inr, refl, sym, ap, subst, ◌∙◌, append_assoc, append-nil, length, length-append, arith}
-use Rattle.std.proofs.lemmas.List.{take-append-drop, append_cancel_left}
+use Rattle.std.proofs.lemmas.List.{take-append-drop}
 use Rattle.std.proofs.KnownBytes.{Consumes-nil, Appends-nil}
 use Rattle.std.specs.Io.KnownBytes.{Appends}
 use Rattle.definitions.specs.ListQueries.{ListOptions}
@@ -12,6 +12,7 @@ use Rattle.definitions.specs.Verbs.{Outcome}
 use Rattle.definitions.specs.Versions.{Listed}
 use Rattle.connections.specs.Connections.{Asks}
 use Rattle.selector.specs.Views.{view_of}
+use Rattle.watch_service.specs.Opened.{opening_of}
 use Rattle.watch_service.specs.Watches.{Look, Opens, opening_text}
 use Rattle.watch_service.specs.declared.standing.Standing.{Standing}
 use Rattle.api.specs.Responding.{text_of, Replies, OpensWatch, Responds}
@@ -32,12 +33,6 @@ use Rattle.http_connection.specs.Watches.{unwritten, IsBounded}
 
 not_asked : (s : Served) → s ≡ served.NotAsked → s ≡ served.Asked → ⊥
 not_asked s a b = cc
-
--- what was not written of bytes is what is left of them
-left_of : (bytes put : List ℕ) (taken n : ℕ) → take taken bytes ++ put ≡ take n bytes → put ++ drop n bytes ≡ drop taken bytes
-left_of bytes put taken n is =
-    append_cancel_left (take taken bytes) (put ++ drop n bytes) (drop taken bytes)
-    (sym (append_assoc (take taken bytes) put (drop n bytes)) ∙ ap (λ t. t ++ drop n bytes) is ∙ take-append-drop n bytes ∙ sym (take-append-drop taken bytes))
 
 module _ {S : Type 0} (calls : S → Request → List ℕ → Outcome → S → Type 0) (lists : S → View → ListOptions → Outcome → S → Type 0)
     (begins : S → View → Option ℕ → Result Listed Refusal → S → Type 0) (watches : S → View → ℕ → ℕ → Look → S → Type 0) where
@@ -63,20 +58,23 @@ module _ {S : Type 0} (calls : S → Request → List ℕ → Outcome → S → 
 
   -- a watch that has opened
   opens_stand : (a : targets.Asked) (moment : List ℕ) (s t : S) (read : List ℕ) (w : OpenWatch) (u : Watching) → Asks read (Some (Ok a)) → OpensWatch calls lists begins watches moment s t (Ok a) w
-      → u.view ≡ w.view → u.bookmarks ≡ w.bookmarks → u.at ≡ Some w.opened.at → u.out.items ≡ w.opened.text.items → u.taken ≡ 0 → u.opened ≡ length u.out.items
+      → u.view ≡ w.view → u.bookmarks ≡ w.bookmarks → u.at ≡ Some w.opened.at → u.out.items ≡ w.opened.text.items → u.taken ≡ 0 → u.rest ≡ w.opened.rest → u.later.items ≡ [] → u.opened ≡ length u.out.items
       → AtPhase (phase.Watching u) read []
-  opens_stand (targets.request q) moment s t read w u asks opens view marks at out none size = absurd opens
-  opens_stand (targets.list v options) moment s t read w u asks opens view marks at out none size = absurd opens
-  opens_stand (targets.watch v options) moment s t read w u asks (view, bookmarks, (o, opens, stands, idle, text)) same_view same_bookmarks same_at same_out none size =
+  opens_stand (targets.request q) moment s t read w u asks opens view marks at out none same_rest nothing size = absurd opens
+  opens_stand (targets.list v options) moment s t read w u asks opens view marks at out none same_rest nothing size = absurd opens
+  opens_stand (targets.watch v options) moment s t read w u asks (view, bookmarks, (o, opens, stands, idle, text)) same_view same_bookmarks same_at same_out none same_rest nothing size =
       let seen : v ≡ view_of u.view = sym view ∙ ap view_of (sym same_view) in
       let marks : options.bookmarks ≡ u.bookmarks = sym bookmarks ∙ sym same_bookmarks in
       let given = subst (λ x. Opens begins watches x u.bookmarks s options.start (Ok o) t) seen (subst (λ b. Opens begins watches v b s options.start (Ok o) t) marks opens) in
-      let whole : unwritten u ≡ u.out.items = ap (λ n. drop n u.out.items) none in
+      let first : drop u.taken u.out.items ≡ u.out.items = ap (λ n. drop n u.out.items) none in
+      let rest : u.rest ++ u.later.items ≡ w.opened.rest = ap (λ t. u.rest ++ t) nothing ∙ append-nil u.rest ∙ same_rest in
+      let whole : unwritten u ≡ opening_of w.opened =
+      ap (λ t. t ++ (u.rest ++ u.later.items)) (first ∙ same_out) ∙ ap (λ t. w.opened.text.items ++ t) rest in
       let out : unwritten u ≡ opening_text (view_of u.view).kind o ++ [] =
-      whole ∙ same_out ∙ text ∙ ap (λ x. opening_text x.kind o) seen ∙ sym (append-nil (opening_text (view_of u.view).kind o)) in
+      whole ∙ text ∙ ap (λ x. opening_text x.kind o) seen ∙ sym (append-nil (opening_text (view_of u.view).kind o)) in
       let watch = subst (λ at. IsWatch calls lists begins watches read (view_of u.view) u.bookmarks at (unwritten u)) (sym same_at)
       (options, subst (λ x. Asks read (Some (Ok (targets.watch x options)))) seen asks, sym marks, (o, [], ((s, t, given), tt), (tt, stands, idle), out)) in
-      let bounded : IsBounded u = omega (arith, ap length whole, size) in
+      let bounded : IsBounded u = omega (arith, ap length first, size, ap length nothing, length-append (drop u.taken u.out.items) u.later.items) in
       (watch, bounded)
 
   -- what is to be written for what was asked
@@ -86,8 +84,8 @@ module _ {S : Type 0} (calls : S → Request → List ℕ → Outcome → S → 
   answer_stands a moment s t read (response.Reply x) p asks responds (r, is, text, none, came) =
       subst (λ q. AtPhase q read []) (sym is)
       (reply_stands a moment s t read r asks (subst (λ y. Replies calls lists begins watches moment s t (Ok a) (text_of y)) (sym text) responds) none)
-  answer_stands a moment s t read (response.Watch x) p asks responds (w, is, view, bookmarks, at, out, none, size) =
-      subst (λ q. AtPhase q read []) (sym is) (opens_stand a moment s t read x w asks responds view bookmarks at (ap (λ v. v.items) out) none size)
+  answer_stands a moment s t read (response.Watch x) p asks responds (w, is, view, bookmarks, at, out, none, rest, nothing, size) =
+      subst (λ q. AtPhase q read []) (sym is) (opens_stand a moment s t read x w asks responds view bookmarks at (ap (λ v. v.items) out) none rest nothing size)
 
   -- ---- what is written
 
@@ -124,12 +122,9 @@ module _ {S : Type 0} (calls : S → Request → List ℕ → Outcome → S → 
 
   pub watches_stand : (before after : Option (List ℕ)) (w : Watching) (result : Phase) (read written : List ℕ) → WatchesOn before after w result → AtPhase (phase.Watching w) read written
       → (put : List ℕ) × Appends before after put × AtPhase result read (written ++ put)
-  watches_stand before after w (phase.Watching u) read written (n, (put, appends, is), ((view, bookmarks, opened), at, out)) (stands, bounded) =
-      let left = left_of w.out.items put w.taken n is in
-      let all : (written ++ put) ++ unwritten u ≡ written ++ unwritten w =
-      append_assoc written put (unwritten u) ∙ ap (λ t. written ++ (put ++ t)) out ∙ ap (λ t. written ++ t) left in
-      let less : IsBounded u = omega (arith, bounded, opened, ap length out, ap length left, length-append put (drop n w.out.items)) in
-      (put, appends, (moved w u ((written ++ put) ++ unwritten u) (written ++ unwritten w) view bookmarks at all stands, less))
+  watches_stand before after w (phase.Watching u) read written h (stands, bounded) =
+      let all : (written ++ h.put) ++ unwritten u ≡ written ++ unwritten w = append_assoc written h.put (unwritten u) ∙ ap (λ t. written ++ t) h.rest in
+      (h.put, h.appends, (moved w u ((written ++ h.put) ++ unwritten u) (written ++ unwritten w) h.same.0 h.same.1 h.at all stands, h.bounded bounded))
     where
       moved : (w u : Watching) (new old : List ℕ) → u.view ≡ w.view → u.bookmarks ≡ w.bookmarks → u.at ≡ w.at → new ≡ old
           → IsWatch calls lists begins watches read (view_of w.view) w.bookmarks w.at old → IsWatch calls lists begins watches read (view_of u.view) u.bookmarks u.at new
@@ -138,14 +133,13 @@ module _ {S : Type 0} (calls : S → Request → List ℕ → Outcome → S → 
           (subst (λ b. IsWatch calls lists begins watches read (view_of w.view) b u.at new) (sym bookmarks)
           (subst (λ a. IsWatch calls lists begins watches read (view_of w.view) w.bookmarks a new) (sym at)
           (subst (IsWatch calls lists begins watches read (view_of w.view) w.bookmarks w.at) (sym same) watch)))
-  watches_stand before after w (phase.Closing s) read written (n, (put, appends, is), by) (stands, bounded) =
-      let all : (written ++ put) ++ drop n w.out.items ≡ written ++ unwritten w =
-      append_assoc written put (drop n w.out.items) ∙ ap (λ t. written ++ t) (left_of w.out.items put w.taken n is) in
-      (put, appends, watch_closes read (written ++ put) (drop n w.out.items) (written ++ unwritten w) (view_of w.view) w.bookmarks w.at s stands all)
-  watches_stand before after w (phase.Reading a) read written (n, sent, never) stands = absurd never
-  watches_stand before after w (phase.Asked a) read written (n, sent, never) stands = absurd never
-  watches_stand before after w phase.Answering read written (n, sent, never) stands = absurd never
-  watches_stand before after w (phase.Replying r) read written (n, sent, never) stands = absurd never
+  watches_stand before after w (phase.Closing s) read written (by, (put, left, appends, is)) (stands, bounded) =
+      let all : (written ++ put) ++ left ≡ written ++ unwritten w = append_assoc written put left ∙ ap (λ t. written ++ t) is in
+      (put, appends, watch_closes read (written ++ put) left (written ++ unwritten w) (view_of w.view) w.bookmarks w.at s stands all)
+  watches_stand before after w (phase.Reading a) read written never stands = absurd never
+  watches_stand before after w (phase.Asked a) read written never stands = absurd never
+  watches_stand before after w phase.Answering read written never stands = absurd never
+  watches_stand before after w (phase.Replying r) read written never stands = absurd never
 
   -- ---- turns
 

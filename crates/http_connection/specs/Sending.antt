@@ -1,5 +1,5 @@
 -- Bytes that are written as far as they are taken.
-use Rattle.std.specs.Prelude.{◌≡◌, ℕ, List, ◌++◌, take, drop, Option}
+use Rattle.std.specs.Prelude.{◌≡◌, ℕ, List, ◌++◌, take, Option, Some, None}
 use Rattle.std.specs.Io.KnownBytes.{Appends}
 use Rattle.api.specs.Responding.{text_of}
 use Rattle.api.specs.declared.served.Served.TheVariants as served
@@ -9,7 +9,7 @@ use Rattle.http_connection.specs.declared.replying.Replying.{Replying}
 use Rattle.http_connection.specs.declared.sending.Sent.{Sent}
 use Rattle.http_connection.specs.declared.sending.Sent.TheVariants as sent
 use Rattle.http_connection.specs.declared.watching.Watching.{Watching}
-use Rattle.http_connection.specs.Watches.{unwritten, IsSameWatch}
+use Rattle.http_connection.specs.Watches.{unwritten, IsBounded, IsSameWatch}
 
 -- of the bytes, of which some were written, so many are written in all
 abbrev pub IsSent : Option (List ℕ) → Option (List ℕ) → List ℕ → ℕ → ℕ → Type 0
@@ -32,14 +32,42 @@ RepliedTo r n (phase.Watching w) = ⊥
 abbrev pub RepliesOn : Option (List ℕ) → Option (List ℕ) → Replying → Phase → Type 0
 RepliesOn before after r result = (n : ℕ) × IsSent before after (text_of r.text) r.taken n × RepliedTo r n result
 
--- and of its watch
-abbrev pub WatchedTo : Watching → ℕ → Phase → Type 0
-WatchedTo w n (phase.Watching u) = IsSameWatch w u × (u.at ≡ w.at) × (unwritten u ≡ drop n w.out.items)
-WatchedTo w n (phase.Closing s) = s ≡ served.Asked
-WatchedTo w n (phase.Reading a) = ⊥
-WatchedTo w n (phase.Asked a) = ⊥
-WatchedTo w n phase.Answering = ⊥
-WatchedTo w n (phase.Replying r) = ⊥
+-- ---- watches
 
+-- some of what is to be written was, and the rest is left
+abbrev pub IsBegun : Option (List ℕ) → Option (List ℕ) → Watching → Type 0
+IsBegun before after w = (put : List ℕ) × (left : List ℕ) × Appends before after put × (put ++ left ≡ unwritten w)
+
+-- a watch that is to be written the same
+abbrev pub IsAsFar : Watching → Watching → Type 0
+IsAsFar w u = IsSameWatch w u × (u.at ≡ w.at) × (unwritten u ≡ unwritten w) × (IsBounded w → IsBounded u)
+
+-- one that is to be written the rest, after some was
+pub record IsWritten (before after : Option (List ℕ)) (w u : Watching) : Type 0 where
+  pub put : List ℕ
+  pub appends : Appends before after put
+  pub rest : put ++ unwritten u ≡ unwritten w
+  pub same : IsSameWatch w u
+  pub at : u.at ≡ w.at
+  pub bounded : IsBounded w → IsBounded u
+
+abbrev pub WatchSends : Option (List ℕ) → Option (List ℕ) → Watching → Option Watching → Type 0
+WatchSends before after w (Some u) = IsWritten before after w u
+WatchSends before after w None = IsBegun before after w
+
+abbrev pub Rests : Watching → Phase → Type 0
+Rests w (phase.Watching u) = IsAsFar w u
+Rests w (phase.Closing s) = s ≡ served.Asked
+Rests w (phase.Reading a) = ⊥
+Rests w (phase.Asked a) = ⊥
+Rests w phase.Answering = ⊥
+Rests w (phase.Replying r) = ⊥
+
+-- where a connection stands once some more of its watch is written
 abbrev pub WatchesOn : Option (List ℕ) → Option (List ℕ) → Watching → Phase → Type 0
-WatchesOn before after w result = (n : ℕ) × IsSent before after w.out.items w.taken n × WatchedTo w n result
+WatchesOn before after w (phase.Watching u) = IsWritten before after w u
+WatchesOn before after w (phase.Closing s) = (s ≡ served.Asked) × IsBegun before after w
+WatchesOn before after w (phase.Reading a) = ⊥
+WatchesOn before after w (phase.Asked a) = ⊥
+WatchesOn before after w phase.Answering = ⊥
+WatchesOn before after w (phase.Replying r) = ⊥

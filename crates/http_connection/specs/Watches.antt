@@ -53,15 +53,20 @@ text_by_then k bookmarks o looks None = opening_text k o ++ ended_frames k bookm
 
 -- ---- what is still to be written
 
+-- what is being written, what it opened with and is still to be made, and what is to be written after that
 abbrev pub unwritten : Watching → List ℕ
-unwritten w = drop w.taken w.out.items
+unwritten w = drop w.taken w.out.items ++ (w.rest ++ w.later.items)
 
--- the most bytes that may be left unwritten beside those with which a watch opened
+-- what is made of it
+abbrev pub made : Watching → List ℕ
+made w = drop w.taken w.out.items ++ w.later.items
+
+-- the most bytes that may be made and left unwritten, beside those that were made as a watch opened
 abbrev pub most_unwritten : ℕ
 most_unwritten = 4194304
 
 abbrev pub IsBounded : Watching → Type 0
-IsBounded w = length (unwritten w) ≤ w.opened + most_unwritten
+IsBounded w = length (made w) ≤ w.opened + most_unwritten
 
 -- it is the same watch, wherever it stands
 abbrev pub IsSameWatch : Watching → Watching → Type 0

@@ -26,7 +26,7 @@ fn replied(text: Text) -> Phase
 }
 
 /// Returns where a connection stands whose watch has opened.
-fn opened(watch: OpenWatch) -> Phase
+fn opened(alloc: Global, watch: OpenWatch) -> Phase
     ensures { IsToBeWritten (response.Watch watch) result }
 {
     Phase::Watching(Watching {
@@ -36,17 +36,19 @@ fn opened(watch: OpenWatch) -> Phase
         opened: watch.opened.text.len(),
         out: watch.opened.text,
         taken: 0,
+        rest: watch.opened.rest,
+        later: Vec::new(alloc),
     })
 }
 
 /// Returns where a connection stands whose request is whole, once this is the response to it. Nothing was written yet.
-pub fn answered(response: Response) -> Phase
+pub fn answered(alloc: Global, response: Response) -> Phase
     ensures { IsToBeWritten response result }
 {
     match response {
         Response::Nothing => Phase::Closing(Served::NotAsked),
         Response::Reply(text) => replied(text),
-        Response::Watch(watch) => opened(watch),
+        Response::Watch(watch) => opened(alloc, watch),
     }
 }
 
@@ -56,5 +58,5 @@ pub fn answer<S: Site>(alloc: Global, asked: Asked, site: &mut S, moment: Moment
     ensures stands { (read written : List ℕ) → Stands S.Calls S.Lists S.Begins S.Watches (phase.Asked asked) read written
         → Stands S.Calls S.Lists S.Begins S.Watches result read written }
 {
-    answered(respond_to(alloc, asked, site, moment))
+    answered(alloc, respond_to(alloc, asked, site, moment))
 }

@@ -21,7 +21,7 @@ pub fn end_watch<S: Site>(alloc: Global, watching: Watching) -> Phase
         → Stands S.Calls S.Lists S.Begins S.Watches result read written }
 {
     match watching.at {
-        Some(_) => with_end(alloc, watching, Vec::new(alloc)),
+        Some(_) => with_end(watching, Vec::new(alloc)),
         None => Phase::Watching(watching),
     }
 }

@@ -1,73 +1,62 @@
 //! Watches that go on.
-ghost use Rattle.std.specs.Prelude.{◌≡◌, ◌++◌, ℕ, List, Some, None, IfSome, drop};
+ghost use Rattle.std.specs.Prelude.{◌≡◌, ◌++◌, ℕ, List, Some, None, IfSome};
 ghost use Rattle.chunked.specs.Bodies.{last_chunk};
 ghost use Rattle.http_connection.specs.Looking.{Adds, LooksFrom};
 ghost use Rattle.http_connection.specs.Phases.{Stands};
 ghost use Rattle.http_connection.specs.declared.phase.Phase.TheVariants as phase;
 
 use crate::phase::Phase;
-use crate::watching::{MOST_UNWRITTEN, Watching};
+use crate::watching::Watching;
 use api::Served;
 use responses::last_chunk;
 use sites::Site;
 use std::alloc::Global;
 use watch_service::{MOST_IDLE, Standing, take_look};
 
-/// Returns what is still to be written after a text is added, and how many of its bytes were written already; nothing where memory ran
-/// out. What was written is dropped as soon as it is more than what is left.
-fn with_more(alloc: Global, out: Vec<u8>, taken: usize, text: Vec<u8>) -> Option<(Vec<u8>, usize)>
-    ensures { IfSome result (λ r. drop r.1 r.0.items ≡ drop taken out.items ++ text.items) }
+/// Returns a text after another one; nothing where memory ran out.
+fn joined(first: Vec<u8>, second: Vec<u8>) -> Option<Vec<u8>>
+    ensures { IfSome result (λ text. text.items ≡ first.items ++ second.items) }
 {
-    if taken >= out.len() {
-        return Some((text, 0));
+    if first.is_empty() {
+        return Some(second);
     }
-    if taken > out.len() / 2 {
-        let mut left = match Vec::from_slice(alloc, out.as_slice().split_at(taken).1) {
-            Ok(left) => left,
-            Err(_) => return None,
-        };
-        return match left.extend_from_slice(&text) {
-            Ok(()) => Some((left, 0)),
-            Err(_) => None,
-        };
-    }
-    let mut out = out;
-    match out.extend_from_slice(&text) {
-        Ok(()) => Some((out, taken)),
+    let mut text = first;
+    match text.extend_from_slice(&second) {
+        Ok(()) => Some(text),
         Err(_) => None,
     }
 }
 
 /// Returns a watch that stands here, with more to be written. It is left, unfinished, where that is more than may be left unwritten, or
 /// memory ran out.
-fn with_text(alloc: Global, watching: Watching, text: Vec<u8>, at: Option<Standing>) -> Phase
+fn with_text(watching: Watching, text: Vec<u8>, at: Option<Standing>) -> Phase
     ensures { Adds watching text.items at result }
 {
-    let most = watching.opened.saturating_add(MOST_UNWRITTEN);
-    let left = watching.left();
-    if left > most || text.len() > most - left {
+    if !watching.has_room(watching.left(), text.len()) {
         return Phase::Closing(Served::Asked);
     }
-    match with_more(alloc, watching.out, watching.taken, text) {
-        Some((out, taken)) => Phase::Watching(Watching {
+    match joined(watching.later, text) {
+        Some(later) => Phase::Watching(Watching {
             view: watching.view,
             bookmarks: watching.bookmarks,
-            opened: watching.opened,
             at,
-            out,
-            taken,
+            opened: watching.opened,
+            out: watching.out,
+            taken: watching.taken,
+            rest: watching.rest,
+            later,
         }),
         None => Phase::Closing(Served::Asked),
     }
 }
 
 /// Returns a watch that is over after this text, with its end to be written.
-pub(crate) fn with_end(alloc: Global, watching: Watching, text: Vec<u8>) -> Phase
+pub(crate) fn with_end(watching: Watching, text: Vec<u8>) -> Phase
     ensures { Adds watching (text.items ++ last_chunk) None result }
 {
     let mut text = text;
     match text.extend_from_slice(last_chunk()) {
-        Ok(()) => with_text(alloc, watching, text, None),
+        Ok(()) => with_text(watching, text, None),
         Err(_) => Phase::Closing(Served::Asked),
     }
 }
@@ -77,12 +66,12 @@ fn look_from<S: Site>(alloc: Global, watching: Watching, at: Standing, source: &
     ensures { LooksFrom S.Watches watching source.old source.new (Some at) result }
 {
     if at.idle >= MOST_IDLE {
-        return with_end(alloc, watching, Vec::new(alloc));
+        return with_end(watching, Vec::new(alloc));
     }
     match take_look(alloc, source, &watching.view, watching.bookmarks, at) {
         Ok(looked) => match looked.next {
-            Some(next) => with_text(alloc, watching, looked.text, Some(next)),
-            None => with_end(alloc, watching, looked.text),
+            Some(next) => with_text(watching, looked.text, Some(next)),
+            None => with_end(watching, looked.text),
         },
         Err(_) => Phase::Closing(Served::Asked),
     }

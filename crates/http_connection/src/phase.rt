@@ -40,7 +40,7 @@ impl Phase {
     {
         match self {
             Phase::Replying(_) => true,
-            Phase::Watching(watching) => watching.left() > 0,
+            Phase::Watching(watching) => watching.has_more(),
             _ => false,
         }
     }

@@ -1,7 +1,7 @@
 //! Bytes, written as far as they are taken.
-ghost use Rattle.std.specs.Prelude.{◌≡◌, IfSome};
+ghost use Rattle.std.specs.Prelude.{◌≡◌, ◌≤◌, IfSome, length};
 ghost use Rattle.api.specs.Responding.{text_of};
-ghost use Rattle.http_connection.specs.Sending.{Sends, RepliesOn, WatchedTo, WatchesOn};
+ghost use Rattle.http_connection.specs.Sending.{IsAsFar, RepliesOn, Rests, Sends, WatchSends, WatchesOn};
 
 use crate::phase::Phase;
 use crate::replying::Replying;
@@ -93,12 +93,52 @@ pub(crate) fn reply_on<W: Write>(alloc: Global, replying: Replying, writer: &mut
     })
 }
 
-/// Returns where the connection of a watch stands once so much of what was to be written is.
-fn watched(alloc: Global, watching: Watching, taken: usize) -> Phase
-    ensures { WatchedTo watching taken result }
+/// Writes on what is made of a watch, and returns it then; nothing where the writer failed.
+fn watch_sent<W: Write>(watching: Watching, writer: &mut W) -> Option<Watching>
+    ensures { WatchSends (W.contents writer.old) (W.contents writer.new) watching result }
 {
-    if taken < watching.out.len() {
-        return Phase::Watching(Watching { taken, ..watching });
+    match write_on(&watching.out, watching.taken, writer) {
+        Sent::To(taken) => Some(Watching { taken, ..watching }),
+        Sent::Failed => None,
+    }
+}
+
+/// Returns a watch with what is to be written after what is, made; nothing where there is no memory for it, or it is more than may be left
+/// unwritten.
+fn refilled(alloc: Global, watching: Watching) -> Option<Watching>
+    requires written { length watching.out.items ≤ watching.taken }
+    ensures { IfSome result (λ w. IsAsFar watching w) }
+{
+    if !watching.rest.has_more() {
+        return Some(Watching {
+            out: watching.later,
+            taken: 0,
+            later: Vec::new(alloc),
+            ..watching
+        });
+    }
+    let mut watching = watching;
+    let mut out = Vec::new(alloc);
+    if watching.rest.push_next(alloc, &mut out).is_err() {
+        return None;
+    }
+    if !watching.has_room(out.len(), watching.later.len()) {
+        return None;
+    }
+    Some(Watching {
+        out,
+        taken: 0,
+        ..watching
+    })
+}
+
+/// Returns where the connection of a watch stands that is written as far as it goes now. One that is over is closed once its end is
+/// written.
+fn rested(alloc: Global, watching: Watching) -> Phase
+    ensures { Rests watching result }
+{
+    if watching.has_more() {
+        return Phase::Watching(watching);
     }
     if watching.at.is_none() {
         return Phase::Closing(Served::Asked);
@@ -110,12 +150,23 @@ fn watched(alloc: Global, watching: Watching, taken: usize) -> Phase
     })
 }
 
-/// Writes a watch on, and returns where its connection then stands. One that is over is closed once its end is written.
+/// Writes a watch on, and returns where its connection then stands. What it opened with is made as it is written.
 pub(crate) fn watch_on<W: Write>(alloc: Global, watching: Watching, writer: &mut W) -> Phase
     ensures { WatchesOn (W.contents writer.old) (W.contents writer.new) watching result }
 {
-    match write_on(&watching.out, watching.taken, writer) {
-        Sent::To(n) => watched(alloc, watching, n),
-        Sent::Failed => Phase::Closing(Served::Asked),
+    let mut watching = watching;
+    for _ in 0..u64::MAX {
+        match watch_sent(watching, writer) {
+            Some(now) => watching = now,
+            None => return Phase::Closing(Served::Asked),
+        }
+        if watching.taken < watching.out.len() || !watching.has_more() {
+            return rested(alloc, watching);
+        }
+        match refilled(alloc, watching) {
+            Some(more) => watching = more,
+            None => return Phase::Closing(Served::Asked),
+        }
     }
+    Phase::Closing(Served::Asked)
 }

@@ -1,9 +1,9 @@
 //! A watch that is being written.
-ghost use Rattle.std.specs.Prelude.{◌≡◌, length};
-ghost use Rattle.http_connection.specs.Watches.{unwritten};
+ghost use Rattle.std.specs.Prelude.{◌≡◌, ◌≤◌, ◌+◌, length, nat_lt, true};
+ghost use Rattle.http_connection.specs.Watches.{made, most_unwritten, unwritten};
 
 use selector::View;
-use watch_service::Standing;
+use watch_service::{FirstFrames, Standing};
 
 /// How many bytes of the frames of a watch may be left unwritten. A watch whose peer leaves more is left.
 pub const MOST_UNWRITTEN: usize = 4_194_304;
@@ -17,19 +17,38 @@ pub struct Watching {
     pub bookmarks: bool,
     /// Where it stands: nowhere once it is over.
     pub at: Option<Standing>,
-    /// How many bytes it opened with, which may be left unwritten beside those of frames.
+    /// How many bytes were made as it opened, which may be left unwritten beside those of frames.
     pub opened: usize,
-    /// What is still to be written, after what was.
+    /// What is being written.
     pub out: Vec<u8>,
     /// How many of these bytes were written.
     pub taken: usize,
+    /// What it opened with and is still to be made. It is to be written after these.
+    pub rest: FirstFrames,
+    /// What is to be written after all of that: the frames of its looks, and its end.
+    pub later: Vec<u8>,
 }
 
 impl Watching {
-    /// Returns how many bytes are still to be written.
+    /// Returns how many bytes that are made are still to be written.
     pub fn left(&self) -> usize
-        ensures { result ≡ length (unwritten self.now) }
+        ensures { result ≡ length (made self.now) }
     {
-        self.out.len().saturating_sub(self.taken)
+        self.out.len().saturating_sub(self.taken) + self.later.len()
+    }
+
+    /// Returns whether bytes are still to be written, made or not.
+    pub fn has_more(&self) -> bool
+        ensures { result ≡ nat_lt 0 (length (unwritten self.now)) }
+    {
+        self.left() > 0 || self.rest.has_more()
+    }
+
+    /// Returns whether so many bytes may be left unwritten, and so many more.
+    pub(crate) fn has_room(&self, left: usize, more: usize) -> bool
+        ensures { result ≡ true → left + more ≤ self.now.opened + most_unwritten }
+    {
+        let most = self.opened.saturating_add(MOST_UNWRITTEN);
+        left <= most && more <= most - left
     }
 }

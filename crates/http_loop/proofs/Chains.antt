@@ -1,5 +1,5 @@
 -- What was asked, one thing after another.
-use Rattle.std.proofs.Common.{◌≡◌, ◌≤◌, ◌+◌, ℕ, zero, suc, Bool, true, false, List, Option, Some, None, Result, Ok, Err, inl, inr, refl, sym, ap, subst, ◌∙◌, arith}
+use Rattle.std.proofs.Common.{◌≡◌, ◌≤◌, ◌+◌, ℕ, zero, suc, Bool, true, false, List, Option, Some, None, Result, inl, inr, refl, sym, subst, ◌∙◌, arith}
 use Rattle.definitions.specs.ListQueries.{ListOptions}
 use Rattle.definitions.specs.History.{View}
 use Rattle.definitions.specs.ObjectRequests.{Request}
@@ -14,7 +14,7 @@ use Rattle.http_connection.specs.Looking.{LooksFrom}
 use Rattle.http_connection.specs.Phases.{Answers}
 use Rattle.http_connection.specs.declared.phase.Phase.{Phase}
 use Rattle.http_connection.specs.declared.watching.Watching.{Watching}
-use Rattle.http_loop.specs.Asked.{IsRequest, IsLook, AreLooks, AreAsked, HasAsked}
+use Rattle.http_loop.specs.Asked.{AreLooks, AreAsked, HasAsked}
 use Rattle.http_loop.specs.declared.asker.Asker.{Asker}
 
 module _ {S : Type 0} (calls : S → Request → List ℕ → Outcome → S → Type 0) (lists : S → View → ListOptions → Outcome → S → Type 0)

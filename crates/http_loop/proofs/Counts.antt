@@ -1,5 +1,5 @@
 -- How many connections loops took, one loop after another.
-use Rattle.std.proofs.Common.{◌≡◌, ◌+◌, ℕ, List, [], ◌∷◌, ◌++◌, refl, ap, sym, ◌∙◌, arith}
+use Rattle.std.proofs.Common.{◌≡◌, ◌+◌, List, [], ◌∷◌, ◌++◌, arith}
 use Rattle.http_loop.specs.Counted.{taken_over}
 use Rattle.http_loop.specs.declared.event_loop.EventLoop.{EventLoop}
 

@@ -41,7 +41,7 @@ pub fn seconds(phase: &Phase) -> Option<u64>
         Phase::Reading(arriving) => Some(reading_seconds(arriving)),
         Phase::Replying(_) => Some(WRITING_SECONDS),
         Phase::Watching(watching) => {
-            if watching.left() > 0 {
+            if watching.has_more() {
                 Some(WRITING_SECONDS)
             } else {
                 None

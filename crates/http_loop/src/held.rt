@@ -49,13 +49,18 @@ pub(crate) struct Held {
     left: Option<usize>,
 }
 
-/// Returns how much there is to take: less after something was taken.
-fn extent(phase: &Phase) -> usize {
+/// Returns how much there is to take: objects whose frames are still to be made, and bytes that are.
+fn extent(phase: &Phase) -> (usize, usize) {
     match phase {
-        Phase::Replying(replying) => usize::MAX - replying.taken,
-        Phase::Watching(watching) => watching.left(),
-        _ => 0,
+        Phase::Replying(replying) => (0, usize::MAX - replying.taken),
+        Phase::Watching(watching) => (watching.rest.objects_left(), watching.left()),
+        _ => (0, 0),
     }
+}
+
+/// Returns whether there was nothing to take, or there is less than there was: something was taken.
+fn has_taken(before: (usize, usize), now: (usize, usize)) -> bool {
+    (before.0 == 0 && before.1 == 0) || now.0 < before.0 || (now.0 == before.0 && now.1 < before.1)
 }
 
 impl Held {
@@ -88,7 +93,7 @@ impl Held {
         let mut reader = &self.stream;
         let mut writer = &self.stream;
         self.phase = turn::<S, _, _>(alloc, routes, phase, &mut reader, &mut writer);
-        if before == 0 || extent(&self.phase) < before {
+        if has_taken(before, extent(&self.phase)) {
             self.took = now;
         }
     }
@@ -128,7 +133,7 @@ impl Held {
     {
         match self.take_phase() {
             Phase::Watching(watching) => {
-                if watching.left() == 0 {
+                if !watching.has_more() {
                     self.took = now;
                 }
                 self.phase = asker.look(alloc, watching);
@@ -139,10 +144,12 @@ impl Held {
         }
     }
 
-    /// Returns whether a look may be taken: its peer has taken enough of what was to be written.
+    /// Returns whether a look may be taken: all that the watch opened with is made, and its peer has taken enough of what was to be written.
     pub(crate) fn can_look(&self) -> bool {
         match &self.phase {
-            Phase::Watching(watching) => watching.at.is_some() && watching.left() < MOST_AHEAD,
+            Phase::Watching(watching) => {
+                watching.at.is_some() && !watching.rest.has_more() && watching.left() < MOST_AHEAD
+            }
             _ => false,
         }
     }

@@ -19,7 +19,7 @@ use std::sync::Wait;
 use std::sync::ledger::Ledger;
 use std::time::Instant;
 
-/// How many watches of which nothing is known to have changed are looked at in a tick.
+/// How many watches of which nothing is known to have changed are looked at in a tick, over all loops; but each looks at one at least.
 const MOST_IDLE_LOOKS: usize = 64;
 
 /// How many looks a watch takes as the loop stops, at most.
@@ -246,6 +246,12 @@ impl<'a> Connections<'a> {
         let _ = self.rota.take_turn();
     }
 
+    /// Returns how many watches of which nothing is known to have changed are looked at in a tick here.
+    fn idle_looks(&self) -> usize {
+        let part = MOST_IDLE_LOOKS / self.loops.count().max(1);
+        self.rota.len().min(part.max(1))
+    }
+
     /// Takes one look of each of the watches whose turn it is, of no more than may be looked at in a tick.
     #[tactic(auto, using(crate::proofs::Chains::asks_on, crate::proofs::Chains::asks_nothing))]
     pub(crate) fn look_in_turn<S: Site, L: Ledger>(
@@ -255,7 +261,7 @@ impl<'a> Connections<'a> {
     )
         ensures { HasAsked S.Calls S.Lists S.Begins S.Watches asker.old asker.new }
     {
-        for _ in 0..self.rota.len().min(MOST_IDLE_LOOKS) {
+        for _ in 0..self.idle_looks() {
             if let Some(key) = self.rota.take_turn() {
                 self.look(key, asker, now);
             }

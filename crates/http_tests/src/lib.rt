@@ -9,6 +9,8 @@ mod chunk_writing;
 #[cfg(test)]
 mod heads;
 #[cfg(test)]
+mod initial_streams;
+#[cfg(test)]
 mod line_runs;
 #[cfg(test)]
 mod receiving;

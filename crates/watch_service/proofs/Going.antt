@@ -1,5 +1,5 @@
 -- A watch under way.
-use Rattle.std.proofs.Common.{◌≡◌, ◌≤◌, ◌<◌, inl, inr, ℕ, List, [], ◌∷◌, ◌++◌, Bool, true, false, Option, Some, None, Result, Ok, Err, refl, sym, ap, subst, ◌∙◌, append_assoc, append-nil}
+use Rattle.std.proofs.Common.{◌≡◌, ◌≤◌, ◌<◌, inl, inr, ℕ, List, [], ◌∷◌, ◌++◌, Bool, false, Option, Some, None, Result, Ok, Err, refl, sym, ap, subst, ◌∙◌, append_assoc, append-nil}
 use Rattle.std.proofs.KnownBytes.{Appends-trans}
 use Rattle.std.specs.Io.KnownBytes.{Appends}
 use Rattle.definitions.specs.History.{View}
@@ -13,7 +13,7 @@ use Rattle.watch_service.specs.declared.fault.Cut.{Cut}
 use Rattle.watch_service.specs.declared.fault.Cut.TheVariants as cut
 use Rattle.watch_service.specs.declared.standing.Standing.{Standing}
 use Rattle.watch_service.specs.Looked.{Writes, LooksOnce}
-use Rattle.watch_service.specs.Served.{Follows}
+use Rattle.watch_service.specs.Served.{Follows, WritesInParts}
 use Rattle.watch_service.specs.Watches.{Look, Looks, Ends, look_frames, ended_frames, idle_after, most_changes, most_idle}
 
 pub appends_none : (known : Option (List ℕ)) → Appends known known []
@@ -21,7 +21,7 @@ appends_none None = tt
 appends_none (Some xs) = sym (append-nil xs)
 
 -- text and then a beginning of more is a beginning of both
-begun_then : (before now after : Option (List ℕ)) (text more : List ℕ) → Appends before now text → AppendsBeginning now after more → AppendsBeginning before after (text ++ more)
+pub begun_then : (before now after : Option (List ℕ)) (text more : List ℕ) → Appends before now text → AppendsBeginning now after more → AppendsBeginning before after (text ++ more)
 begun_then before now after text more a b =
     (text ++ b.0, b.1, Appends-trans before now after text b.0 a b.2, append_assoc text b.0 b.1 ∙ ap (λ t. text ++ t) b.3)
 
@@ -142,9 +142,9 @@ module _ {S D : Type 0} (watches : S → View → ℕ → ℕ → Look → S →
   follows_after s t before start after text at idle (Err c) a (looks, l, inr (e, x), f) = (looks, l, inr (e, begun_then _ _ _ text (ended_frames v.kind b at looks) a x), f)
 
   -- the opening was not written whole
-  pub left_opening : (s : S) (before after : device.Watched D) (text : List ℕ) (at idle : ℕ) → AppendsBeginning (contents (device_of before)) (contents (device_of after)) text
-      → has_failed after ≡ true → Follows watches v b contents s s before after text at idle (Err cut.Device)
-  left_opening s before after text at idle a f =
+  pub left_opening : (s : S) (before after : device.Watched D) (text : List ℕ) (at idle : ℕ) (c : Cut) → WritesInParts text contents before after (Err c)
+      → Follows watches v b contents s s before after text at idle (Err c)
+  left_opening s before after text at idle c (f, a) =
       ([], refl, inl (subst (AppendsBeginning (contents (device_of before)) (contents (device_of after))) (sym (append-nil text)) a), f)
 
   -- from where a watch that has opened stands

@@ -1,2 +1,3 @@
 pub mod LineFrames
 pub mod Going
+pub mod Pieces

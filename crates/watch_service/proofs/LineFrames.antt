@@ -11,6 +11,7 @@ use Rattle.chunked.specs.Bodies.{chunk_text}
 use Rattle.connections.specs.Replies.{frames_text}
 use Rattle.responses.specs.Frames.{change_frames, object_frames}
 use Rattle.revisions.specs.Watches.{last_bookmark}
+use Rattle.watch_service.specs.FirstFrames.{first_frames}
 use Rattle.watch_service.specs.Given.{Shows}
 use Rattle.watch_service.specs.declared.begun.Begun.{Begun}
 
@@ -32,10 +33,21 @@ frames-of_opening k bookmarks r ms = frames-append k (added_lines ms) (closing_l
 
 -- the text of a head, of what is there, and of the bookmark that closes it
 pub opening_is : (k : Kind) (bookmarks : Bool) (b : Begun) (ms : Entries) (head text : List ℕ) → Shows ms b
-    → text ≡ (head ++ object_frames (map (λ o. o.value) b.objects.items)) ++ frames_text k (closing_lines bookmarks b.revision) → text ≡ head ++ frames_text k (opening_lines bookmarks b.revision ms)
+    → text ≡ head ++ first_frames k bookmarks b.revision b.objects.items → text ≡ head ++ frames_text k (opening_lines bookmarks b.revision ms)
 opening_is k bookmarks b ms head text shown is =
     let closing = frames_text k (closing_lines bookmarks b.revision) in
-    is ∙ append_assoc head (object_frames (map (λ o. o.value) b.objects.items)) closing ∙ ap (λ t. head ++ t) (sym (frames-of_opening k bookmarks b.revision ms ∙ ap (λ d. object_frames d ++ closing) shown))
+    is ∙ ap (λ t. head ++ t) (sym (frames-of_opening k bookmarks b.revision ms ∙ ap (λ d. object_frames d ++ closing) shown))
+
+-- that of a head, and of what is there
+pub listing_is : (k : Kind) (b : Begun) (ms : Entries) (head text : List ℕ) → Shows ms b → text ≡ head ++ first_frames k false b.revision b.objects.items
+    → text ≡ head ++ frames_text k (added_lines ms)
+listing_is k b ms head text shown is =
+    let frames = object_frames (map (λ o. o.value) b.objects.items) in
+    is ∙ ap (λ t. head ++ t) (append-nil frames ∙ sym (frames-of_members k ms ∙ ap object_frames shown))
+
+-- a text of which nothing is left to be made
+pub made_is : (text rest whole : List ℕ) → text ≡ whole → rest ≡ [] → text ++ rest ≡ whole
+made_is text rest whole is none = ap (λ t. text ++ t) none ∙ append-nil text ∙ is
 
 -- changes, and then a bookmark or none
 pub frames-of_look : (k : Kind) (cs : List Event) (b : Option ℕ) → frames_text k (map event cs ++ last_bookmark b) ≡ change_frames cs ++ frames_text k (last_bookmark b)

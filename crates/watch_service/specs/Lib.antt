@@ -1,5 +1,6 @@
 pub mod Watches
 pub mod Given
 pub mod Looked
+pub mod FirstFrames
 pub mod Opened
 pub mod Served

@@ -1,5 +1,5 @@
 -- A watch that has opened.
-use Rattle.std.specs.Prelude.{◌≡◌, ◌⊎◌, ℕ, Bool, Option, Result, Ok, Err}
+use Rattle.std.specs.Prelude.{◌≡◌, ◌⊎◌, ℕ, List, ◌++◌, Bool, Option, Result, Ok, Err}
 use Rattle.definitions.specs.declared.versions.Start.{Start}
 use Rattle.definitions.specs.History.{View}
 use Rattle.definitions.specs.Refusals.{Refusal}
@@ -10,6 +10,10 @@ use Rattle.keys.specs.declared.fault.Fault.TheVariants as fault
 use Rattle.watch_service.specs.declared.opening.Opened.{Opened}
 use Rattle.watch_service.specs.Watches.{Look, Opening, Opens, opening_text}
 
+-- what it opens with: what is made of it, and what is still to be made
+abbrev pub opening_of : Opened → List ℕ
+opening_of r = r.text.items ++ r.rest
+
 module _ {S : Type 0} (begins : S → View → Option ℕ → Result Listed Refusal → S → Type 0) (watches : S → View → ℕ → ℕ → Look → S → Type 0) (v : View) (bookmarks : Bool) where
   -- the watch is refused so, or out of memory after it opened
   abbrev pub Refuses : S → S → Start → Fault → Type 0
@@ -18,5 +22,5 @@ module _ {S : Type 0} (begins : S → View → Option ℕ → Result Listed Refu
   -- it opened so, with this text; or it is refused
   abbrev pub IsOpened : Start → S → S → Result Opened Fault → Type 0
   IsOpened start s t (Ok r) =
-      (o : Opening) × Opens begins watches v bookmarks s start (Ok o) t × (r.at.revision ≡ o.stands) × (r.at.idle ≡ o.idle) × (r.text.items ≡ opening_text v.kind o)
+      (o : Opening) × Opens begins watches v bookmarks s start (Ok o) t × (r.at.revision ≡ o.stands) × (r.at.idle ≡ o.idle) × (opening_of r ≡ opening_text v.kind o)
   IsOpened start s t (Err e) = Refuses s t start e

@@ -19,6 +19,11 @@ abbrev pub has_writer_failed : Cut → Bool
 has_writer_failed cut.Device = true
 has_writer_failed cut.NoMemory = false
 
+-- the text was written; or a watch is left so within it, and a beginning was
+abbrev pub WritesInParts : {D : Type 0} → List ℕ → (D → Option (List ℕ)) → Watched D → Watched D → Result (Unit {0}) Cut → Type 0
+WritesInParts text contents old new (Ok u) = (has_failed new ≡ false) × Appends (contents (device_of old)) (contents (device_of new)) text
+WritesInParts text contents old new (Err c) = (has_failed new ≡ has_writer_failed c) × AppendsBeginning (contents (device_of old)) (contents (device_of new)) text
+
 module _ {S D : Type 0} (watches : S → View → ℕ → ℕ → Look → S → Type 0) (v : View) (bookmarks : Bool) (contents : D → Option (List ℕ)) where
   -- a beginning of the opening and of the frames of these looks was written; of the end only where the looks end the watch
   abbrev pub IsLeft : Watched D → Watched D → List ℕ → ℕ → ℕ → List Look → Type 0

@@ -3,6 +3,7 @@
 
 pub mod begun;
 pub mod fault;
+pub mod first_frames;
 pub mod frames;
 pub mod looked;
 pub mod looking;
@@ -13,6 +14,7 @@ pub mod standing;
 
 pub use begun::Begun;
 pub use fault::{Cut, WatchFault};
+pub use first_frames::FirstFrames;
 pub use looked::Looked;
 pub use looking::take_look;
 pub use opening::{Opened, open};

@@ -1,14 +1,14 @@
 //! How a watch opens.
-ghost use Rattle.std.specs.Prelude.{◌≡◌, ◌++◌, IfOk, OnOk, false, map};
+ghost use Rattle.std.specs.Prelude.{◌≡◌, ◌++◌, IfOk, false, map};
 ghost use Rattle.connections.specs.Replies.{watch_head, frames_text};
 ghost use Rattle.definitions.specs.Streams.{event};
-ghost use Rattle.definitions.specs.WatchReplies.{closing_lines};
-ghost use Rattle.responses.specs.Frames.{object_frames};
 ghost use Rattle.revisions.specs.Watches.{watched_of, last_bookmark};
 ghost use Rattle.selector.specs.Views.{view_of};
-ghost use Rattle.watch_service.specs.Opened.{IsOpened};
+ghost use Rattle.watch_service.specs.FirstFrames.{first_frames};
+ghost use Rattle.watch_service.specs.Opened.{IsOpened, opening_of};
 
 use crate::begun::Begun;
+use crate::first_frames::FirstFrames;
 use crate::frames::{idle_after, push_look};
 use crate::looking::MOST_CHANGES;
 use crate::source::WatchSource;
@@ -16,8 +16,7 @@ use crate::standing::Standing;
 use definitions::kinds::Kind;
 use definitions::versions::Start;
 use keys::Fault;
-use meta::StoredObject;
-use responses::{push_closing, push_objects, watch_head};
+use responses::watch_head;
 use revisions::Watched;
 use revisions::watched::last_bookmark;
 use selector::View;
@@ -30,6 +29,8 @@ pub struct Opened {
     pub at: Standing,
     /// What it opens with: the head, and the first frames.
     pub text: Vec<u8>,
+    /// The frames after these, which are still to be made.
+    pub rest: FirstFrames,
 }
 
 /// Returns the head of a watch.
@@ -38,15 +39,6 @@ fn head_text(alloc: Global) -> Result<Vec<u8>, AllocError>
 {
     let mut text = Vec::new(alloc);
     text.extend_from_slice(watch_head())?;
-    Ok(text)
-}
-
-/// Returns the head of a watch and the frames of what is there.
-fn beginning_text(alloc: Global, objects: &[StoredObject]) -> Result<Vec<u8>, AllocError>
-    ensures { IfOk result (λ text. text.items ≡ watch_head ++ object_frames (map (λ o. o.value) objects.now)) }
-{
-    let mut text = head_text(alloc)?;
-    push_objects(alloc, &mut text, objects)?;
     Ok(text)
 }
 
@@ -65,37 +57,6 @@ fn first_text(
     Ok(text)
 }
 
-/// Adds the frame of the bookmark that closes what is there, if bookmarks are shown.
-fn push_end(
-    alloc: Global,
-    text: &mut Vec<u8>,
-    kind: Kind,
-    bookmarks: bool,
-    revision: u64,
-) -> Result<(), AllocError>
-    ensures { OnOk result (text.new.items ≡ text.old.items ++ frames_text kind (closing_lines bookmarks revision)) }
-{
-    if bookmarks {
-        push_closing(alloc, text, kind, revision)?;
-    }
-    Ok(())
-}
-
-/// Returns the head of a watch, the frames of what is there and, if bookmarks are shown, that of the bookmark which closes it.
-fn closed_text(
-    alloc: Global,
-    kind: Kind,
-    bookmarks: bool,
-    begun: &Begun,
-) -> Result<Vec<u8>, AllocError>
-    ensures { IfOk result (λ text. text.items
-        ≡ (watch_head ++ object_frames (map (λ o. o.value) begun.now.objects.items)) ++ frames_text kind (closing_lines bookmarks begun.now.revision)) }
-{
-    let mut text = beginning_text(alloc, &begun.objects)?;
-    push_end(alloc, &mut text, kind, bookmarks, begun.revision)?;
-    Ok(text)
-}
-
 /// Returns where a watch stands that has begun, before any look.
 fn standing_at(begun: &Begun) -> Standing
     ensures revision { result.revision ≡ begun.now.revision }
@@ -107,6 +68,24 @@ fn standing_at(begun: &Begun) -> Standing
     }
 }
 
+/// Returns a watch that has opened with what is there and, if bookmarks are shown, the bookmark that closes it.
+fn opened_with(
+    alloc: Global,
+    kind: Kind,
+    bookmarks: bool,
+    begun: Begun,
+) -> Result<Opened, AllocError>
+    ensures opening { IfOk result (λ r. opening_of r ≡ watch_head ++ first_frames kind bookmarks begun.revision begun.objects.items) }
+    ensures revision { IfOk result (λ r. r.at.revision ≡ begun.revision) }
+    ensures idle { IfOk result (λ r. r.at.idle ≡ 0) }
+{
+    let at = standing_at(&begun);
+    let mut text = head_text(alloc)?;
+    let mut rest = FirstFrames::of(kind, bookmarks, begun);
+    rest.push_next(alloc, &mut text)?;
+    Ok(Opened { at, text, rest })
+}
+
 /// Opens a watch with what is there.
 fn open_with<S: WatchSource>(alloc: Global, source: &mut S, view: &View) -> Result<Opened, Fault>
     ensures { IsOpened S.Begins S.Watches (view_of view.now) false Start.Listed source.old source.new result }
@@ -115,11 +94,8 @@ fn open_with<S: WatchSource>(alloc: Global, source: &mut S, view: &View) -> Resu
         Ok(begun) => begun,
         Err(fault) => return Err(fault),
     };
-    match beginning_text(alloc, &begun.objects) {
-        Ok(text) => Ok(Opened {
-            at: standing_at(&begun),
-            text,
-        }),
+    match opened_with(alloc, view.kind, false, begun) {
+        Ok(opened) => Ok(opened),
         Err(_) => Err(Fault::NoMemory),
     }
 }
@@ -138,11 +114,8 @@ fn open_closed<S: WatchSource>(
         Ok(begun) => begun,
         Err(fault) => return Err(fault),
     };
-    match closed_text(alloc, view.kind, bookmarks, &begun) {
-        Ok(text) => Ok(Opened {
-            at: standing_at(&begun),
-            text,
-        }),
+    match opened_with(alloc, view.kind, bookmarks, begun) {
+        Ok(opened) => Ok(opened),
         Err(_) => Err(Fault::NoMemory),
     }
 }
@@ -159,6 +132,7 @@ fn open_after<S: WatchSource>(alloc: Global, source: &mut S, view: &View) -> Res
         Ok(text) => Ok(Opened {
             at: standing_at(&begun),
             text,
+            rest: FirstFrames::none(alloc, view.kind),
         }),
         Err(_) => Err(Fault::NoMemory),
     }
@@ -187,13 +161,14 @@ fn open_at<S: WatchSource>(
                 idle,
             },
             text,
+            rest: FirstFrames::none(alloc, view.kind),
         }),
         Err(_) => Err(Fault::NoMemory),
     }
 }
 
 /// Opens a watch of a view that begins so. The first look decides whether it is refused; nothing is to be written then. Else what it
-/// opens with is to be written at once, and then the frames of each look from where it stands.
+/// opens with is to be written at once, of which the first 64 KiB are made, and then the frames of each look from where it stands.
 pub fn open<S: WatchSource>(
     alloc: Global,
     source: &mut S,

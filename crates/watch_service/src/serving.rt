@@ -1,12 +1,14 @@
 //! The loop that serves a watch.
-ghost use Rattle.std.specs.Prelude.{◌≡◌, [], false};
+ghost use Rattle.std.specs.Prelude.{◌≡◌, ◌++◌, [], false};
 ghost use Rattle.chunked.specs.Devices.{has_failed};
 ghost use Rattle.selector.specs.Views.{view_of};
 ghost use Rattle.chunked.specs.Bodies.{last_chunk};
 ghost use Rattle.watch_service.specs.Looked.{Writes};
-ghost use Rattle.watch_service.specs.Served.{Follows, Serves};
+ghost use Rattle.watch_service.specs.Opened.{opening_of};
+ghost use Rattle.watch_service.specs.Served.{Follows, Serves, WritesInParts};
 
 use crate::fault::{Cut, WatchFault};
+use crate::first_frames::FirstFrames;
 use crate::frames::write_text;
 use crate::looking::look;
 use crate::opening::{Opened, open};
@@ -68,6 +70,52 @@ fn follow<S: WatchSource, P: Pace, W: Write + Drop>(
     Err(Cut::NoMemory)
 }
 
+/// Writes the frames with which a watch begins, each piece as it is made.
+fn write_frames<W: Write + Drop>(
+    alloc: Global,
+    frames: FirstFrames,
+    writer: &mut Device<W>,
+) -> Result<(), Cut>
+    requires sound { has_failed writer.old ≡ false }
+    ensures { WritesInParts frames W.contents writer.old writer.new result }
+{
+    let mut frames = frames;
+    for _ in 0..u64::MAX {
+        if !frames.has_more() {
+            return Ok(());
+        }
+        let mut piece = Vec::new(alloc);
+        match frames.push_next(alloc, &mut piece) {
+            Ok(()) => {}
+            Err(_) => return Err(Cut::NoMemory),
+        }
+        match write_text(writer, &piece) {
+            Ok(()) => {}
+            Err(_) => return Err(Cut::Device),
+        }
+    }
+    Err(Cut::NoMemory)
+}
+
+/// Writes what a watch opened with: what is made of it, and then the rest.
+fn write_opening<W: Write + Drop>(
+    alloc: Global,
+    text: &[u8],
+    rest: FirstFrames,
+    writer: &mut Device<W>,
+) -> Result<(), Cut>
+    ensures { WritesInParts (text.now ++ rest) W.contents writer.old writer.new result }
+{
+    match write_text(writer, text) {
+        Ok(()) => {}
+        Err(_) => return Err(Cut::Device),
+    }
+    match write_frames(alloc, rest, writer) {
+        Ok(()) => Ok(()),
+        Err(cut) => Err(cut),
+    }
+}
+
 /// Writes what a watch opened with, and goes on with it: writes the frames of each look as they come, those of one look in one write,
 /// and at last its end. A look after one that gave nothing waits for the pace.
 pub fn go_on<S: WatchSource, P: Pace, W: Write + Drop>(
@@ -75,18 +123,20 @@ pub fn go_on<S: WatchSource, P: Pace, W: Write + Drop>(
     source: &mut S,
     view: &View,
     bookmarks: bool,
-    opened: &Opened,
+    opened: Opened,
     pace: &mut P,
     writer: &mut Device<W>,
 ) -> Result<(), Cut>
     ensures { Follows S.Watches (view_of view.now) bookmarks W.contents source.old source.new writer.old writer.new
-        opened.now.text.items opened.now.at.revision opened.now.at.idle result }
+        (opening_of opened) opened.at.revision opened.at.idle result }
 {
-    match write_text(writer, &opened.text) {
+    let at = opened.at;
+    let rest = opened.rest;
+    match write_opening(alloc, &opened.text, rest, writer) {
         Ok(()) => {}
-        Err(_) => return Err(Cut::Device),
+        Err(cut) => return Err(cut),
     }
-    match follow(alloc, source, view, bookmarks, opened.at, pace, writer) {
+    match follow(alloc, source, view, bookmarks, at, pace, writer) {
         Ok(()) => Ok(()),
         Err(cut) => Err(cut),
     }
@@ -113,7 +163,7 @@ pub fn serve_watch<S: WatchSource, P: Pace, W: Write + Drop>(
         Ok(opened) => opened,
         Err(fault) => return Err(WatchFault::Refused(fault)),
     };
-    match go_on(alloc, source, view, bookmarks, &opened, pace, writer) {
+    match go_on(alloc, source, view, bookmarks, opened, pace, writer) {
         Ok(()) => Ok(()),
         Err(cut) => Err(WatchFault::Cut(cut)),
     }

@@ -14,8 +14,8 @@ returns-in-Ok-deliver-clause-serves g c =
           c.args.writer.now c.deliver.new.writer (said c.in-Ok.received) c.respond-response.result (Ok c.in-Ok-deliver.field-0) c.respond-response.ensures c.in-Ok-deliver.ensures,
     )
 
-pub returns-in-Ok-clause-serves : goal.returns-in-Ok-clause-serves
-returns-in-Ok-clause-serves g c =
+pub returns-in-Err-clause-serves : goal.returns-in-Err-clause-serves
+returns-in-Err-clause-serves g c =
     inl (
       said c.in-Ok.received,
       asks_said (g.R.Read.remaining (device_of c.args.reader.now)) c.in-Ok.received c.in-Ok.ensures.asks,

@@ -4,5 +4,14 @@ use Rattle.http_connection.proofs.answering.opened.Goals as goal
 
 pub returns : goal.returns
 returns c =
-    let w : Watching = record { view = c.args.watch.view; bookmarks = c.args.watch.bookmarks; at = Some c.args.watch.opened.at; opened = c.len.result; out = c.args.watch.opened.text; taken = 0 } in
-    (w, refl, refl, refl, refl, refl, refl, search rules)
+    let w : Watching = record {
+      view = c.args.watch.view;
+      bookmarks = c.args.watch.bookmarks;
+      at = Some c.args.watch.opened.at;
+      opened = c.len.result;
+      out = c.args.watch.opened.text;
+      taken = 0;
+      rest = c.args.watch.opened.rest;
+      later = c.new.result;
+    } in
+    (w, refl, refl, refl, refl, refl, refl, refl, c.new.ensures.items, search rules)

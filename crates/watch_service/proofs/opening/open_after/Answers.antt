@@ -1,14 +1,20 @@
 use Rattle.std.proofs.Common.{Ok, inr, refl, sym, ◌∙◌, append-nil}
 use Rattle.connections.specs.Replies.{watch_head}
 use Rattle.definitions.specs.Versions.{listed_as}
+use Rattle.watch_service.proofs.LineFrames.{made_is}
 use Rattle.watch_service.specs.Watches.{opening_after}
 use Rattle.watch_service.proofs.opening.open_after.Goals as goal
 
 pub returns-in-Ok-head_text : goal.returns-in-Ok-head_text
 returns-in-Ok-head_text g c =
     let h = c.in-Ok.ensures.begins in
-    let l = listed_as c.in-Ok.begun.revision h.0 in
-    (opening_after l, (Ok l, h.2, refl), c.standing_at.ensures.revision, c.standing_at.ensures.idle, c.in-Ok-head_text.ensures ∙ sym (append-nil watch_head))
+    let l = listed_as c.in-Ok.begun.revision h.0 in (
+      opening_after l,
+      (Ok l, h.2, refl),
+      c.standing_at.ensures.revision,
+      c.standing_at.ensures.idle,
+      made_is c.in-Ok-head_text.text.items c.none.result watch_head c.in-Ok-head_text.ensures c.none.ensures ∙ sym (append-nil watch_head),
+    )
 
 pub returns : goal.returns
 returns g c =

@@ -1,6 +1,7 @@
 use Rattle.std.proofs.Common.{◌++◌, Ok, inr, refl, sym, ap, ◌∙◌}
 use Rattle.connections.specs.Replies.{watch_head, frames_text}
 use Rattle.revisions.specs.Watches.{watched_of}
+use Rattle.watch_service.proofs.LineFrames.{made_is}
 use Rattle.watch_service.specs.Watches.{opening_at, idle_after}
 use Rattle.watch_service.proofs.opening.open_at.Goals as goal
 
@@ -11,7 +12,7 @@ returns-in-Ok-first_text g c =
       (Ok w, c.in-Ok.ensures.watches, refl),
       refl,
       c.idle_after-idle.ensures ∙ ap (idle_after 0) (sym c.last_bookmark-bookmark.ensures),
-      c.in-Ok-first_text.ensures ∙ ap (λ ls. watch_head ++ frames_text c.args.view.now.kind ls) (sym c.last_bookmark-bookmark.ensures),
+      made_is c.in-Ok-first_text.text.items c.none.result _ c.in-Ok-first_text.ensures c.none.ensures ∙ ap (λ ls. watch_head ++ frames_text c.args.view.now.kind ls) (sym c.last_bookmark-bookmark.ensures),
     )
 
 pub returns : goal.returns

@@ -2,22 +2,23 @@ use Rattle.std.proofs.Common.{Ok, inr, refl}
 use Rattle.connections.specs.Replies.{watch_head}
 use Rattle.definitions.specs.Versions.{listed_as}
 use Rattle.watch_service.proofs.LineFrames.{opening_is}
+use Rattle.watch_service.specs.Opened.{opening_of}
 use Rattle.watch_service.specs.Watches.{opening_closed}
 use Rattle.watch_service.proofs.opening.open_closed.Goals as goal
 
-pub returns-in-Ok-closed_text : goal.returns-in-Ok-closed_text
-returns-in-Ok-closed_text g c =
+pub returns-in-Ok-opened_with : goal.returns-in-Ok-opened_with
+returns-in-Ok-opened_with g c =
     let h = c.in-Ok.ensures.begins in
     let l = listed_as c.in-Ok.begun.revision h.0 in (
       opening_closed c.args.bookmarks l,
       (Ok l, h.2, refl),
-      c.standing_at.ensures.revision,
-      c.standing_at.ensures.idle,
-      opening_is c.args.view.now.kind c.args.bookmarks c.in-Ok.begun h.0 watch_head c.in-Ok-closed_text.text.items h.1 c.in-Ok-closed_text.ensures,
+      c.in-Ok-opened_with.ensures.revision,
+      c.in-Ok-opened_with.ensures.idle,
+      opening_is c.args.view.now.kind c.args.bookmarks c.in-Ok.begun h.0 watch_head (opening_of c.in-Ok-opened_with.opened) h.1 c.in-Ok-opened_with.ensures.opening,
     )
 
-pub returns : goal.returns
-returns g c =
+pub returns-in-Err-opened_with : goal.returns-in-Err-opened_with
+returns-in-Err-opened_with g c =
     let h = c.in-Ok.ensures.begins in
     let l = listed_as c.in-Ok.begun.revision h.0 in
     inr (refl, opening_closed c.args.bookmarks l, (Ok l, h.2, refl))

@@ -1,0 +1,6 @@
+use Rattle.http_connection.specs.Sending.{IsWritten}
+use Rattle.http_connection.proofs.sending.watch_on.Given as goal
+
+-- some of what is to be written was, and the rest is left
+abbrev pub invariant-loop : goal.invariant-loop
+invariant-loop g l = IsWritten (g.W.Write.contents l.fn.writer) (g.W.Write.contents l.writer) l.fn.watching l.watching

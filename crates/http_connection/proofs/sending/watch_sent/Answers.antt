@@ -1,0 +1,22 @@
+use Rattle.std.proofs.Common.{refl, subst}
+use Rattle.http_connection.proofs.Writing.{begun_to, written_to}
+use Rattle.http_connection.specs.declared.watching.Watching.{Watching}
+use Rattle.http_connection.specs.Sending.{IsSent}
+use Rattle.http_connection.proofs.sending.watch_sent.Goals as goal
+
+pub returns-in-To : goal.returns-in-To
+returns-in-To g c =
+    let before = g.W.Write.contents c.args.writer.now in
+    let after = g.W.Write.contents c.write_on.new.writer in
+    let w = c.args.watching in
+    let n = c.in-To.taken in
+    let u : Watching = record { view = w.view; bookmarks = w.bookmarks; at = w.at; opened = w.opened; out = w.out; taken = n; rest = w.rest; later = w.later } in
+    written_to before after w u n (subst (λ t. IsSent before after t w.taken n) c.deref.ensures.value c.in-To.ensures) refl
+
+pub returns-in-Failed : goal.returns-in-Failed
+returns-in-Failed g c =
+    let before = g.W.Write.contents c.args.writer.now in
+    let after = g.W.Write.contents c.write_on.new.writer in
+    let w = c.args.watching in
+    let s = c.in-Failed.ensures in
+    begun_to before after w s.0 (subst (λ t. IsSent before after t w.taken s.0) c.deref.ensures.value s.1)

@@ -1,0 +1,144 @@
+//! Initial streams of watches that are longer than what is made of them at once.
+use desk::Server;
+use http_connection::{Arriving, Phase, answer, look_on, turn};
+use routes::table::Routes;
+use sites::Solo;
+use stamps::moments::Moment;
+use std::alloc::{AllocError, Global};
+use std::io::ErrorKind;
+use test_devices::{Sink, Source};
+
+/// The names of the ConfigMaps that are there.
+const NAMES: &[u8] = b"abcdefghijklmnopqrstuvwx";
+
+/// How many bytes each of them says, so that all of them fill three times what is made at once.
+const LONG: usize = 8192;
+
+/// A watch of the ConfigMaps of all namespaces that begins with what is there, and a bookmark.
+const WATCH: &[u8] =
+    b"GET /api/v1/configmaps?watch=true&sendInitialEvents=true&resourceVersionMatch=NotOlderThan&allowWatchBookmarks=true HTTP/1.1\r\n\r\n";
+
+/// The end of a frame of an object.
+const ADDED: &[u8] = b"\"type\":\"ADDED\"}\n\r\n";
+
+/// The end of a frame of a bookmark.
+const BOOKMARK: &[u8] = b"\"type\":\"BOOKMARK\"}\n\r\n";
+
+/// Returns a create of a ConfigMap of this name.
+fn create(alloc: Global, name: u8) -> Result<Vec<u8>, AllocError> {
+    let mut body = Vec::new(alloc);
+    body.extend_from_slice(b"{\"metadata\":{\"name\":\"")?;
+    body.push(name)?;
+    body.extend_from_slice(b"\"},\"data\":{\"k\":\"")?;
+    for _ in 0..LONG {
+        body.push(b'v')?;
+    }
+    body.extend_from_slice(b"\"}}")?;
+    let head = format!(in alloc;
+        "POST /api/v1/namespaces/default/configmaps HTTP/1.1\r\nContent-Length: {}\r\n\r\n",
+        body.len()
+    )?;
+    let mut text = head.into_bytes();
+    text.extend_from_slice(&body)?;
+    Ok(text)
+}
+
+/// Lets a text come as a whole, and returns where its connection then stands, answered if its request is whole.
+fn asked(alloc: Global, routes: &Routes, site: &mut Solo, text: &[u8], sink: &mut Sink) -> Phase {
+    let mut source = Source::new(text, 4096);
+    source.kind = ErrorKind::WouldBlock;
+    let phase = Phase::Reading(Arriving::new(alloc));
+    match turn::<Solo, Source<'_>, Sink>(alloc, routes, phase, &mut source, sink) {
+        Phase::Asked(asked) => answer(alloc, asked, site, Moment::start()),
+        other => other,
+    }
+}
+
+/// Lets a connection be written a kilobyte at a time, as far as there is something to write.
+fn written(alloc: Global, routes: &Routes, phase: Phase, sink: &mut Sink) -> Phase {
+    let mut source = Source::new(b"", 1);
+    let mut phase = phase;
+    for _ in 0..4096 {
+        if !phase.is_unwritten() {
+            return phase;
+        }
+        sink.bad = sink.calls.saturating_add(256);
+        phase = turn::<Solo, Source<'_>, Sink>(alloc, routes, phase, &mut source, sink);
+    }
+    phase
+}
+
+/// Returns a writer that takes nothing more where it fails.
+fn sink(alloc: Global) -> Sink {
+    Sink {
+        written: Vec::new(alloc),
+        bad: u64::MAX,
+        kind: ErrorKind::WouldBlock,
+        calls: 0,
+    }
+}
+
+/// Returns a server where these ConfigMaps are.
+fn filled(alloc: Global, routes: &Routes) -> Result<Solo, AllocError> {
+    let mut site = Solo::new(Server::new(alloc, 1024)?);
+    for name in NAMES {
+        let text = create(alloc, *name)?;
+        let _replied = asked(alloc, routes, &mut site, &text, &mut sink(alloc));
+    }
+    Ok(site)
+}
+
+/// Returns how often a word stands in a text.
+fn count(text: &[u8], word: &[u8]) -> usize {
+    let mut count: usize = 0;
+    for at in 0..text.len() {
+        if text.split_at(at).1.starts_with(word) {
+            count = count.saturating_add(1);
+        }
+    }
+    count
+}
+
+/// Returns what is written of a watch.
+fn streamed(alloc: Global) -> Result<Vec<u8>, AllocError> {
+    let routes = Routes::new(alloc)?;
+    let mut site = filled(alloc, &routes)?;
+    let mut taken = sink(alloc);
+    let phase = asked(alloc, &routes, &mut site, WATCH, &mut taken);
+    let _watching = written(alloc, &routes, phase, &mut taken);
+    Ok(taken.written)
+}
+
+/// Returns whether a watch is written all that is there, and then one bookmark.
+fn is_all_streamed(alloc: Global) -> Result<bool, AllocError> {
+    let text = streamed(alloc)?;
+    let has_all = count(&text, ADDED) == NAMES.len() && text.len() > NAMES.len() * LONG;
+    Ok(has_all && count(&text, BOOKMARK) == 1 && text.ends_with(BOOKMARK))
+}
+
+#[test]
+fn an_initial_stream_comes_whole(rt: HostRuntime) {
+    assert_eq!(rt; is_all_streamed(rt.alloc()), Ok(true));
+}
+
+/// Returns whether what is written after a watch has opened is told after all that was there, though it is looked at before that is made.
+fn is_told_last(alloc: Global) -> Result<bool, AllocError> {
+    let routes = Routes::new(alloc)?;
+    let mut site = filled(alloc, &routes)?;
+    let mut taken = sink(alloc);
+    let opened = asked(alloc, &routes, &mut site, WATCH, &mut taken);
+    let text = create(alloc, b'z')?;
+    let _replied = asked(alloc, &routes, &mut site, &text, &mut sink(alloc));
+    let looked = match opened {
+        Phase::Watching(watching) => look_on(alloc, watching, &mut site),
+        other => other,
+    };
+    let _watching = written(alloc, &routes, looked, &mut taken);
+    let is_last = taken.written.ends_with(ADDED) && count(&taken.written, BOOKMARK) == 1;
+    Ok(is_last && count(&taken.written, ADDED) == NAMES.len() + 1)
+}
+
+#[test]
+fn a_look_is_told_after_the_initial_stream(rt: HostRuntime) {
+    assert_eq!(rt; is_told_last(rt.alloc()), Ok(true));
+}

@@ -1,0 +1,10 @@
+use Rattle.std.proofs.Common.{◌≡◌, ◌++◌, map, drop}
+use Rattle.responses.specs.Frames.{object_frames}
+use Rattle.watch_service.proofs.first_frames.push_some.Given as goal
+
+-- so many are made; the frames so far and those that are left are all
+abbrev pub invariant-loop-object : goal.invariant-loop-object
+invariant-loop-object l = record {
+  many : l.made ≡ l.object-index;
+  frames : l.text.items ++ object_frames (map (λ o. o.value) (drop l.object-index l.objects)) ≡ l.initial.text.items ++ object_frames (map (λ o. o.value) l.objects);
+}
