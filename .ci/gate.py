@@ -137,6 +137,7 @@ def asked_of_program(log):
         "following": ["following/run.py", "--follower", FOLLOWER, "--short"],
         "following, cut at each byte": ["following/cuts.py", "--follower", FOLLOWER, "--short"],
         "controllers": ["controllers/run.py", "--short"],
+        "arguments": ["arguments.py"],
         "README": ["readme.py"],
     }
     ran = {name: Run([sys.executable, "-B", f"conformance/{script}", "--program", PROGRAM, *rest], log) for name, (script, *rest) in words.items()}

@@ -11,7 +11,7 @@ ghost use Rattle.simulations.specs.Laws as simulated;
 use chunked::Watched;
 use commands::{AllFault, all, control, serve};
 use line_service::RunFault;
-use options::Command;
+use options::{Command, Usage};
 use replays::replay;
 use serving::ServeFault;
 use std::alloc::{AllocError, Global};
@@ -40,13 +40,25 @@ pub fn simulate<R: BufRead + Drop, W: Write + Drop>(
     simulations::simulate(alloc, reader, writer)
 }
 
-/// Returns what the words after the program's name ask, if they ask something.
-fn command(rt: &HostRuntime) -> io::Result<Option<Command>> {
+/// Returns what the words after the program's name ask: a command, or else to be told how it is used, if they ask for that.
+fn asked(rt: &HostRuntime) -> io::Result<Result<Command, Option<Usage>>> {
     let mut words = Vec::new(rt.alloc());
     for word in env::args(rt)?.skip(1) {
         words.push(word)?;
     }
-    Ok(Command::parse(&words))
+    Ok(match Command::parse(&words) {
+        Some(command) => Ok(command),
+        None => Err(Usage::asked(&words)),
+    })
+}
+
+/// Says how the program is used, where that was asked for, and that the words ask no command.
+fn refuse(rt: &HostRuntime, usage: Option<Usage>) -> io::Result<ExitCode> {
+    if let Some(usage) = usage {
+        print!(rt; "{}", usage.text())?;
+    }
+    eprintln!(rt; "kcp: bad arguments")?;
+    Ok(ExitCode::from(2))
 }
 
 /// Answers the request lines of standard input on standard output.
@@ -136,15 +148,15 @@ fn ended(outcome: Result<(), AllFault>) -> Result<(), &'static str> {
 }
 
 fn main(rt: HostRuntime) -> io::Result<ExitCode> {
-    let outcome = match command(&rt) {
-        Ok(Some(Command::Replay)) => ran(replay_standard_input(&rt)),
-        Ok(Some(Command::Simulate)) => ran(simulate_standard_input(&rt)),
-        Ok(Some(Command::Serve(options))) => {
+    let outcome = match asked(&rt) {
+        Ok(Ok(Command::Replay)) => ran(replay_standard_input(&rt)),
+        Ok(Ok(Command::Simulate)) => ran(simulate_standard_input(&rt)),
+        Ok(Ok(Command::Serve(options))) => {
             let mut writer = io::writer(&rt);
             served(serve(&rt, rt.alloc(), options, &mut writer))
         }
-        Ok(Some(Command::Control(options))) => { controlled(control(&rt, rt.alloc(), options)) }
-        Ok(Some(Command::All(options))) => {
+        Ok(Ok(Command::Control(options))) => { controlled(control(&rt, rt.alloc(), options)) }
+        Ok(Ok(Command::All(options))) => {
             let mut reader = BufReader::new(rt.alloc(), rt.reader())?;
             let mut writer = BufWriter::new(rt.alloc(), io::writer(&rt))?;
             let mut told = rt.stderr();
@@ -157,10 +169,7 @@ fn main(rt: HostRuntime) -> io::Result<ExitCode> {
                 &mut told,
             ))
         }
-        Ok(None) => {
-            eprintln!(rt; "kcp: bad arguments")?;
-            return Ok(ExitCode::from(2));
-        }
+        Ok(Err(usage)) => return refuse(&rt, usage),
         Err(_) => Err(fault_name(RunFault::Want)),
     };
     match outcome {

@@ -3,6 +3,9 @@ use Rattle.std.specs.Prelude.{◌≡◌, ℕ, List, [], ◌∷◌, codes, Option
 use Rattle.options.specs.declared.command.Command.{Command}
 use Rattle.options.specs.declared.command.Command.TheVariants.{Replay, Simulate, Serve, Control, All}
 use Rattle.options.specs.Options.{command}
+use Rattle.options.specs.Usages.{usage_asked}
+use Rattle.options.specs.declared.usage.Usage.{Usage}
+use Rattle.options.specs.declared.usage.Usage.TheVariants as usage
 
 -- what `serve` is asked by an option and its value
 abbrev pub with_one : List ℕ → List ℕ → Option Command
@@ -86,3 +89,14 @@ WorkersAreCounted =
     × (command (codes "all" ∷ codes "--workers" ∷ codes "0" ∷ []) ≡ None)
     × (command (codes "all" ∷ codes "--requests" ∷ codes "1" ∷ []) ≡ None)
     × (command (codes "all" ∷ codes "--server" ∷ codes "127.0.0.1:8080" ∷ []) ≡ None)
+
+-- no word, `help` and `--help` ask how the program is used, and `--help` after a command how that is; what asks a command, or anything else, does not
+abbrev pub UsagesAreAsked : Type 0
+UsagesAreAsked =
+    (usage_asked [] ≡ Some usage.Program)
+    × (usage_asked (codes "help" ∷ []) ≡ Some usage.Program)
+    × (usage_asked (codes "--help" ∷ []) ≡ Some usage.Program)
+    × (usage_asked (codes "serve" ∷ codes "--help" ∷ []) ≡ Some usage.Serve)
+    × (usage_asked (codes "served" ∷ codes "--help" ∷ []) ≡ None)
+    × (usage_asked (codes "serve" ∷ []) ≡ None)
+    × (usage_asked (codes "serve" ∷ codes "--port" ∷ codes "--help" ∷ []) ≡ None)

@@ -1,5 +1,5 @@
 //! Words, and the commands that they ask, computed by the checker.
-ghost use Rattle.options.specs.Examples.{CommandsAreNamed, OptionsAreSaid, OptionsStandOnce, NumbersHaveBounds, NumbersAreDigits, ServersAreNamed, WorkersAreCounted};
+ghost use Rattle.options.specs.Examples.{CommandsAreNamed, OptionsAreSaid, OptionsStandOnce, NumbersHaveBounds, NumbersAreDigits, ServersAreNamed, WorkersAreCounted, UsagesAreAsked};
 
 /// What the words after the program's name ask.
 pub fn words_ask()
@@ -17,4 +17,6 @@ pub fn words_ask()
     ensures servers_are_named { ServersAreNamed }
     // Workers are counted from 1 to 64.
     ensures workers_are_counted { WorkersAreCounted }
+    // How the program is used is asked by words that ask no command.
+    ensures usages_are_asked { UsagesAreAsked }
 {}

@@ -6,9 +6,11 @@ pub mod command;
 pub mod control_options;
 pub mod examples;
 pub mod setting;
+pub mod usage;
 pub mod words;
 
 pub use all_options::AllOptions;
 pub use command::{Command, ServeOptions};
 pub use control_options::ControlOptions;
 pub use setting::Setting;
+pub use usage::Usage;

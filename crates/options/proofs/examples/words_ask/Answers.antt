@@ -10,4 +10,5 @@ returns c = record {
   numbers_are_digits = (refl, refl, refl, refl, refl, refl);
   servers_are_named = (refl, refl, refl, refl, refl, refl, refl, refl, refl, refl, refl);
   workers_are_counted = (refl, refl, refl, refl, refl, refl);
+  usages_are_asked = (refl, refl, refl, refl, refl, refl, refl);
 }
