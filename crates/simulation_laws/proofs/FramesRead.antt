@@ -85,7 +85,7 @@ frame_back kind d p clean fits more =
 
 -- ---- events
 
-abbrev AreParsedEvents : List Event → Type 0
+abbrev pub AreParsedEvents : List Event → Type 0
 AreParsedEvents cs = AllByRecursion (λ (c : Event). IsParsed c.object) cs
 
 seen_if : (b : Bool) (d : Data) → IsParsed d → IfSome (cond b (Some d) None) IsParsed
@@ -118,7 +118,7 @@ after_parsed v before (w ∷ ws) a b low =
     (seen_parsed v w.key (last_of None w.key before) (last_put IsParsedAt w.key before None tt a)) (seen_parsed v w.key w.put b.0)
     (after_parsed v (before ++ w ∷ []) ws (put_joined before (w ∷ []) a (b.0, tt)) b.1 (omega (arith, long, low)))
 
-events_parsed : (h : History) (v : View) (a b : ℕ) → IsReached h → a ≤ b → AreParsedEvents (events h v a b)
+pub events_parsed : (h : History) (v : View) (a b : ℕ) → IsReached h → a ≤ b → AreParsedEvents (events h v a b)
 events_parsed h v a b reached le =
     let ws = drop (a - 1) (up_to b h) in
     let few : present h ≤ 9007199254740991 = (limited h reached).1 in
@@ -129,7 +129,7 @@ events_parsed h v a b reached le =
     after_parsed v (up_to a h) ws (put_first IsParsedAt (a - 1) (writes h) all)
     (put_later (up_to a h) ws (subst (AllPut IsParsedAt) (sym split) (put_first IsParsedAt (b - 1) (writes h) all))) (omega (arith, long, short, few))
 
-clean_at : (k : Kind) (d : Data) (o : Result Data Part) (s : Shown) → reading k d ≡ o → shown_read k o ≡ Some s → has_float d ≡ false
+pub clean_at : (k : Kind) (d : Data) (o : Result Data Part) (s : Shown) → reading k d ≡ o → shown_read k o ≡ Some s → has_float d ≡ false
 clean_at k d (Err p) s is shows = cc
 clean_at k d (Ok e) s is shows = has_float-is_body d (read_body k d e is)
 
@@ -144,7 +144,7 @@ events_back h k a b reached le =
 
 -- ---- bookmarks
 
-bookmark_parsed : (k : Kind) (r : ℕ) → r < 2 ^ 64 → IsParsed (bookmark_data k false r)
+pub bookmark_parsed : (k : Kind) (r : ℕ) → r < 2 ^ 64 → IsParsed (bookmark_data k false r)
 bookmark_parsed k r low = (
   (refl, (refl, tt)),
   IsUtf8-are_ascii (api_version k) (version_ascii k),

@@ -1,7 +1,7 @@
 pub mod Appending
 mod Delivering
 pub mod Feeding
-mod FramesRead
+pub mod FramesRead
 pub mod Growing
 pub mod Leading
 pub mod LeadMoves

@@ -48,10 +48,10 @@ closing_parsed k r low = (
   IsUtf8-are_ascii (codes "apiVersion") refl,
 )
 
-closing_back : (k : Kind) (r : ℕ) → r < 2 ^ 64 → IsReadWithin k (initial_end r)
+pub closing_back : (k : Kind) (r : ℕ) → r < 2 ^ 64 → IsReadWithin k (initial_end r)
 closing_back k r low = frame_back Bookmark (bookmark_data k true r) (closing_parsed k r low) refl
 
-object_back : (k : Kind) (a : ℕ) (m : Key × Data) → IsOf k a m → IsReadWithin k (initial m.0 m.1)
+pub object_back : (k : Kind) (a : ℕ) (m : Key × Data) → IsOf k a m → IsReadWithin k (initial m.0 m.1)
 object_back k a m here =
     let stored = here.1.1 in frame_back Added m.1 stored.parsed (has_float-is_body m.1 (read_body m.0.kind m.1 m.1 stored.kept.reads))
 

@@ -2,8 +2,6 @@ mod Answered
 mod Asking
 mod Closed
 mod Closings
-mod EventsParsed
-mod FramesRead
 mod LastLines
 mod LinesRead
 mod Opening

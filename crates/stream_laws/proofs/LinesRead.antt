@@ -1,82 +1,26 @@
 -- The lines of an initial stream of what is reached are read back.
-use Rattle.std.proofs.Common.{◌≡◌, ◌≤◌, ◌<◌, ◌^◌, ℕ, List, [], ◌∷◌, ◌++◌, true, false, codes, decimal, Some, Result, Ok, Err, refl, sym, subst, arith}
+use Rattle.std.proofs.Common.{◌≤◌, ◌<◌, ◌^◌, ℕ, List, [], ◌∷◌, ◌++◌, false, refl, sym, subst, arith}
 use Rattle.std.specs.List.{AllByRecursion}
-use Rattle.std.proofs.lemmas.Fmt.{IsAscii-decimal}
-use Rattle.std.proofs.lemmas.Str.{IsUtf8-from_ascii}
-use Rattle.json.proofs.Printed.Utf8.{IsUtf8-are_ascii}
-use Rattle.serde_json.specs.Data.{Data}
-use Rattle.serde_json.specs.Written.{has_float}
 use Rattle.definitions.specs.declared.kinds.Kind.{Kind}
-use Rattle.definitions.specs.declared.frames.FrameKind.TheVariants.{Added, Bookmark}
-use Rattle.definitions.specs.declared.refusals.Part.{Part}
+use Rattle.definitions.specs.declared.frames.FrameKind.TheVariants.{Bookmark}
 use Rattle.definitions.specs.Events.{Event, events}
 use Rattle.definitions.specs.Frames.{bookmark_data, frame_kind}
 use Rattle.definitions.specs.History.{History, Entries, list, present}
-use Rattle.definitions.specs.Keys.{Key}
-use Rattle.definitions.specs.Kinds as kinds
-use Rattle.definitions.specs.Kinds.{api_version}
 use Rattle.definitions.specs.Reached.{IsParsed, IsReached}
 use Rattle.definitions.specs.Reading.{reading}
 use Rattle.definitions.specs.Streams.{Line, event, bookmark, initial, initial_end, added_lines, AreEventsWithBookmarks, IsInitialStream}
-use Rattle.definitions.proofs.NoFloatsRead.{has_float-is_body}
-use Rattle.controllers.specs.Reflectors.{Shown, shown_read}
 use Rattle.laws.specs.SentLaws.{whole, IsTold}
 use Rattle.laws.proofs.Limited.{limited}
-use Rattle.laws.proofs.Parsed.{version_ascii, kind_ascii}
-use Rattle.laws.proofs.SentChanges.{changes_told, read_body}
+use Rattle.laws.proofs.SentChanges.{changes_told}
 use Rattle.reflector.specs.Laws.{IsReadWithin}
 use Rattle.reflector.proofs.Opened.{IsOf, all_listed}
-use Rattle.stream_laws.proofs.EventsParsed.{AreParsedEvents, events_parsed}
-use Rattle.stream_laws.proofs.FramesRead.{frame_back}
+use Rattle.simulation_laws.proofs.FramesRead.{AreParsedEvents, bookmark_parsed, clean_at, events_parsed, frame_back}
+use Rattle.simulation_laws.proofs.OpeningsRead.{closing_back, object_back}
 
--- ---- bookmarks
-
-bookmark_parsed : (k : Kind) (r : ℕ) → r < 2 ^ 64 → IsParsed (bookmark_data k false r)
-bookmark_parsed k r low = (
-  (refl, (refl, tt)),
-  IsUtf8-are_ascii (api_version k) (version_ascii k),
-  ((refl, tt), IsUtf8-are_ascii (kinds.kind_text k) (kind_ascii k), (tt, (tt, IsUtf8-from_ascii (decimal r) (IsAscii-decimal r low), tt, IsUtf8-are_ascii (codes "resourceVersion") refl), tt, IsUtf8-are_ascii (codes "metadata") refl), IsUtf8-are_ascii (codes "kind") refl),
-  IsUtf8-are_ascii (codes "apiVersion") refl,
-)
+-- ---- bookmarks and changes
 
 bookmark_back : (k : Kind) (r : ℕ) → r < 2 ^ 64 → IsReadWithin k (bookmark r)
 bookmark_back k r low = frame_back Bookmark (bookmark_data k false r) (bookmark_parsed k r low) refl
-
-closing_parsed : (k : Kind) (r : ℕ) → r < 2 ^ 64 → IsParsed (bookmark_data k true r)
-closing_parsed k r low = (
-  (refl, (refl, tt)),
-  IsUtf8-are_ascii (api_version k) (version_ascii k),
-  (
-    (refl, tt),
-    IsUtf8-are_ascii (kinds.kind_text k) (kind_ascii k),
-    (
-      tt,
-      (
-        (refl, tt),
-        (tt, IsUtf8-are_ascii (codes "true") refl, tt, IsUtf8-are_ascii (codes "k8s.io/initial-events-end") refl),
-        (tt, IsUtf8-from_ascii (decimal r) (IsAscii-decimal r low), tt, IsUtf8-are_ascii (codes "resourceVersion") refl),
-        IsUtf8-are_ascii (codes "annotations") refl,
-      ),
-      tt,
-      IsUtf8-are_ascii (codes "metadata") refl,
-    ),
-    IsUtf8-are_ascii (codes "kind") refl,
-  ),
-  IsUtf8-are_ascii (codes "apiVersion") refl,
-)
-
-closing_back : (k : Kind) (r : ℕ) → r < 2 ^ 64 → IsReadWithin k (initial_end r)
-closing_back k r low = frame_back Bookmark (bookmark_data k true r) (closing_parsed k r low) refl
-
--- ---- objects and changes
-
-object_back : (k : Kind) (a : ℕ) (m : Key × Data) → IsOf k a m → IsReadWithin k (initial m.0 m.1)
-object_back k a m here =
-    let stored = here.1.1 in frame_back Added m.1 stored.parsed (has_float-is_body m.1 (read_body m.0.kind m.1 m.1 stored.kept.reads))
-
-clean_at : (k : Kind) (d : Data) (o : Result Data Part) (s : Shown) → reading k d ≡ o → shown_read k o ≡ Some s → has_float d ≡ false
-clean_at k d (Err p) s is shows = cc
-clean_at k d (Ok e) s is shows = has_float-is_body d (read_body k d e is)
 
 event_back : (k : Kind) (c : Event) → IsParsed c.object → IsTold k c → IsReadWithin k (event c)
 event_back k c p told = frame_back (frame_kind c.kind) c.object p (clean_at k c.object (reading k c.object) _ refl told.shows)
