@@ -3,3 +3,4 @@ pub mod Looked
 pub mod Handled
 pub mod Passed
 pub mod Woken
+pub mod Followed

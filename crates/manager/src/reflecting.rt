@@ -1,6 +1,7 @@
 //! A thread that follows a kind.
 ghost use Rattle.std.specs.Prelude.{◌≡◌};
 ghost use Rattle.controllers.specs.Reflectors.{begun_streaming};
+ghost use Rattle.manager.specs.Followed.{reflector_of};
 
 use crate::handling::Handler;
 use crate::timing::Wall;
@@ -36,7 +37,7 @@ impl<'a, R: Wait + Clock, A: Api + Drop> Reflecting<'a, R, A> {
         api: A,
         handler: Handler<'a, R>,
     ) -> Reflecting<'a, R, A>
-        ensures { result.follower.reflector ≡ begun_streaming kind }
+        ensures { reflector_of result ≡ begun_streaming kind }
     {
         Reflecting {
             rt,
