@@ -1,3 +1,6 @@
+pub mod EarlierLists
+pub mod EarlierPages
+pub mod OldsNoted
 pub mod Rising
 pub mod Recorded
 pub mod Inserted

@@ -1,2 +1,4 @@
 pub mod Changes
+pub mod Earlier
+pub mod LentOlds
 pub mod Served

@@ -5,15 +5,17 @@ ghost use Rattle.definitions.specs.Windows.{last_revision};
 ghost use Rattle.watch_cache.specs.Changes.{change_seen};
 
 use crate::changes::Change;
+use crate::earlier::olds_above;
 use crate::searching::{events_above, first_above};
 use crate::undoing::undone_to;
 use circular_buffer::HeapCircularBuffer;
 use definitions::kinds::Kind;
-use keys::Fault;
-use meta::Member;
+use keys::{Fault, Key};
+use meta::{Member, StoredObject};
 use revisions::Event;
 use selector::View;
 use std::alloc::{AllocError, Global};
+use std::collections::BTreeMap;
 use std::marker::Model;
 
 /// The last changes of a kind, and the floor: the least revision from which they are served.
@@ -51,6 +53,8 @@ impl Cache {
     ghost use Rattle.selector.specs.Views.{view_of};
     ghost use Rattle.revisions.specs.Events.{event_seen};
     ghost use Rattle.watch_cache.specs.Changes.{change_seen};
+    ghost use Rattle.watch_cache.specs.Earlier.{firsts};
+    ghost use Rattle.watch_cache.specs.LentOlds.{olds_of};
     ghost use Rattle.watch_cache.specs.Served.{Serves};
 
     /// Returns a cache of a kind that records the last `window` changes and has none so far. The error is running out of
@@ -146,6 +150,22 @@ impl Cache {
         self.check(after, present)?;
         let events = events_above(alloc, &self.changes, view, after, max)?;
         Ok(events)
+    }
+
+    /// Returns what was there at a revision under each key that was written since, in the order of keys: none is noted where
+    /// none was there. The errors are a revision below the floor, one above the present, and running out of memory.
+    pub fn earlier<'a>(
+        &'a self,
+        alloc: Global,
+        present: u64,
+        revision: u64,
+    ) -> Result<BTreeMap<&'a Key, Option<&'a StoredObject>>, Fault>
+        ensures { Serves (λ olds. olds_of olds.entries)
+            (within self.entry.now.floor present revision (firsts (above revision self.entry.now.kept))) result }
+    {
+        self.check(revision, present)?;
+        let olds = olds_above(alloc, &self.changes, revision)?;
+        Ok(olds)
     }
 
     /// Returns the members of a view at a revision, in the order of their keys: those that are listed at the present one, with

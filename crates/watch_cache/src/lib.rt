@@ -4,6 +4,7 @@
 mod cache;
 mod caches;
 pub mod changes;
+mod earlier;
 mod searching;
 mod undoing;
 
