@@ -13,3 +13,4 @@ pub mod Requests
 mod Rising
 pub mod Runs
 pub mod Serving
+mod Staying

@@ -18,8 +18,8 @@ use std::marker::Model;
 /// How long a text may be for one frame more to be added to it.
 const MOST_AHEAD: usize = 65_536;
 
-/// The frames with which a watch begins, of which some are made already: those of what is there, and of the bookmark that closes it. The
-/// objects are kept until the last of their frames is made.
+/// The frames with which a watch begins, of which some are made already: those of what is there, and of the bookmark that closes it. It
+/// has the objects until the last of their frames is made.
 #[derive(Drop)]
 pub struct FirstFrames {
     kind: Kind,
