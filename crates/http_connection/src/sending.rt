@@ -103,8 +103,7 @@ fn watch_sent<W: Write>(watching: Watching, writer: &mut W) -> Option<Watching>
     }
 }
 
-/// Returns a watch with what is to be written after what is, made; nothing where there is no memory for it, or it is more than may be left
-/// unwritten.
+/// Returns a watch with what is to be written after what is, made; nothing out of memory, or where it is more than may be left unwritten.
 fn refilled(alloc: Global, watching: Watching) -> Option<Watching>
     requires written { length watching.out.items ≤ watching.taken }
     ensures { IfSome result (λ w. IsAsFar watching w) }
