@@ -16,10 +16,10 @@ Usage: http.py --program PATH [--threads N] [--clients N,N] [--seconds S]
        http.py --program PATH --watchers N [--events N] [--seconds S]
        http.py --program PATH --objects N [--runs N]
   --program PATH   the executable of kcp
-  --threads N      threads of both servers, 1 if left out
+  --threads N      threads of both servers, and of the one that is watched, 1 if left out
   --clients N,N    numbers of clients, 1,16 if left out
   --seconds S      how long each run takes, 3 if left out
-  --watchers N     how many watch, 127 at most: the server has a thread more than they are
+  --watchers N     how many watch
   --events N       how many objects are created while they watch, 500 if left out
   --objects N      how many are taken in
   --runs N         how often, either way in turn, 5 if left out
@@ -151,7 +151,7 @@ def idle_share(server, watchers, seconds):
 
 def measure_watches(asked):
     """Prints how long events take to watchers, and what idle watches cost."""
-    words = [asked.program, "serve", "--port", "0", "--threads", str(max(asked.threads, asked.watchers + 1))]
+    words = [asked.program, "serve", "--port", "0", "--threads", str(asked.threads)]
     _, most = resource.getrlimit(resource.RLIMIT_NOFILE)
     resource.setrlimit(resource.RLIMIT_NOFILE, (most, most))
     print("| Watchers | median, microseconds | median of the last watcher | greatest |")

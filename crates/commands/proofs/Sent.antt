@@ -9,16 +9,19 @@ use denote.Ref.{NamedLft, ShrRef}
 use denote.Struct.Field as Field
 use denote.Struct.Tuple.{TupleAt, type_at}
 use Rattle.std.proofs.Crossing as heap
-use Rattle.std.proofs.net.tcp.TcpListener.TheSendSync as listener
 use Rattle.std.specs.contracts.alloc.Global as Global
 use Rattle.std.specs.contracts.impls.GlobalAllocator.TheImpl.{ghosts}
-use Rattle.std.specs.contracts.net.tcp.TcpListener as TcpListener
 use Rattle.std.specs.contracts.net.tcp.TcpStream as TcpStream
 use Rattle.std.specs.contracts.vec.Vec as Vec
-use Rattle.bells.proofs.stop.Stop.TheSendSync as stop
-use Rattle.bells.specs.contracts.stop.Stop as Stop
-use Rattle.loopback.proofs.Sent.{Reading, connection, connector, own_server, reading}
-use Rattle.loopback.specs.contracts.answering.Connection as Connection
+use Rattle.std.specs.declared.sync.ledger.Ledger.{Ghosts}
+use Rattle.shared_desk.specs.contracts.askings.Anything as Anything
+use Rattle.shared_desk.specs.contracts.askings.AnythingAsking.TheImpl as asks
+use Rattle.shared_desk.specs.contracts.seats.Seat as Seat
+use Rattle.http_loop.specs.contracts.event_loop.EventLoop as EventLoop
+use Rattle.http_loop.specs.contracts.loops.Loops as Loops
+use Rattle.http_loop.proofs.Sent.{event_loop, shared}
+use Rattle.loopback.proofs.Sent.{Reading, Seated, connector, own_server, reading, seat, seated_loop}
+use Rattle.loopback.specs.contracts.ringing.Ringer as Ringer
 use Rattle.loopback.specs.contracts.connecting.Connector as Connector
 use Rattle.loopback.specs.contracts.own_server.OwnServer as OwnServer
 use Rattle.manager.proofs.running.Apis.TheSendSync as apis_of
@@ -30,28 +33,34 @@ use Rattle.commands.specs.contracts.parts.Controllers as Controllers
 alloc : IsSend (as_row Global.the_field)
 alloc = search (heap.send, sendable)
 
+-- a loop whose parts are lent for different times
+module _ (a b d : NamedLft) (R : RattleType) (r : IsSync R) (L : RattleType) (k : Ghosts L.Denot) where
+  lent_loops : IsSend (as_row (Field.shr_ref_field d Loops.the_row tt))
+  lent_loops = search (shared, sendable)
+
+  ringer : IsSend (Ringer.the_row d)
+  ringer = declared_send (Ringer.the_type d) (lent_loops, (search (heap.crosses, sendable) depth 20, tt))
+
+  pub looping : IsSend (EventLoop.the_row a (Seat.the_row b Anything.the_row (Ringer.the_row d) R asks.ghosts) L k)
+  looping = event_loop a (Seat.the_row b Anything.the_row (Ringer.the_row d) R asks.ghosts) L k (seat b (Ringer.the_row d) R ringer r)
+
 module _ (a : NamedLft) (R : RattleType) (r : IsSync R) where
   runtime : IsSend (as_row (Field.row_field (ShrRef a.mir a.lft R)))
   runtime = search (r, sendable)
 
-  lent_listener : IsSend (as_row (Field.shr_ref_field a TcpListener.the_row tt))
-  lent_listener = search (listener.the_sync, heap.crosses, sendable) depth 20
-
-  lent_stop : IsSend (as_row (Field.shr_ref_field a Stop.the_row tt))
-  lent_stop = search (stop.the_sync, heap.crosses, sendable) depth 20
-
   lent_signals : IsSend (as_row (Field.shr_ref_field a Signals.the_row tt))
   lent_signals = search (signals.the_sync, heap.crosses, sendable) depth 20
 
-  connections : IsSend (as_row (Vec.the_field (Connection.the_row a R) Global.the_row ghosts))
-  connections = as_row_send (Vec.the_field (Connection.the_row a R) Global.the_row ghosts) (heap.Vec-send (Connection.the_row a R) (connection a R r))
+  module _ (L : RattleType) (k : Ghosts L.Denot) where
+    event_loops : IsSend (as_row (Vec.the_field (EventLoop.the_row a (Seated a R r) L k) Global.the_row ghosts))
+    event_loops = as_row_send (Vec.the_field (EventLoop.the_row a (Seated a R r) L k) Global.the_row ghosts) (heap.Vec-send (EventLoop.the_row a (Seated a R r) L k) (seated_loop a R r L k))
 
-  answering : IsSend (Answering.the_row a R)
-  answering = declared_send (Answering.the_type a R) (runtime, (lent_listener, (lent_stop, (connections, tt))))
+    answering : IsSend (Answering.the_row a R L k)
+    answering = declared_send (Answering.the_type a R L k) (runtime, (event_loops, tt))
 
-  -- what the closure captures that runs it
-  pub captured_answering : (name : Sym) → IsSend (TupleAt name (Answering.the_row a R ∷ []))
-  captured_answering name = declared_send (type_at name (Answering.the_row a R ∷ [])) (as_row_send (Field.row_field (Answering.the_row a R)) answering, tt)
+    -- what the closure captures that runs them
+    pub captured_answering : (name : Sym) → IsSend (TupleAt name (Answering.the_row a R L k ∷ []))
+    captured_answering name = declared_send (type_at name (Answering.the_row a R L k ∷ [])) (as_row_send (Field.row_field (Answering.the_row a R L k)) answering, tt)
 
   -- how the server of this process is asked, where its lifetimes are b and d
   module _ (b d : NamedLft) where

@@ -1,31 +1,31 @@
 //! `kcp all`: a server with its controllers, asked over HTTP and by the lines of standard input.
-ghost use Rattle.std.specs.Prelude.{◌≤◌, ◌+◌, All, vec_len};
+ghost use Rattle.std.specs.Prelude.{◌≡◌, ◌≤◌, ◌+◌, All, vec_len};
 ghost use Rattle.shared_desk.specs.Desks.{IsNewAt};
 
 use crate::controlling::MOST_WORKERS;
 use crate::own_desk::OwnDesk;
-use crate::parts::run_controllers;
+use crate::parts::{Answering, Controllers, Own, run_controllers};
 use chunked::Watched;
+use http_loop::{Loops, Place, Turns};
 use line_relay::relay;
 use line_service::RunFault;
-use loopback::{KindBells, Reach};
+use loopback::Reach;
 use manager::Signals;
 use options::AllOptions;
-use serving::{ServeFault, listen, wake};
+use serving::{ServeFault, listen, not_listening};
 use shared_desk::{Anything, Desk, StorePass};
 use std::alloc::{AllocError, Global};
 use std::io::{BufRead, Write};
+use std::marker::Brand;
 use std::net::{Net, TcpListener, TcpStream};
-use std::sync::Wait;
-use std::thread;
+use std::sync::ledger::{Blank, Ledger};
+use std::sync::{Mutex, Wait};
 use std::thread::Threads;
 use std::time::Clock;
+use std::{io, thread};
 
 /// How many threads serve connections for users at most.
 const MOST_THREADS: usize = 128;
-
-/// How many threads serve connections beside them: one for the watch of each kind that the controllers follow, and one for the lines.
-const OWN_THREADS: usize = 5;
 
 /// How many threads follow a kind.
 const FOLLOWERS: usize = 4;
@@ -39,15 +39,19 @@ pub enum AllFault {
     Run(RunFault),
 }
 
+/// Returns the fault of an error of the system before anything is served.
+fn not_served(error: io::Error) -> AllFault {
+    AllFault::Serve(not_listening(&error))
+}
+
 /// Returns the fault of running out of memory.
 fn no_memory(_: AllocError) -> AllFault {
     AllFault::Serve(ServeFault::NoMemory)
 }
 
-/// Answers the lines over connections, and tells all threads to stop once they end: `threads` of them may wait for a connection.
+/// Answers the lines over connections, and tells all threads to stop once they end.
 fn answer_lines<R, I, W>(
     own: &OwnDesk<'_, R>,
-    threads: usize,
     reader: &mut I,
     writer: &mut W,
 ) -> Result<(), RunFault>
@@ -63,45 +67,35 @@ where
         &mut Watched::new(writer),
     );
     own.signals.stop_all();
-    own.bells.ring_all();
-    wake(own.rt, own.port, threads);
+    own.loops.stop();
     outcome
 }
 
-/// Returns why all threads have ended, where it is a fault: a stop is none.
+/// Returns why all threads have ended, where it is a fault.
 fn outcome_of(
     served: Result<(), ServeFault>,
     worked: Result<(), AllocError>,
     ran: Result<(), RunFault>,
 ) -> Result<(), AllFault> {
-    match served {
-        Ok(()) | Err(ServeFault::Stopped) => {}
-        Err(fault) => return Err(AllFault::Serve(fault)),
-    }
+    served.map_err(AllFault::Serve)?;
     worked.map_err(no_memory)?;
     ran.map_err(AllFault::Run)
 }
 
-/// Runs all threads: those that answer connections, the controllers with so many workers, and this one, which answers the lines.
-fn run_threads<'a, R, I, W>(
+/// Runs all threads: the loops that answer connections, the controllers, and this one, which answers the lines.
+fn run_threads<'a, R, L, I, W>(
     own: &OwnDesk<'a, R>,
-    listener: &'a TcpListener,
-    passes: Vec<StorePass>,
-    workers: usize,
+    answering: Answering<'a, R, L>,
+    controllers: Controllers<'a, R, Own<'a, R>>,
     reader: &mut I,
     writer: &mut W,
 ) -> Result<(), AllFault>
 where
     R: Net<Listener = TcpListener, Stream = TcpStream> + Eprint + Threads + Wait + Clock + Sync,
+    L: Ledger + Send + Sync,
     I: BufRead,
     W: Write,
-    requires new { All (IsNewAt own.now.desk.now) passes.items }
-    requires enough { workers + 4 ≤ vec_len passes }
 {
-    let mut passes = passes;
-    let controllers = own.controllers(&mut passes, workers).map_err(no_memory)?;
-    let answering = own.answering(listener, passes).map_err(no_memory)?;
-    let threads = answering.connections.len();
     let (served, (worked, ran)) = thread::join(
         own.rt,
         || answering.run(),
@@ -109,11 +103,80 @@ where
             thread::join(
                 own.rt,
                 || run_controllers(controllers),
-                || answer_lines(own, threads, reader, writer),
+                || answer_lines(own, reader, writer),
             )
         },
     );
     outcome_of(served, worked, ran)
+}
+
+/// Makes a loop for each place, and of the other passes the controllers, and runs all threads.
+fn run_over<'a, R, L, I, W>(
+    own: &OwnDesk<'a, R>,
+    turns: &'a Mutex<Turns<L>>,
+    passes: Vec<StorePass>,
+    places: Vec<Place>,
+    listener: TcpListener,
+    reader: &mut I,
+    writer: &mut W,
+) -> Result<(), AllFault>
+where
+    R: Net<Listener = TcpListener, Stream = TcpStream> + Eprint + Threads + Wait + Clock + Sync,
+    L: Ledger + Send + Sync,
+    I: BufRead,
+    W: Write,
+    requires new { All (IsNewAt own.now.desk.now) passes.items }
+    requires enough { vec_len places + 4 ≤ vec_len passes }
+{
+    let workers = passes.len().saturating_sub(places.len() + FOLLOWERS);
+    let mut passes = passes;
+    let controllers = own.controllers(&mut passes, workers).map_err(no_memory)?;
+    let answering = own
+        .answering(turns, passes, places, listener)
+        .map_err(not_served)?;
+    run_threads(own, answering, controllers, reader, writer)
+}
+
+/// Serves and works as `all` does, of no more connections than the ledger has parts.
+fn all_most<R, L, I, W, E>(
+    rt: &R,
+    alloc: Global,
+    options: AllOptions,
+    blank: Blank,
+    reader: &mut I,
+    writer: &mut W,
+    told: &mut E,
+) -> Result<(), AllFault>
+where
+    R: Net<Listener = TcpListener, Stream = TcpStream> + Eprint + Threads + Wait + Clock + Sync,
+    L: Ledger + Send + Sync,
+    I: BufRead,
+    W: Write,
+    E: Write,
+    requires name { blank.name ≡ L.name }
+    requires parts { blank.parts ≡ L.parts }
+    requires most { blank.parts ≡ 18446744073709551615 }
+{
+    let threads = options.threads.max(1).min(MOST_THREADS);
+    let workers = options.workers.min(MOST_WORKERS);
+    let (signals, reach) = (Signals::new(None), Reach::new());
+    let turns = Mutex::new(Turns::<L>::new(u64::MAX, blank));
+    let count = threads + (workers + FOLLOWERS);
+    let Ok((desk, passes)) = Desk::<Anything>::open(alloc, options.window, count) else {
+        return Err(AllFault::Serve(ServeFault::NoMemory));
+    };
+    let (loops, places) = Loops::open(rt, alloc, threads).map_err(not_served)?;
+    let (listener, port) = listen(rt, options.port, told).map_err(AllFault::Serve)?;
+    let own = OwnDesk {
+        rt,
+        alloc,
+        desk: &desk,
+        loops: &loops,
+        port,
+        signals: &signals,
+        reach: &reach,
+    };
+    run_over(&own, &turns, passes, places, listener, reader, writer)
 }
 
 /// Serves requests over HTTP/1.1 on the loopback address, from the empty store on, with the controllers at work there; sends the request of
@@ -133,20 +196,6 @@ where
     W: Write,
     E: Write,
 {
-    let threads = options.threads.max(1).min(MOST_THREADS) + OWN_THREADS;
-    let workers = options.workers.min(MOST_WORKERS);
-    let (bells, signals, reach) = (KindBells::new(), Signals::new(None), Reach::new());
-    let count = threads + workers + FOLLOWERS;
-    let (desk, passes) = Desk::<Anything>::open(alloc, options.window, count).map_err(no_memory)?;
-    let (listener, port) = listen(rt, options.port, told).map_err(AllFault::Serve)?;
-    let own = OwnDesk {
-        rt,
-        alloc,
-        desk: &desk,
-        bells: &bells,
-        port,
-        signals: &signals,
-        reach: &reach,
-    };
-    run_threads(&own, &listener, passes, workers, reader, writer)
+    let blank = Blank::new(u64::MAX);
+    all_most::<R, Brand, I, W, E>(rt, alloc, options, blank, reader, writer, told)
 }

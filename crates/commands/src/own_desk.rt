@@ -3,12 +3,15 @@ ghost use Rattle.std.specs.Prelude.{All};
 ghost use Rattle.shared_desk.specs.Desks.{IsNewAt};
 
 use crate::parts::{Answering, Controllers, Own};
-use loopback::{Connector, KindBells, OwnServer, Reach, connections};
+use http_loop::{Listening, Loops, Place, Turns};
+use loopback::{Connector, OwnServer, Reach, Shared};
 use manager::{Apis, Signals};
 use shared_desk::{Anything, Desk, StorePass};
 use std::alloc::{AllocError, Global};
+use std::io;
 use std::net::{Net, TcpListener, TcpStream};
-use std::sync::Wait;
+use std::sync::ledger::Ledger;
+use std::sync::{Mutex, Wait};
 use std::time::Clock;
 use turns::Looks;
 
@@ -18,7 +21,7 @@ pub struct OwnDesk<'a, R> {
     pub rt: &'a R,
     pub alloc: Global,
     pub desk: &'a Desk<Anything>,
-    pub bells: &'a KindBells,
+    pub loops: &'a Loops,
     pub port: u16,
     pub signals: &'a Signals,
     pub reach: &'a Reach,
@@ -69,7 +72,7 @@ impl<'a, R: Net<Listener = TcpListener, Stream = TcpStream> + Eprint + Wait + Cl
             self.alloc,
             self.desk,
             pass,
-            self.bells,
+            self.loops,
             self.connector(),
         )
     }
@@ -83,6 +86,7 @@ impl<'a, R: Net<Listener = TcpListener, Stream = TcpStream> + Eprint + Wait + Cl
         requires new { All (IsNewAt self.now.desk.now) passes.old.items }
         requires enough { workers + 4 ≤ vec_len passes.old }
         ensures left { All (IsNewAt self.now.desk.now) passes.new.items }
+        ensures count { OnOk result (vec_len passes.new + (workers + 4) ≡ vec_len passes.old) }
         ensures made { IfOk result (λ apis. vec_len apis.workers ≡ workers) }
     {
         let mut made = Vec::with_capacity(self.alloc, workers)?;
@@ -108,7 +112,8 @@ impl<'a, R: Net<Listener = TcpListener, Stream = TcpStream> + Eprint + Wait + Cl
     ) -> Result<Controllers<'a, R, Own<'a, R>>, AllocError>
         requires new { All (IsNewAt self.now.desk.now) passes.old.items }
         requires enough { workers + 4 ≤ vec_len passes.old }
-        ensures { All (IsNewAt self.now.desk.now) passes.new.items }
+        ensures left { All (IsNewAt self.now.desk.now) passes.new.items }
+        ensures count { OnOk result (vec_len passes.new + (workers + 4) ≡ vec_len passes.old) }
     {
         let apis = self.apis(passes, workers)?;
         Ok(Controllers {
@@ -119,21 +124,32 @@ impl<'a, R: Net<Listener = TcpListener, Stream = TcpStream> + Eprint + Wait + Cl
         })
     }
 
-    /// Returns what answers the connections of a listener, one at a time for each pass. The error is running out of memory.
-    pub fn answering(
+    /// Returns what answers the connections of a listener, with a loop for each pass and place. The error is one of the system, or running
+    /// out of memory.
+    pub fn answering<L: Ledger>(
         &self,
-        listener: &'a TcpListener,
+        turns: &'a Mutex<Turns<L>>,
         passes: Vec<StorePass>,
-    ) -> Result<Answering<'a, R>, AllocError>
-        requires { All (IsNewAt self.now.desk.now) passes.items }
+        places: Vec<Place>,
+        listener: TcpListener,
+    ) -> io::Result<Answering<'a, R, L>>
+        requires new { All (IsNewAt self.now.desk.now) passes.items }
+        requires count { vec_len places ≡ vec_len passes }
     {
-        let stop = &self.signals.stop;
-        let connections = connections(self.rt, self.alloc, self.desk, passes, self.bells, stop)?;
+        let shared = Shared {
+            rt: self.rt,
+            alloc: self.alloc,
+            desk: self.desk,
+            loops: self.loops,
+            turns,
+        };
+        let listening = Listening {
+            listener,
+            limit: None,
+        };
         Ok(Answering {
             rt: self.rt,
-            listener,
-            stop,
-            connections,
+            event_loops: shared.event_loops(passes, places, listening)?,
         })
     }
 }

@@ -1,12 +1,12 @@
 //! What `kcp all` runs in threads beside its lines.
 use crate::controlling::MOST_WORKERS;
-use bells::Stop;
-use loopback::{Connection, Connector, OwnServer};
+use loopback::{Connector, OwnServer, SeatedLoop};
 use manager::{Apis, Open, Signals};
-use serving::{ServeFault, accept_connections};
+use serving::{ServeFault, run_row};
 use std::alloc::{AllocError, Global};
 use std::net::{Net, TcpListener, TcpStream};
 use std::sync::Wait;
+use std::sync::ledger::Ledger;
 use std::thread::Threads;
 use std::time::Clock;
 
@@ -39,28 +39,22 @@ where
     manager::run(rt, alloc, Apis { followers, workers }, signals, &Open)
 }
 
-/// A listener, and what answers its connections.
+/// The loops that answer the connections of a listener.
 #[derive(Drop)]
-pub struct Answering<'a, R> {
+pub struct Answering<'a, R, L: Ledger> {
     pub rt: &'a R,
-    pub listener: &'a TcpListener,
-    pub stop: &'a Stop,
-    pub connections: Vec<Connection<'a, R>>,
+    pub event_loops: Vec<SeatedLoop<'a, R, L>>,
 }
 
-impl<R> Answering<'_, R>
+impl<R, L> Answering<'_, R, L>
 where
-    R: Net<Listener = TcpListener, Stream = TcpStream> + Threads + Wait + Clock + Sync,
+    R: Threads + Wait + Clock + Sync,
+    L: Ledger + Send + Sync,
 {
     /// Answers connections until all is to stop.
     pub fn run(self) -> Result<(), ServeFault> {
-        let Answering {
-            rt,
-            listener,
-            stop,
-            connections,
-        } = self;
-        let mut connections = connections;
-        accept_connections(rt, listener, None, stop, connections.as_mut_slice())
+        let Answering { rt, event_loops } = self;
+        let mut event_loops = event_loops;
+        run_row(rt, event_loops.as_mut_slice())
     }
 }

@@ -1,29 +1,129 @@
-//! `kcp serve`: a server that threads share, each of which answers connections.
-ghost use Rattle.std.specs.Prelude.{◌≡◌, ◌⊎◌, ℕ, IfErr, IfSome, OnOk, max, true};
+//! `kcp serve`: a server whose connections some loops answer, each on a thread of its own.
+ghost use Rattle.std.specs.Prelude.{◌≡◌, ◌<◌, ◌^◌, ◌⊎◌, ℕ, IfErr, IfSome, OnErr, OnOk, max, true};
+ghost use Rattle.commands.specs.Answered.{AreNew, HaveAnswered, HaveAnsweredSome};
 ghost use Rattle.std.specs.Io.KnownBytes.{Appends};
 ghost use Rattle.std.specs.Option.{is_some};
 ghost use Rattle.loopback.specs.Threads.{HaveServed, HaveServedSome};
 ghost use Rattle.serving.specs.Serving.{listening};
 
-use bells::Stop;
-use loopback::{KindBells, connections};
+use http_loop::{Listening, Loops, Turns, count_taken};
+use loopback::{SeatedLoop, Shared};
 use options::ServeOptions;
-use serving::ServeFault;
+use serving::{ServeFault, announce, bind, not_listening, run_row};
 use shared_desk::{Anything, Desk};
 use std::alloc::Global;
 use std::io::Write;
+use std::marker::Brand;
 use std::net::{Net, TcpListener, TcpStream};
-use std::sync::Wait;
+use std::sync::ledger::{Blank, Ledger};
+use std::sync::{Mutex, Wait};
 use std::thread::Threads;
 use std::time::Clock;
 
-/// Serves requests over HTTP/1.1 on the loopback address, on as many threads as the options say and one at least, from the empty store on,
-/// and says first where it listens. All threads are at one desk, which opens with windows of the size that the options say, and each
-/// answers one connection after another: of each it asks the desk one thing at most, a request, a list or a watch. What is then written on
-/// the connection, `api::serve_one` says.
+/// Returns why nothing is served: out of memory, or the port cannot be listened on.
+fn not_served(fault: ServeFault) -> ServeFault
+    ensures { (result ≡ ServeFault.NoMemory) ⊎ (result ≡ ServeFault.Listen) }
+{
+    match fault {
+        ServeFault::NoMemory => ServeFault::NoMemory,
+        ServeFault::Listen | ServeFault::Write => ServeFault::Listen,
+    }
+}
+
+/// Says where new loops listen, and runs them until they stop: it ends well only after as many connections as the limit says.
+fn run_loops<R, W, L>(
+    rt: &R,
+    limit: Option<u64>,
+    port: u16,
+    row: Vec<SeatedLoop<'_, R, L>>,
+    writer: &mut W,
+) -> Result<(), ServeFault>
+where
+    R: Threads + Wait + Clock + Sync,
+    W: Write,
+    L: Ledger + Send + Sync,
+    requires few { L.parts < 2 ^ 64 }
+    requires limit { IfSome limit (λ most. L.parts ≡ most) }
+    requires new { AreNew row.items }
+    ensures said { OnOk result (Appends (W.contents writer.old) (W.contents writer.new) (listening port)) }
+    ensures ended { OnOk result (is_some limit ≡ true) }
+    ensures ok { OnOk result (IfSome limit (λ most. HaveAnswered most row.entry.items)) }
+    ensures err { OnErr result (HaveAnsweredSome limit row.entry.items) }
+{
+    announce(writer, port)?;
+    let mut row = row;
+    let outcome = run_row(rt, row.as_mut_slice());
+    let served = count_taken(row);
+    outcome?;
+    if limit == Some(served) {
+        Ok(())
+    } else {
+        Err(ServeFault::Listen)
+    }
+}
+
+/// Serves requests as `serve` does, of no more connections than the ledger has parts.
+fn serve_most<R, W, L>(
+    rt: &R,
+    alloc: Global,
+    options: ServeOptions,
+    most: u64,
+    blank: Blank,
+    writer: &mut W,
+) -> Result<(), ServeFault>
+where
+    R: Net<Listener = TcpListener, Stream = TcpStream> + Threads + Wait + Clock + Sync,
+    W: Write,
+    L: Ledger + Send + Sync,
+    requires name { blank.name ≡ L.name }
+    requires parts { blank.parts ≡ L.parts }
+    requires most { blank.parts ≡ most }
+    requires limit { IfSome options.requests (λ limit. most ≡ limit) }
+    ensures said { OnOk result ((taken : ℕ) × Appends (W.contents writer.old) (W.contents writer.new) (listening taken)) }
+    ensures ended { OnOk result (is_some options.requests ≡ true) }
+    ensures ok { OnOk result (IfSome options.requests (HaveServed R options.window (max options.threads 1))) }
+    ensures err { IfErr result (λ fault. HaveServedSome R options.window (max options.threads 1) options.requests
+        ⊎ (((fault ≡ ServeFault.NoMemory) ⊎ (fault ≡ ServeFault.Listen)) × (writer.new ≡ writer.old))) }
+{
+    let threads = options.threads.max(1);
+    let Ok((desk, passes)) = Desk::<Anything>::open(alloc, options.window, threads) else {
+        return Err(ServeFault::NoMemory);
+    };
+    let (loops, places) = match Loops::open(rt, alloc, threads) {
+        Ok(opened) => opened,
+        Err(error) => return Err(not_served(not_listening(&error))),
+    };
+    let turns = Mutex::new(Turns::<L>::new(most, blank));
+    let (listener, port) = match bind(rt, options.port) {
+        Ok(bound) => bound,
+        Err(fault) => return Err(not_served(fault)),
+    };
+    let shared = Shared {
+        rt,
+        alloc,
+        desk: &desk,
+        loops: &loops,
+        turns: &turns,
+    };
+    let listening = Listening {
+        listener,
+        limit: options.requests,
+    };
+    let row = match shared.event_loops(passes, places, listening) {
+        Ok(row) => row,
+        Err(error) => return Err(not_served(not_listening(&error))),
+    };
+    run_loops(rt, options.requests, port, row, writer)
+}
+
+/// Serves requests over HTTP/1.1 on the loopback address, by as many loops as the options say of threads and one at least, from the empty
+/// store on, and says first where it listens. All loops are at one desk, which opens with windows of the size that the options say, and each
+/// answers many connections at a time: of each it asks the desk one thing at most, a request, a list or a watch. What is then written on
+/// the connection, `http_connection` says.
 ///
-/// It ends well only after a number of connections that the options name, and then as many were answered. At an error some were, no more
-/// than that; or memory ran out before anything was served or written.
+/// It ends well only after a number of connections that the options name: then the desk was asked one thing at most for each of so many, by
+/// all loops together. At an error it was asked no more than that; or the port could not be listened on, or memory ran out, before anything
+/// was served or written.
 pub fn serve<R, W>(
     rt: &R,
     alloc: Global,
@@ -37,23 +137,8 @@ where
     ensures ended { OnOk result (is_some options.requests ≡ true) }
     ensures ok { OnOk result (IfSome options.requests (HaveServed R options.window (max options.threads 1))) }
     ensures err { IfErr result (λ fault. HaveServedSome R options.window (max options.threads 1) options.requests
-        ⊎ ((fault ≡ ServeFault.NoMemory) × (writer.new ≡ writer.old))) }
+        ⊎ (((fault ≡ ServeFault.NoMemory) ⊎ (fault ≡ ServeFault.Listen)) × (writer.new ≡ writer.old))) }
 {
-    let bells = KindBells::new();
-    let stop = Stop::new();
-    let Ok((desk, passes)) = Desk::<Anything>::open(alloc, options.window, options.threads.max(1))
-    else {
-        return Err(ServeFault::NoMemory);
-    };
-    let Ok(mut connections) = connections(rt, alloc, &desk, passes, &bells, &stop) else {
-        return Err(ServeFault::NoMemory);
-    };
-    serving::serve(
-        rt,
-        options.port,
-        options.requests,
-        &stop,
-        writer,
-        connections.as_mut_slice(),
-    )
+    let most = options.requests.unwrap_or(u64::MAX);
+    serve_most::<R, W, Brand>(rt, alloc, options, most, Blank::new(most), writer)
 }

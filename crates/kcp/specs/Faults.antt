@@ -15,4 +15,3 @@ abbrev pub serve_fault_text : ServeFault → List ℕ
 serve_fault_text serve.Listen = codes "listen"
 serve_fault_text serve.Write = codes "write"
 serve_fault_text serve.NoMemory = codes "no memory"
-serve_fault_text serve.Stopped = codes "stopped"

@@ -110,7 +110,6 @@ fn serve_fault_name(fault: ServeFault) -> &'static str
         ServeFault::Listen => "listen",
         ServeFault::Write => "write",
         ServeFault::NoMemory => "no memory",
-        ServeFault::Stopped => "stopped",
     }
 }
 

@@ -18,7 +18,7 @@ use Rattle.shared_desk.specs.declared.askings.Anything.{Anything}
 use Rattle.shared_desk.specs.declared.seats.Seat.{Seat}
 use Rattle.loopback.specs.Asking.{Asks, IsAsked, IsAskedOrNotSent, IsNotAsked}
 use Rattle.loopback.specs.Told.{Says, TellsResult}
-use Rattle.loopback.specs.declared.answering.Ringer.{Ringer}
+use Rattle.loopback.specs.declared.ringing.Ringer.{Ringer}
 
 -- what is taken for a request of this length is that request
 taken_as : (long : Bool) (q r : Request) → (if long then Err too_large else Ok (targets.request q)) ≡ Ok (targets.request r) → (long ≡ false) × (r ≡ q)

@@ -6,7 +6,9 @@ use Rattle.shared_desk.specs.Seats.{desk_at, known_at}
 use Rattle.shared_desk.specs.declared.askings.Anything.{Anything}
 use Rattle.shared_desk.specs.declared.desks.Desk.{Desk}
 use Rattle.loopback.specs.Serving.{IsNewOf, seat_of}
-use Rattle.loopback.specs.declared.answering.Connection.{Connection}
+use Rattle.http_loop.specs.declared.event_loop.EventLoop.{EventLoop}
+use Rattle.shared_desk.specs.declared.seats.Seat.{Seat}
+use Rattle.loopback.specs.declared.ringing.Ringer.{Ringer}
 
 module _ {P C K : Type 0} (known : P → K) (knows : C → K) where
   -- one more is made of the last pass that was left
@@ -25,6 +27,7 @@ module _ {P C K : Type 0} (known : P → K) (knows : C → K) where
   pub made_count : (all : List P) (made : List C) → map knows made ≡ reverse (map known all) → length made ≡ length all
   made_count all made so = sym (length-map made knows) ∙ ap length so ∙ length-reverse (map known all) ∙ length-map all known
 
--- a connection whose seat is at this desk, with a pass that has seen and made nothing, is new there
-pub new_of : {R : Type 0} (d : Desk Anything) (c : Connection R) → desk_at (seat_of c) ≡ d → (known_at (seat_of c)).seen ≡ [] → (known_at (seat_of c)).made ≡ [] → IsNewOf d c
-new_of d c there seen made = (there, (subst (λ e. IsPassAt e (seat_of c).pass) there (seat_of c).sits, seen, made))
+-- a loop whose seat is at this desk, with a pass that has seen and made nothing, and which has taken and asked nothing, is new there
+pub new_of : {R L : Type 0} (d : Desk Anything) (e : EventLoop (Seat Anything Ringer R) L) → desk_at (seat_of e) ≡ d → (known_at (seat_of e)).seen ≡ [] → (known_at (seat_of e)).made ≡ []
+    → e.asker.taken.count ≡ 0 → e.asker.asked ≡ 0 → IsNewOf d e
+new_of d e there seen made taken asked = ((there, (subst (λ x. IsPassAt x (seat_of e).pass) there (seat_of e).sits, seen, made)), taken, asked)

@@ -1,4 +1,4 @@
--- What answers connections, and what opens them, may be sent to a thread.
+-- The loops that answer connections, and what opens them, may be sent to a thread.
 use denote.Hole.{as_row}
 use denote.Param.Send.{IsSend, IsSync, sendable}
 use denote.Param.SendFields.{declared_send}
@@ -12,7 +12,6 @@ use denote.Struct.Field as Field
 use Rattle.shared_desk.specs.contracts.seats.Seat as Seat
 use Rattle.std.proofs.MapsCrossing as maps
 use Rattle.std.specs.contracts.alloc.Global as Global
-use Rattle.bells.proofs.bell.Bell.TheSendSync as bell
 use Rattle.bells.proofs.stop.Stop.TheSendSync as stop
 use Rattle.bells.specs.contracts.stop.Stop as Stop
 use Rattle.routes.below.matchit.proofs.route.Route.TheSendSync as route
@@ -21,9 +20,7 @@ use Rattle.routes.below.slab.proofs.Entry.TheSendSync as place
 use Rattle.routes.below.slab.proofs.Slab.TheSendSync as slab
 use Rattle.routes.proofs.entries.Entry.TheSendSync as entry
 use Rattle.routes.specs.contracts.table.Routes as Routes
-use Rattle.loopback.specs.contracts.answering.Ringer as Ringer
-use Rattle.loopback.specs.contracts.kind_bells.KindBells as KindBells
-use Rattle.loopback.specs.contracts.answering.Connection as Connection
+use Rattle.loopback.specs.contracts.ringing.Ringer as Ringer
 use Rattle.loopback.specs.contracts.connecting.Connector as Connector
 use Rattle.loopback.specs.contracts.heard.Heard as Heard
 use Rattle.loopback.specs.contracts.telling.Teller as Teller
@@ -39,6 +36,10 @@ use Rattle.std.proofs.net.tcp.TcpStream.TheSendSync as stream
 use Rattle.std.specs.contracts.io.buffered.BufReader as BufReader
 use Rattle.std.specs.contracts.net.tcp.TcpStream as TcpStream
 use Rattle.std.specs.contracts.impls.GlobalAllocator.TheImpl.{ghosts}
+use Rattle.std.specs.declared.sync.ledger.Ledger.{Ghosts}
+use Rattle.http_loop.proofs.Sent.{event_loop, shared}
+use Rattle.http_loop.specs.contracts.event_loop.EventLoop as EventLoop
+use Rattle.http_loop.specs.contracts.loops.Loops as Loops
 use Rattle.shared_desk.proofs.Sent.{desk, pass_field}
 
 -- a seat, where its listener may be sent, and its runtime lent
@@ -62,20 +63,24 @@ routes : IsSend (as_row Routes.the_field)
 routes = search (knot.crosses, route.the_send, place.the_send, place.the_field_send, slab.the_send, entry.the_send, heap.crosses, maps.crosses, sendable) depth 60 fits 20000
 
 module _ (a : NamedLft) (R : RattleType) (r : IsSync R) where
+  lent_loops : IsSend (as_row (Field.shr_ref_field a Loops.the_row tt))
+  lent_loops = search (shared, sendable)
+
   ringer : IsSend (Ringer.the_row a)
-  ringer = search (heap.crosses, sendable) depth 20
+  ringer = declared_send (Ringer.the_type a) (lent_loops, (search (heap.crosses, sendable) depth 20, tt))
 
   runtime : IsSend (as_row (Field.row_field (ShrRef a.mir a.lft R)))
   runtime = search (r, sendable)
 
-  lent_bells : IsSend (as_row (Field.shr_ref_field a KindBells.the_row tt))
-  lent_bells = search (bell.the_sync, heap.crosses, sendable) depth 20
-
   lent_stop : IsSend (as_row (Field.shr_ref_field a Stop.the_row tt))
   lent_stop = search (stop.the_sync, heap.crosses, sendable) depth 20
 
-  pub connection : IsSend (Connection.the_row a R)
-  connection = declared_send (Connection.the_type a R) (alloc, (routes, (seat a (Ringer.the_row a) R ringer r, (runtime, (lent_bells, (lent_stop, tt))))))
+  -- the seat of a loop
+  abbrev pub Seated : RattleType
+  Seated = Seat.the_row a Anything.the_row (Ringer.the_row a) R asks.ghosts
+
+  pub seated_loop : (L : RattleType) → (k : Ghosts L.Denot) → IsSend (EventLoop.the_row a Seated L k)
+  seated_loop L k = event_loop a Seated L k (seat a (Ringer.the_row a) R ringer r)
 
   port : IsSend (as_row Field.u16-field)
   port = search (sendable)

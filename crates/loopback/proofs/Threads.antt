@@ -1,15 +1,24 @@
--- What threads have done, by what a server says of its handlers.
-use Rattle.std.proofs.Common.{◌≡◌, ℕ, List, [], ◌∷◌, ◌++◌, Option, Some, None, Result, Ok, Err, IfSome, OnOk, IfErr, OnErr, ◌⊎◌, inl, All, length, map, reverse, refl, ap, sym, subst, ◌∙◌}
+-- What the loops of a server have done, by what each of them did.
+use Rattle.std.proofs.Common.{◌≡◌, ◌≤◌, ◌+◌, ℕ, List, [], ◌∷◌, ◌++◌, Option, Some, None, All, length, map, reverse, refl, ap, sym, subst, ◌∙◌, arith}
 use Rattle.std.specs.List.{range_with_len}
-use Rattle.std.proofs.lemmas.List.{map-append, reverse-append}
+use Rattle.std.proofs.lemmas.List.{length-map, map-append, reverse-append}
+use Rattle.std.proofs.lemmas.List.Elements.{All-head, All-map, All-tail, All-weaker}
 use Rattle.std.proofs.lemmas.Simd.{map-map}
-use Rattle.serving.specs.Serving.{ServesEach, ServesEachSome}
+use Rattle.http_loop.specs.Asked.{HasAsked}
+use Rattle.http_loop.specs.Counted.{taken_over}
+use Rattle.http_loop.specs.declared.event_loop.EventLoop.{EventLoop}
+use Rattle.serving.specs.Rows.{RunsEach, ServesEach}
+use Rattle.shared_desk.specs.Askings.{IsAny}
 use Rattle.shared_desk.specs.Desks.{window_size}
+use Rattle.shared_desk.specs.Seats.{Begins, Calls, Lists, Stays, Watches}
 use Rattle.shared_desk.specs.declared.askings.Anything.{Anything}
 use Rattle.shared_desk.specs.declared.desks.Desk.{Desk}
-use Rattle.loopback.specs.Serving.{IsNewOf, IsOneConnection, name_of}
-use Rattle.loopback.specs.Threads.{Begin, HaveServed, HaveServedSome}
-use Rattle.loopback.specs.declared.answering.Connection.{Connection}
+use Rattle.shared_desk.specs.declared.seats.Seat.{Seat}
+use Rattle.loopback.specs.Asking.{Rings}
+use Rattle.loopback.specs.Serving.{IsNewOf, IsNewSeat, IsServed, name_of, seat_of}
+use Rattle.loopback.specs.Threads.{Begin}
+use Rattle.loopback.specs.declared.ringing.Ringer.{Ringer}
+use Rattle.loopback.proofs.Serving.{stays}
 
 module _ {A B : Type 0} (f : A → B) where
   map_reversed : (xs : List A) → map f (reverse xs) ≡ reverse (map f xs)
@@ -17,24 +26,36 @@ module _ {A B : Type 0} (f : A → B) where
   map_reversed (x ∷ xs) =
       ap (map f) (reverse-append (x ∷ []) xs) ∙ map-append f (reverse xs) (x ∷ []) ∙ ap (λ ys. ys ++ f x ∷ []) (map_reversed xs) ∙ sym (reverse-append (f x ∷ []) (map f xs))
 
--- threads begin, whose connections are made of the passes that a desk opens with
-module _ {R P K : Type 0} (known : P → K) (knows : Connection R → K) (name : K → ℕ) (same : (c : Connection R) → name_of c ≡ name (knows c)) (passes : List P) (made : List (Connection R)) (count : ℕ)
+-- loops begin, whose seats are made of the passes that a desk opens with
+module _ {R L P K : Type 0} (known : P → K) (knows : EventLoop (Seat Anything Ringer R) L → K) (name : K → ℕ) (same : (e : EventLoop (Seat Anything Ringer R) L) → name_of (seat_of e) ≡ name (knows e))
+    (passes : List P) (made : List (EventLoop (Seat Anything Ringer R) L)) (count : ℕ)
     (so : map knows made ≡ reverse (map known passes)) (names : map (λ p. name (known p)) passes ≡ range_with_len 0 (length passes)) (many : length passes ≡ count) where
   -- the last of the passes first, with their numbers
-  numbered : map name_of made ≡ reverse (range_with_len 0 count)
+  numbered : map (λ e. name_of (seat_of e)) made ≡ reverse (range_with_len 0 count)
   numbered =
-      (λ i. map (λ c. same c i) made)
+      (λ i. map (λ e. same e i) made)
       ∙ sym (map-map name knows made) ∙ ap (map name) so ∙ map_reversed name (map known passes) ∙ ap reverse (map-map name known passes ∙ names ∙ ap (range_with_len 0) many)
 
-  pub begun : (d : Desk Anything) (window : ℕ) (handed : List (Connection R)) → window_size d ≡ window → All (IsNewOf d) made → length made ≡ length passes → handed ≡ made → Begin R window count handed
-  begun d window handed sized new each is = subst (Begin R window count) (sym is) (d, sized, each ∙ many, new, numbered)
+  pub begun : (d : Desk Anything) (window : ℕ) → window_size d ≡ window → All (IsNewOf d) made → length made ≡ length passes → Begin R window count (map seat_of made)
+  begun d window sized new each = (d, sized, length-map made seat_of ∙ each ∙ many, All-map (IsNewSeat d) seat_of made (All-weaker (IsNewOf d) (λ e. IsNewSeat d (seat_of e)) (λ e is. is.0) made new), map-map name_of seat_of made ∙ numbered)
 
-module _ {R E : Type 0} (window count : ℕ) (firsts lasts : List (Connection R)) (begin : Begin R window count firsts) where
-  pub served_all : (r : Result (Unit {0}) E) (limit : Option ℕ) → OnOk r (IfSome limit (λ n. ServesEach IsOneConnection n firsts lasts)) → OnOk r (IfSome limit (HaveServed R window count))
-  served_all (Ok u) (Some n) so = (firsts, lasts, begin, so)
-  served_all (Ok u) None so = so
-  served_all (Err e) limit so = so
+module _ {R L : Type 0} where
+  -- what a loop has asked that has taken so many connections
+  abbrev Ran : EventLoop (Seat Anything Ringer R) L → EventLoop (Seat Anything Ringer R) L → Type 0
+  Ran a b = HasAsked (Calls IsAny Rings) (Lists IsAny) (Begins IsAny) (Watches IsAny) a.asker b.asker
 
-  pub served_some : (Early : E → Type 0) (r : Result (Unit {0}) E) (limit : Option ℕ) → OnErr r (ServesEachSome IsOneConnection limit firsts lasts) → IfErr r (λ e. HaveServedSome R window count limit ⊎ Early e)
-  served_some Early (Ok u) limit so = so
-  served_some Early (Err e) limit so = inl (firsts, lasts, begin, so)
+  served : (d : Desk Anything) (a b : EventLoop (Seat Anything Ringer R) L) → IsNewOf d a → Ran a b → IsServed b.asker.taken.count (seat_of a) (seat_of b)
+  served d a b (new, taken, asked) ran =
+      let none = asked in
+      let counted = ran.counted in
+      let within = b.asker.within in
+      ((ran.requests, omega (arith, none, counted, within), ran.chain), stays ran.requests (seat_of a) (seat_of b) ran.chain)
+
+  -- each of new loops ran: over all they have answered as many connections as they took
+  pub served_each : (d : Desk Anything) (firsts lasts : List (EventLoop (Seat Anything Ringer R) L)) → All (IsNewOf d) firsts → RunsEach Ran firsts lasts
+      → ServesEach IsServed (taken_over lasts) (map seat_of firsts) (map seat_of lasts)
+  served_each d [] [] new ran = refl
+  served_each d [] (b ∷ lasts) new ran = elim ran [ ]
+  served_each d (a ∷ firsts) [] new ran = elim ran [ ]
+  served_each d (a ∷ firsts) (b ∷ lasts) new ran =
+      (b.asker.taken.count, taken_over lasts, refl, served d a b (All-head (IsNewOf d) a firsts new) ran.0, served_each d firsts lasts (All-tail (IsNewOf d) a firsts new) ran.1)

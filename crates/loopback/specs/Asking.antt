@@ -17,7 +17,7 @@ use Rattle.shared_desk.specs.Seats.{Calls}
 use Rattle.shared_desk.specs.declared.askings.Anything.{Anything}
 use Rattle.shared_desk.specs.declared.seats.Seat.{Seat}
 use Rattle.loopback.specs.Told.{Says, Tells}
-use Rattle.loopback.specs.declared.answering.Ringer.{Ringer}
+use Rattle.loopback.specs.declared.ringing.Ringer.{Ringer}
 use Rattle.loopback.specs.declared.own_server.OwnServer.{OwnServer}
 
 -- the seat of a server, and what connects to it

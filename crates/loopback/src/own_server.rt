@@ -6,12 +6,12 @@ ghost use Rattle.requests.specs.Requests.{request_of};
 ghost use Rattle.shared_desk.specs.Desks.{IsPassAt, known};
 ghost use Rattle.shared_desk.specs.Seats.{desk_at, known_at};
 
-use crate::answering::Ringer;
-use crate::kind_bells::KindBells;
+use crate::ringing::Ringer;
 use asked::{Asked, read_request};
 use client::{Answer, More};
 use clocks::moment;
 use definitions::kinds::Kind;
+use http_loop::Loops;
 use keys::Fault;
 use remote::{Api, Connect, Opened, Remote};
 use request_texts::{can_be_told, request_text};
@@ -52,23 +52,27 @@ pub fn answer_of(alloc: Global, outcome: Result<reply::Reply, Fault>) -> Answer
 }
 
 impl<'a, R: Wait + Clock, C: Connect + Drop> OwnServer<'a, R, C> {
-    /// Returns the server of a desk, whose writes ring the bell of their kind, and to which this connects.
+    /// Returns the server of a desk, to whose loops its writes are told, and to which this connects.
     pub fn new(
         rt: &'a R,
         alloc: Global,
         desk: &'a Desk<Anything>,
         pass: StorePass,
-        bells: &'a KindBells,
+        loops: &'a Loops,
         connector: C,
     ) -> Result<OwnServer<'a, R, C>, AllocError>
         requires { IsPassAt desk.now pass }
         ensures desk { IfOk result (λ server. desk_at (seat_at server) ≡ desk.entry.now) }
         ensures known { IfOk result (λ server. known_at (seat_at server) ≡ known pass) }
     {
+        let ringer = Ringer {
+            loops,
+            number: None,
+        };
         Ok(OwnServer {
             rt,
             routes: Routes::new(alloc)?,
-            seat: Seat::new(desk, pass, rt, Ringer { bells }),
+            seat: Seat::new(desk, pass, rt, ringer),
             remote: Remote::new(connector),
         })
     }

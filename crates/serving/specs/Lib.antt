@@ -1,1 +1,3 @@
+-- The definitions, in reading order.
 pub mod Serving
+pub mod Rows

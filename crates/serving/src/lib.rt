@@ -1,21 +1,14 @@
-//! Accepts connections on the loopback address and hands each to a handler: on one thread, or on a thread for each handler.
+//! What a server on the loopback address does before and around its loops: listens, says where, and runs each on a thread of its own.
 //!
-//! Contracts say what is written first, and how many connections are handed on, over all handlers together. What a socket
-//! does no contract can say: the time-outs, and how a connection ends, are in the documentation of `connection`.
+//! Contracts say what is written first, and that each loop of a row ran. What a socket does no contract can say.
 #![tactic(auto)]
 
-pub mod alone;
-pub mod connection;
-pub mod ending;
 pub mod fault;
-pub mod handler;
 pub mod listening;
-pub mod threads;
-mod turns;
+pub mod rows;
+pub mod runner;
 
-pub use alone::{accept_alone, serve_alone};
-pub use ending::Ending;
-pub use fault::ServeFault;
-pub use handler::Handler;
-pub use listening::{announce, listen, wake};
-pub use threads::{accept_connections, serve};
+pub use fault::{ServeFault, not_listening};
+pub use listening::{announce, bind, listen};
+pub use rows::run_row;
+pub use runner::Runner;

@@ -8,8 +8,6 @@ mod bell_tests;
 #[cfg(test)]
 mod board_tests;
 #[cfg(test)]
-mod connection_tests;
-#[cfg(test)]
 mod counters;
 #[cfg(test)]
 mod creating;

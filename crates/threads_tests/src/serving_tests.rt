@@ -1,181 +1,165 @@
-//! Threads that serve connections side by side.
-use bells::Stop;
-use serving::{Ending, Handler, accept_connections, serve};
-use stamps::moments::Moment;
+//! Loops that answer connections side by side, as `kcp serve` runs them.
+use commands::serve;
+use options::ServeOptions;
+use serving::ServeFault;
 use std::alloc::Global;
 use std::io::{Read, Write};
-use std::net::{Ipv4Addr, Net, SocketAddr, TcpListener, TcpStream};
-use std::time::{Clock, Duration};
+use std::net::{Ipv4Addr, Net, TcpListener, TcpStream};
+use std::time::Duration;
 use std::{io, thread};
 
-/// How many seconds a client waits for an answer that comes.
+/// How many seconds a client waits for an answer.
 const PATIENCE_SECONDS: u64 = 10;
 
-/// How many milliseconds a client waits for an answer that does not come.
-const SILENCE_MILLISECONDS: u64 = 300;
+/// What each client asks.
+const LIST: &[u8] = b"GET /api/v1/configmaps HTTP/1.1\r\nHost: localhost\r\n\r\n";
 
-/// Reads one line of each connection and answers it, and lingers after that.
-#[derive(Drop)]
-struct Lines<'c, C: Clock> {
-    clock: &'c C,
-    answered: u64,
-}
+/// What answers begin with.
+const YES: &str = "HTTP/1.1 200 OK\r\n";
 
-impl<'c, C: Clock> Lines<'c, C> {
-    /// Returns a handler that answered nobody.
-    fn new(clock: &'c C) -> Lines<'c, C> {
-        Lines { clock, answered: 0 }
+/// Returns options of a server on a free port.
+fn options(threads: usize, requests: u64) -> ServeOptions {
+    ServeOptions {
+        port: 0,
+        window: 16,
+        threads,
+        requests: Some(requests),
     }
 }
 
-impl<C: Clock> Handler for Lines<'_, C> {
-    ghost use Rattle.std.specs.Prelude.{⊤};
-
-    ghost step = { λ _ _. ⊤ };
-
-    fn handle<R: Read, W: Write>(
-        &mut self,
-        reader: &mut R,
-        writer: &mut W,
-        _moment: Moment,
-    ) -> Ending {
-        if reads_line(reader) {
-            let _ = writer.write_all(b"yes");
-        }
-        thread::sleep(self.clock, Duration::from_millis(100));
-        self.answered = self.answered.saturating_add(1);
-        Ending::Whole
-    }
+/// Returns a stream, and one at which what is written to it comes out.
+fn pipe<R: Net<Listener = TcpListener, Stream = TcpStream>>(
+    rt: &R,
+) -> io::Result<(TcpStream, TcpStream)> {
+    let listener = TcpListener::bind(rt, (Ipv4Addr::LOCALHOST, 0))?;
+    let near = TcpStream::connect(rt, listener.local_addr()?)?;
+    let (far, _) = listener.accept()?;
+    Ok((near, far))
 }
 
-/// Reads a short line, and returns whether it ended.
-fn reads_line<R: Read>(reader: &mut R) -> bool {
+/// Reads where a server says that it listens, which is all that it says.
+fn port_of(said: &TcpStream) -> io::Result<u16> {
+    let mut port: u16 = 0;
     let mut byte = [0; 1];
-    for _ in 0..64 {
-        match reader.read(&mut byte) {
-            Ok(1) if byte[0] == b'\n' => return true,
-            Ok(1) => {}
-            _ => return false,
+    let mut reader = said;
+    for at in 0..64 {
+        reader.read_exact(&mut byte)?;
+        if byte[0] == b'\n' {
+            break;
+        }
+        if at >= 20 {
+            port = port
+                .wrapping_mul(10)
+                .wrapping_add(u16::from(byte[0].wrapping_sub(b'0')));
         }
     }
-    false
+    Ok(port)
 }
 
-/// Begins a line on one connection, and ends it once a line on another one is answered. It returns both answers.
+/// Returns a connection to a port.
+fn connected<R: Net<Listener = TcpListener, Stream = TcpStream>>(
+    rt: &R,
+    port: u16,
+) -> io::Result<TcpStream> {
+    let stream = TcpStream::connect(rt, (Ipv4Addr::LOCALHOST, port))?;
+    stream.set_read_timeout(Some(Duration::from_secs(PATIENCE_SECONDS)))?;
+    Ok(stream)
+}
+
+/// Returns whether a connection is answered.
+fn is_answered(alloc: Global, stream: TcpStream) -> bool {
+    match io::read_to_string(alloc, stream) {
+        Ok(answer) => answer.as_str().starts_with(YES),
+        Err(_) => false,
+    }
+}
+
+/// Begins a request on one connection, and ends it once one on another is answered. It returns whether both are.
 fn ask_beside<R: Net<Listener = TcpListener, Stream = TcpStream>>(
     rt: &R,
     alloc: Global,
-    address: SocketAddr,
-) -> io::Result<(String, String)> {
-    let mut first = TcpStream::connect(rt, address)?;
-    first.write_all(b"ha")?;
-    let mut second = TcpStream::connect(rt, address)?;
-    second.set_read_timeout(Some(Duration::from_secs(PATIENCE_SECONDS)))?;
-    second.write_all(b"whole\n")?;
-    let answer = io::read_to_string(alloc, second)?;
-    first.write_all(b"lf\n")?;
-    Ok((io::read_to_string(alloc, first)?, answer))
-}
-
-/// Returns a listener, and where it listens.
-fn listening<R: Net<Listener = TcpListener, Stream = TcpStream>>(
-    rt: &R,
-) -> io::Result<(TcpListener, SocketAddr)> {
-    let listener = TcpListener::bind(rt, (Ipv4Addr::LOCALHOST, 0))?;
-    let address = listener.local_addr()?;
-    Ok((listener, address))
+    said: &TcpStream,
+) -> io::Result<[bool; 2]> {
+    let port = port_of(said)?;
+    let (half, rest) = LIST.split_at(20);
+    let mut first = connected(rt, port)?;
+    first.write_all(half)?;
+    let mut second = connected(rt, port)?;
+    second.write_all(LIST)?;
+    let beside = is_answered(alloc, second);
+    first.write_all(rest)?;
+    Ok([is_answered(alloc, first), beside])
 }
 
 #[test]
 fn a_connection_is_answered_beside_an_unfinished_one(rt: HostRuntime) -> io::Result<()> {
-    let (listener, address) = listening(&rt)?;
-    let mut handlers = [Lines::new(&rt), Lines::new(&rt)];
+    let (mut near, far) = pipe(&rt)?;
     let (served, answers) = thread::join(
         &rt,
-        || accept_connections(&rt, &listener, Some(2), &Stop::new(), &mut handlers),
-        || ask_beside(&rt, rt.alloc(), address),
+        || serve(&rt, rt.alloc(), options(1, 2), &mut near),
+        || ask_beside(&rt, rt.alloc(), &far),
     );
-    let are_yes = answers.map(|(first, second)| [
-        first.as_str() == "yes",
-        second.as_str() == "yes",
-    ])?;
-    assert_eq!(rt; (served.is_ok(), are_yes), (true, [true; 2]));
+    assert_eq!(rt; (served.is_ok(), answers?), (true, [true; 2]));
     Ok(())
 }
 
-/// Makes so many connections, each with a line.
+/// Asks over so many connections at once, and returns how many are answered.
 fn ask_all<R: Net<Listener = TcpListener, Stream = TcpStream>>(
     rt: &R,
     alloc: Global,
-    address: SocketAddr,
+    said: &TcpStream,
     count: usize,
-) -> io::Result<Vec<TcpStream>> {
+) -> io::Result<u64> {
+    let port = port_of(said)?;
     let mut streams = Vec::new(alloc);
     for _ in 0..count {
-        let mut stream = TcpStream::connect(rt, address)?;
-        stream.set_read_timeout(Some(Duration::from_millis(SILENCE_MILLISECONDS)))?;
-        stream.write_all(b"line\n")?;
+        let mut stream = connected(rt, port)?;
+        stream.write_all(LIST)?;
         streams.push(stream)?;
     }
-    Ok(streams)
-}
-
-/// Returns on how many of the connections an answer has come.
-fn answers(streams: &[TcpStream]) -> u64 {
-    let mut count: u64 = 0;
-    for mut stream in streams {
-        let mut answer = [0; 3];
-        if stream.read_exact(&mut answer).is_ok() && answer == *b"yes" {
-            count = count.saturating_add(1);
+    let mut answered: u64 = 0;
+    for stream in streams {
+        if is_answered(alloc, stream) {
+            answered = answered.saturating_add(1);
         }
     }
-    count
-}
-
-/// Returns a listener, and so many connections to it with a line each.
-fn asked<R: Net<Listener = TcpListener, Stream = TcpStream>>(
-    rt: &R,
-    alloc: Global,
-    count: usize,
-) -> io::Result<(TcpListener, Vec<TcpStream>)> {
-    let (listener, address) = listening(rt)?;
-    let streams = ask_all(rt, alloc, address, count)?;
-    Ok((listener, streams))
-}
-
-/// Returns how many connections the handlers answered.
-fn answered<C: Clock>(handlers: &[Lines<'_, C>]) -> u64 {
-    let mut sum: u64 = 0;
-    for handler in handlers {
-        sum = sum.saturating_add(handler.answered);
-    }
-    sum
+    Ok(answered)
 }
 
 #[test]
-fn the_limit_counts_over_all_threads_and_all_are_joined(rt: HostRuntime) -> io::Result<()> {
-    let (listener, streams) = asked(&rt, rt.alloc(), 9)?;
-    let mut handlers = [Lines::new(&rt), Lines::new(&rt), Lines::new(&rt)];
-    let served = accept_connections(&rt, &listener, Some(7), &Stop::new(), &mut handlers);
-    let seen = (served.is_ok(), answered(&handlers), answers(&streams));
-    assert_eq!(rt; seen, (true, 7, 7));
+fn the_limit_counts_over_all_loops_and_all_are_joined(rt: HostRuntime) -> io::Result<()> {
+    let (mut near, far) = pipe(&rt)?;
+    let (served, answered) = thread::join(
+        &rt,
+        || serve(&rt, rt.alloc(), options(3, 7), &mut near),
+        || ask_all(&rt, rt.alloc(), &far, 7),
+    );
+    assert_eq!(rt; (served.is_ok(), answered?), (true, 7));
     Ok(())
 }
 
 #[test]
-fn more_threads_than_connections_end(rt: HostRuntime) -> io::Result<()> {
-    let (listener, streams) = asked(&rt, rt.alloc(), 1)?;
-    let mut handlers = [Lines::new(&rt), Lines::new(&rt), Lines::new(&rt)];
-    let served = accept_connections(&rt, &listener, Some(1), &Stop::new(), &mut handlers);
-    assert_eq!(rt; (served.is_ok(), answers(&streams)), (true, 1));
+fn more_loops_than_connections_end(rt: HostRuntime) -> io::Result<()> {
+    let (mut near, far) = pipe(&rt)?;
+    let (served, answered) = thread::join(
+        &rt,
+        || serve(&rt, rt.alloc(), options(3, 1), &mut near),
+        || ask_all(&rt, rt.alloc(), &far, 1),
+    );
+    assert_eq!(rt; (served.is_ok(), answered?), (true, 1));
     Ok(())
 }
 
 #[test]
-fn the_port_is_said_before_any_thread_serves(rt: HostRuntime) {
-    let mut handlers = [Lines::new(&rt), Lines::new(&rt)];
+fn a_taken_port_is_refused_and_nothing_is_said(rt: HostRuntime) -> io::Result<()> {
+    let listener = TcpListener::bind(&rt, (Ipv4Addr::LOCALHOST, 0))?;
+    let port = listener.local_addr()?.port();
+    let asked = ServeOptions {
+        port,
+        ..options(1, 1)
+    };
     let mut said = Vec::new(rt.alloc());
-    let served = serve(&rt, 0, Some(0), &Stop::new(), &mut said, &mut handlers);
-    let is_said = said.as_slice().starts_with(b"listening 127.0.0.1:");
-    assert_eq!(rt; (served.is_ok(), is_said), (true, true));
+    let served = serve(&rt, rt.alloc(), asked, &mut said);
+    assert_eq!(rt; (served, said.is_empty()), (Err(ServeFault::Listen), true));
+    Ok(())
 }

@@ -7,4 +7,4 @@ use Rattle.commands.proofs.all_together.run_threads.Goals as goal
 pub join-served-requires-send-F : goal.join-served-requires-send-F
 join-served-requires-send-F g c κs within =
     let lent : IsSync (param 0 g.row.R) = search (c, sendable) in
-    param_send 1 _ (arg_send _ no _ (captured_answering _ (param 0 g.row.R) lent _))
+    param_send 1 _ (arg_send _ no _ (captured_answering _ (param 0 g.row.R) lent (param 1 g.row.L) g.L.Ledger _))

@@ -1,0 +1,22 @@
+-- What new loops have answered.
+use Rattle.std.specs.Prelude.{ℕ, List, All, Option, map}
+use Rattle.http_loop.specs.declared.event_loop.EventLoop.{EventLoop}
+use Rattle.serving.specs.Rows.{ServesEach, ServesEachSome}
+use Rattle.shared_desk.specs.declared.askings.Anything.{Anything}
+use Rattle.shared_desk.specs.declared.desks.Desk.{Desk}
+use Rattle.shared_desk.specs.declared.seats.Seat.{Seat}
+use Rattle.loopback.specs.Serving.{IsNewOf, IsServed, seat_of}
+use Rattle.loopback.specs.declared.ringing.Ringer.{Ringer}
+
+module _ {R L : Type 0} where
+  -- the loops are new ones of a desk
+  abbrev pub AreNew : List (EventLoop (Seat Anything Ringer R) L) → Type 0
+  AreNew es = (d : Desk Anything) × All (IsNewOf d) es
+
+  -- over all they have answered this many connections
+  abbrev pub HaveAnswered : ℕ → List (EventLoop (Seat Anything Ringer R) L) → Type 0
+  HaveAnswered n es = (lasts : List (Seat Anything Ringer R)) × ServesEach IsServed n (map seat_of es) lasts
+
+  -- they have answered some, over all no more than the limit if there is one
+  abbrev pub HaveAnsweredSome : Option ℕ → List (EventLoop (Seat Anything Ringer R) L) → Type 0
+  HaveAnsweredSome limit es = (lasts : List (Seat Anything Ringer R)) × ServesEachSome IsServed limit (map seat_of es) lasts
