@@ -1,2 +1,3 @@
 mod Sent
 mod Written
+mod Collected

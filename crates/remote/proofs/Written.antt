@@ -19,7 +19,7 @@ use Rattle.request_texts.specs.declared.text.RequestText.{RequestText}
 use Rattle.remote.specs.Outgoing.{method_text, media_type, written}
 use Rattle.remote.specs.Laws.{IsText, RequestsAreAsked, LongTargetsAreRefused}
 
-named : (m : Method) → method_named (method_text m) ≡ Some m
+pub named : (m : Method) → method_named (method_text m) ≡ Some m
 unfolding http_on_literals
 named Get = refl
 named Post = refl
@@ -27,7 +27,7 @@ named Put = refl
 named Patch = refl
 named Delete = refl
 
-typed : (m : Method) → is_value (media_type m) ≡ true
+pub typed : (m : Method) → is_value (media_type m) ≡ true
 unfolding http_on_literals
 typed Get = refl
 typed Post = refl
@@ -35,7 +35,7 @@ typed Put = refl
 typed Patch = refl
 typed Delete = refl
 
-takes : (m : Method) → takes_type m (Some (without_parameters (trim_ows (media_type m)))) ≡ true
+pub takes : (m : Method) → takes_type m (Some (without_parameters (trim_ows (media_type m)))) ≡ true
 unfolding http_on_literals
 takes Get = refl
 takes Post = refl
@@ -43,7 +43,7 @@ takes Put = refl
 takes Patch = refl
 takes Delete = refl
 
-host_is_value : is_value (codes "localhost") ≡ true
+pub host_is_value : is_value (codes "localhost") ≡ true
 unfolding http_on_literals
 host_is_value = refl
 
@@ -57,7 +57,7 @@ not_taken : (long : Bool) (a : Asked) → Err no_such_path ≡ cond long (Err to
 not_taken true a e = absurd (cc)
 not_taken false a e = absurd (cc)
 
-no_path : (m : Method) (body : List ℕ) → read_request m [] body ≡ Err no_such_path
+pub no_path : (m : Method) (body : List ℕ) → read_request m [] body ≡ Err no_such_path
 unfolding http_on_literals
 no_path m body = refl
 

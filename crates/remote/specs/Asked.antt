@@ -1,23 +1,33 @@
 -- What becomes of a request that is asked over a connection.
-use Rattle.std.specs.Prelude.{◌≡◌, ℕ, List, Option, true, ⊤, codes, []}
+use Rattle.std.specs.Prelude.{◌≡◌, ◌⊎◌, ℕ, List, Option, true, ⊤}
 use Rattle.definitions.specs.ObjectRequests.{Request}
-use Rattle.definitions.specs.declared.kinds.Kind.{Kind}
 use Rattle.chunked.specs.declared.watched.Watched.{Watched}
 use Rattle.client.specs.Calls.{IsExchanged}
 use Rattle.client.specs.declared.answer.Answer.{Answer}
 use Rattle.client.specs.declared.answer.Answer.TheVariants as answer
-use Rattle.exchanges.specs.Requests.{request_text}
+use Rattle.collection_texts.specs.Scopes.{Scope}
+use Rattle.collection_texts.specs.Seen.{scope_of}
 use Rattle.request_texts.specs.Texts.{can_be_told}
 use Rattle.request_texts.specs.Told.{Asks}
 use Rattle.request_texts.specs.declared.text.RequestText.{RequestText}
 use Rattle.remote.specs.Outgoing.{written}
-use Rattle.remote.specs.Targets.{list_target}
+use Rattle.remote.specs.Begun.{IsBegun}
+use Rattle.remote.specs.declared.api.Opened.{Opened}
+use Rattle.remote.specs.declared.api.Opened.TheVariants.{Lost}
 use Rattle.remote.specs.declared.asking.Remote.{Remote}
 use Rattle.remote.specs.declared.limits.Limits.{Limits}
 
 -- the limits of a server
 abbrev pub limits_of : {C I O : Type 0} → Remote C I O → Limits
 limits_of r = r.limits
+
+-- what its lists and watches are of
+abbrev pub scope_at : {C I O : Type 0} → Remote C I O → Scope
+scope_at r = scope_of r.scope
+
+-- both stay as they were
+abbrev pub Stays : {C I O : Type 0} → Remote C I O → Remote C I O → Type 0
+Stays before after = (limits_of after ≡ limits_of before) × (scope_at after ≡ scope_at before)
 
 module _ {R W : Type 0} where
   -- a text was written to the writer of some connection, whole or, as it failed, a beginning of it; and a reply is what that connection's reader then said,
@@ -37,6 +47,7 @@ module _ {R W : Type 0} where
   IsCalled remaining contents most q (answer.Replied r) =
       (t : RequestText) × (can_be_told q ≡ true) × Asks q t × IsSent remaining contents most (written t) (answer.Replied r)
 
--- the text of the request for a list of a kind
-abbrev pub list_text : Kind → List ℕ
-list_text k = request_text (codes "GET") (list_target k) (codes "localhost") (codes "application/json") []
+  -- a text was written to the writer of some connection for a watch, which then began as this says; or it is lost
+  abbrev pub IsOpened : (R → Option (List ℕ)) → (W → Option (List ℕ)) → List ℕ → Opened → Type 0
+  IsOpened remaining contents text o =
+      ((before : R) × (after : R) × (old : Watched W) × (new : Watched W) × IsBegun contents text (remaining before) (remaining after) old new o) ⊎ (o ≡ Lost)

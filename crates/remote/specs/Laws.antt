@@ -1,5 +1,12 @@
 -- What follows for a server that is asked over connections.
-use Rattle.std.specs.Prelude.{◌<◌, ◌≤◌, ◌^◌, ℕ, List, ◌++◌, length, Some, Err, codes, string_bytes}
+use Rattle.std.specs.Prelude.{◌<◌, ◌≤◌, ◌^◌, ℕ, List, ◌++◌, length, Some, Ok, Err, codes, string_bytes}
+use Rattle.collection_texts.specs.Scopes as scopes
+use Rattle.collection_texts.specs.Seen.{scope_of}
+use Rattle.collection_texts.specs.Targets.{list_target, page_target, watch_target, stream_target}
+use Rattle.collection_texts.specs.Told.{IsPage, listed, paged, watched, streamed}
+use Rattle.collection_texts.specs.declared.scopes.Scope.{Scope}
+use Rattle.definitions.specs.declared.kinds.Kind.{Kind}
+use Rattle.definitions.specs.Targets.{Asked}
 use Rattle.definitions.specs.ObjectRequests.{Request}
 use Rattle.definitions.specs.Refusals.{too_large}
 use Rattle.connections.specs.Connections.{longest_head, AsksOnly}
@@ -7,7 +14,7 @@ use Rattle.exchanges.specs.Requests.{request_head}
 use Rattle.request_texts.specs.Texts.{IsPath, taken}
 use Rattle.request_texts.specs.Told.{Asks}
 use Rattle.request_texts.specs.declared.text.RequestText.{RequestText}
-use Rattle.remote.specs.Outgoing.{method_text, media_type, written}
+use Rattle.remote.specs.Outgoing.{get_text, method_text, media_type, written}
 
 -- the head that is written for a request of one object
 abbrev pub head_written : RequestText → List ℕ
@@ -27,3 +34,20 @@ RequestsAreAsked =
 abbrev pub LongTargetsAreRefused : Type 0
 LongTargetsAreRefused =
     (q : Request) (t : RequestText) (rest : List ℕ) → IsText q t → longest_head < length (head_written t) → AsksOnly (written t ++ rest) (Some (Err too_large))
+
+-- what is written for a GET of a target asks a server for this and for nothing else, whatever follows it, where its head is no longer than one may be
+abbrev pub IsAskedBy : List ℕ → Asked → Type 0
+IsAskedBy target a =
+    (rest : List ℕ) → length (request_head (codes "GET") target (codes "localhost") (codes "application/json") 0) ≤ longest_head → AsksOnly (get_text target ++ rest) (Some (Ok a))
+
+-- so do those for the list, the pages, the watches and the stream of a kind in a scope
+abbrev pub AreAsked : scopes.Scope → Kind → Type 0
+AreAsked s k =
+    IsAskedBy (list_target s k) (listed s k)
+    × ((limit r : ℕ) → IsPage limit r → IsAskedBy (page_target s k limit r) (paged s k limit r))
+    × ((r : ℕ) → r < 2 ^ 53 → IsAskedBy (watch_target s k r) (watched s k r))
+    × IsAskedBy (stream_target s k) (streamed s k)
+
+-- in each scope that there is
+abbrev pub CollectionsAreAsked : Type 0
+CollectionsAreAsked = (s : Scope) (k : Kind) → AreAsked (scope_of s) k

@@ -1,5 +1,4 @@
 -- The definitions, in reading order.
-pub mod Targets
 pub mod Outgoing
 pub mod Begun
 pub mod Asked

@@ -1,5 +1,5 @@
 -- A request of one object as it is written (RFC 9112, Message Format).
-use Rattle.std.specs.Prelude.{ℕ, List, codes, string_bytes}
+use Rattle.std.specs.Prelude.{ℕ, List, [], codes, string_bytes}
 use Rattle.exchanges.specs.Requests.{request_text}
 use Rattle.definitions.specs.declared.methods.Method.{Method}
 use Rattle.definitions.specs.declared.methods.Method.TheVariants.{Get, Post, Put, Patch, Delete}
@@ -21,3 +21,7 @@ media_type m = codes "application/json"
 -- no host is named but the machine itself
 abbrev pub written : RequestText → List ℕ
 written t = request_text (method_text t.method) (string_bytes t.target) (codes "localhost") (media_type t.method) (string_bytes t.body)
+
+-- a GET of a target, with no body
+abbrev pub get_text : List ℕ → List ℕ
+get_text target = request_text (codes "GET") target (codes "localhost") (codes "application/json") []

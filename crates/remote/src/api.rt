@@ -23,7 +23,7 @@ pub enum Opened {
     Lost,
 }
 
-/// A server that is asked.
+/// A server that is asked. Its lists, watches and streams of a kind are of all objects of it, or of those that it was made to ask for.
 pub trait Api {
     /// What a server is after it was asked a request of one object, and what became of the request: any relation, and none where an
     /// implementer gives none.
@@ -37,19 +37,19 @@ pub trait Api {
     fn call(&mut self, alloc: Global, request: &Request) -> Answer
         ensures { answers self.old (request_of request.now) result self.new };
 
-    /// Asks for a list of a kind, of all namespaces, and returns what became of it.
+    /// Asks for a list of a kind, and returns what became of it.
     fn list(&mut self, alloc: Global, kind: Kind) -> Answer
         ensures { lists self.old kind result self.new };
 
-    /// Asks for the first object of a kind, of all namespaces, as it was at just this revision, and returns what became of it: a list of that
+    /// Asks for the first object of the list of a kind, as it was at just this revision, and returns what became of it: a list of that
     /// object, or of none. By it a server is known again.
     fn first_at(&mut self, alloc: Global, kind: Kind, revision: u64) -> Answer;
 
-    /// Asks for a watch of a kind, of all namespaces, after a revision. A watch that was open is left.
+    /// Asks for a watch of a kind, after a revision. A watch that was open is left.
     fn open_watch(&mut self, alloc: Global, kind: Kind, revision: u64) -> Opened;
 
-    /// Asks for a stream of a kind, of all namespaces, in place of a list: the present objects come as initial events, and a watch goes on
-    /// after them. A watch that was open is left.
+    /// Asks for a stream of a kind, in place of a list: the present objects come as initial events, and a watch goes on after them. A watch
+    /// that was open is left.
     fn open_stream(&mut self, alloc: Global, kind: Kind) -> Opened;
 
     /// Reads on in the watch that is open; it is cut where none is, or where the buffer has no room.

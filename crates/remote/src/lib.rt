@@ -9,7 +9,6 @@ pub mod connect;
 pub mod laws;
 pub mod limits;
 pub mod outgoing;
-pub mod targets;
 
 pub use api::{Api, Opened};
 pub use asking::Remote;

@@ -54,7 +54,7 @@ pub fn create_text(
 {
     Ok(RequestText {
         method: Method::Post,
-        target: collection_target(alloc, kind, namespace)?,
+        target: collection_target(alloc, kind, Some(namespace))?,
         body: json_text(alloc, object)?,
     })
 }

@@ -1,5 +1,5 @@
-//! The targets of requests of one object: paths, with no query.
-ghost use Rattle.std.specs.Prelude.{◌≡◌, IfOk, Some, string_bytes};
+//! The targets of requests of one object, and of collections: paths, with no query.
+ghost use Rattle.std.specs.Prelude.{◌≡◌, IfOk, option_map, string_bytes};
 ghost use Rattle.definitions.specs.Targets.{collection, object_at, status_of, path_text, prefix};
 ghost use Rattle.keys.specs.Keys.{key_of};
 
@@ -17,13 +17,19 @@ fn prefix(group: Group) -> &'static str
     }
 }
 
-/// Returns the path of the objects of a kind in a namespace. The error is running out of memory.
-pub fn collection_target(alloc: Global, kind: Kind, namespace: &str) -> Result<String, AllocError>
-    ensures { IfOk result (λ t. string_bytes t ≡ path_text (collection kind (Some namespace.now))) }
+/// Returns the path of the objects of a kind, in a namespace or in all. The error is running out of memory.
+pub fn collection_target(
+    alloc: Global,
+    kind: Kind,
+    namespace: Option<&str>,
+) -> Result<String, AllocError>
+    ensures { IfOk result (λ t. string_bytes t ≡ path_text (collection kind (option_map (λ n. n.now) namespace.entry))) }
 {
     let mut text = String::from_str(alloc, prefix(kind.group()))?;
-    text.push_str("/namespaces/")?;
-    text.push_str(namespace)?;
+    if let Some(namespace) = namespace {
+        text.push_str("/namespaces/")?;
+        text.push_str(namespace)?;
+    }
     text.push_str("/")?;
     text.push_str(kind.plural())?;
     Ok(text)
@@ -33,7 +39,7 @@ pub fn collection_target(alloc: Global, kind: Kind, namespace: &str) -> Result<S
 pub fn object_target(alloc: Global, key: &Key) -> Result<String, AllocError>
     ensures { IfOk result (λ t. string_bytes t ≡ path_text (object_at (key_of key.now))) }
 {
-    let mut text = collection_target(alloc, key.kind, key.namespace.as_str())?;
+    let mut text = collection_target(alloc, key.kind, Some(key.namespace.as_str()))?;
     text.push_str("/")?;
     text.push_str(key.name.as_str())?;
     Ok(text)

@@ -1,14 +1,16 @@
 //! What the program is asked.
 use definitions::kinds::Kind;
-use std::alloc::Global;
-use std::io;
 
-/// What the program is asked.
+/// What the words after the program's name ask.
 #[derive(Drop)]
-pub struct Asked {
+pub struct Asked<'a> {
     /// The server's host and port, with a colon between them.
-    pub server: String,
+    pub server: &'a str,
     pub kind: Kind,
+    /// The namespace that is followed, if not all are.
+    pub namespace: Option<&'a str>,
+    /// The text of a selector of labels.
+    pub selector: Option<&'a str>,
     /// The revision at which the program ends, if it does.
     pub until: Option<u64>,
 }
@@ -21,27 +23,38 @@ fn kind_named(name: &str) -> Option<Kind> {
         .copied()
 }
 
-impl Asked {
-    /// Returns what the words after the program's name ask; none where they are bad arguments.
-    pub fn parse(alloc: Global, words: &[String]) -> io::Result<Option<Asked>> {
-        let (server, kind, until) = match words {
-            [option, server, kind] if option.as_str() == "--server" => (server, kind, None),
-            [option, server, kind, limit, revision]
-                if option.as_str() == "--server" && limit.as_str() == "--until" => {
-                match revision.parse::<u64>() {
-                    Ok(revision) => (server, kind, Some(revision)),
-                    Err(_) => return Ok(None),
-                }
-            }
-            _ => return Ok(None),
-        };
-        match kind_named(kind.as_str()) {
-            Some(kind) => Ok(Some(Asked {
-                server: String::from_str(alloc, server.as_str())?,
-                kind,
-                until,
-            })),
-            None => Ok(None),
+impl<'a> Asked<'a> {
+    /// Takes in an option, unless it is none.
+    fn take(&mut self, name: &str, value: &'a str) -> Option<()> {
+        match name {
+            "--namespace" => self.namespace = Some(value),
+            "--selector" => self.selector = Some(value),
+            "--until" => self.until = Some(value.parse::<u64>().ok()?),
+            _ => return None,
         }
+        Some(())
+    }
+
+    /// Returns what the words ask; none where they are bad arguments.
+    pub fn parse(words: &'a [String]) -> Option<Asked<'a>> {
+        let [option, server, kind, options @ ..] = words else {
+            return None;
+        };
+        if option.as_str() != "--server" {
+            return None;
+        }
+        let mut asked = Asked {
+            server: server.as_str(),
+            kind: kind_named(kind.as_str())?,
+            namespace: None,
+            selector: None,
+            until: None,
+        };
+        let mut rest = options;
+        while let [name, value, more @ ..] = rest {
+            asked.take(name.as_str(), value.as_str())?;
+            rest = more;
+        }
+        if rest.is_empty() { Some(asked) } else { None }
     }
 }

@@ -1,62 +1,61 @@
-//! Follows a server: `watch_example --server HOST:PORT KIND [--until REVISION]` keeps a copy of the objects of a kind, writes a line for
-//! each change that it takes in, and one for each publish. At the revision it writes what it has, and ends.
+//! Follows a server: `watch_example --server HOST:PORT KIND [--namespace NAME] [--selector TEXT] [--until REVISION]` keeps a copy of the
+//! objects of a kind, of all or of those of a namespace and with the labels that a selector asks for, writes a line for each change that it
+//! takes in, and one for each publish. At the revision it writes what it has, and ends.
 #![tactic(auto)]
 
 mod asked;
-mod connecting;
 mod printing;
-mod timing;
 
 use asked::Asked;
-use connecting::Connector;
+use collection_texts::{Scope, ScopeFault};
 use following::Follower;
 use informer::PlainInformer;
 use printing::Printer;
 use remote::Remote;
-use std::io::BufWriter;
+use std::io::{BufWriter, ErrorKind};
 use std::process::ExitCode;
 use std::{env, io};
-use timing::Wall;
+use tcp_client::{TcpConnect, TimeLimits, WallClock};
 
-/// Returns what the words after the program's name ask, if they ask something.
-fn read_arguments(rt: &HostRuntime) -> io::Result<Option<Asked>> {
-    let mut words = Vec::new(rt.alloc());
-    for word in env::args(rt)?.skip(1) {
-        words.push(word)?;
-    }
-    Asked::parse(rt.alloc(), &words)
-}
-
-/// Follows the server until the revision that is asked for, and returns whether all lines were written.
-fn run(rt: &HostRuntime, asked: &Asked) -> io::Result<bool> {
-    let connector = Connector::new(rt, rt.alloc(), asked.server.as_str());
-    let mut server = Remote::new(connector);
-    let mut timer = Wall::new(rt);
-    let mut printer = Printer::new(
-        rt.alloc(),
-        BufWriter::new(rt.alloc(), io::writer(rt))?,
-        asked.kind,
-        asked.until,
-    );
-    let informer = PlainInformer::new(rt.alloc());
-    let mut follower = Follower::streaming(rt.alloc(), asked.kind, informer);
+/// Follows what is asked of the server, and returns whether all lines were written.
+fn run(rt: &HostRuntime, asked: &Asked<'_>, scope: Scope) -> io::Result<bool> {
+    let alloc = rt.alloc();
+    let connector = TcpConnect::new(rt, alloc, asked.server, TimeLimits::usual());
+    let writer = BufWriter::new(alloc, io::writer(rt))?;
+    let mut printer = Printer::new(alloc, writer, asked.kind, asked.until);
     following::follow(
-        rt.alloc(),
+        alloc,
         asked.kind,
-        &mut follower,
-        &mut server,
-        &mut timer,
+        &mut Follower::streaming(alloc, asked.kind, PlainInformer::new(alloc)),
+        &mut Remote::within(connector, scope),
+        &mut WallClock::new(rt),
         &mut printer,
     );
     Ok(printer.is_whole())
 }
 
+/// Returns what the words ask and the scope of it, if they ask something.
+fn understood<'a>(rt: &HostRuntime, words: &'a [String]) -> io::Result<Option<(Asked<'a>, Scope)>> {
+    let Some(asked) = Asked::parse(words) else {
+        return Ok(None);
+    };
+    match Scope::new(rt.alloc(), asked.namespace, asked.selector) {
+        Ok(scope) => Ok(Some((asked, scope))),
+        Err(ScopeFault::NoMemory) => Err(io::Error::from(ErrorKind::OutOfMemory)),
+        Err(ScopeFault::Namespace | ScopeFault::Selector) => Ok(None),
+    }
+}
+
 fn main(rt: HostRuntime) -> io::Result<ExitCode> {
-    let Some(asked) = read_arguments(&rt)? else {
+    let mut words = Vec::new(rt.alloc());
+    for word in env::args(&rt)?.skip(1) {
+        words.push(word)?;
+    }
+    let Some((asked, scope)) = understood(&rt, &words)? else {
         eprintln!(rt; "watch_example: bad arguments")?;
         return Ok(ExitCode::from(2));
     };
-    if run(&rt, &asked)? {
+    if run(&rt, &asked, scope)? {
         Ok(ExitCode::SUCCESS)
     } else {
         eprintln!(rt; "watch_example: write")?;

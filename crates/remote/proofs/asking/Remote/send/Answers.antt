@@ -3,7 +3,7 @@ use Rattle.client.specs.Calls.{text_of}
 use Rattle.remote.proofs.Sent.{sent_over}
 use Rattle.remote.proofs.asking.Remote.send.Goals as goal
 
-pub returns-in-Ok : goal.returns-in-Ok
-returns-in-Ok g c =
+pub returns-in-Ok-clause-sent : goal.returns-in-Ok-clause-sent
+returns-in-Ok-clause-sent g c =
     sent_over g.C.Reader.Read.remaining g.C.Writer.Write.contents c.args.most (text_of c.args.request) (device_of c.new.result) c.new-writer.result c.call.new.writer c.call.result
     c.call.ensures.answered

@@ -8,6 +8,8 @@ use Rattle.remote.proofs.asking.RemoteApi.call.Goals as goal
 
 pub returns-in-Ok : goal.returns-in-Ok
 returns-in-Ok g c =
-    let told : can_be_told (request_of c.args.request.now) ≡ true = search rules in
-    called_by g.C.Reader.Read.remaining g.C.Writer.Write.contents (limits_of c.args.self.now).object (text_of c.outgoing.result) (request_of c.args.request.now) c.in-Ok.text c.send.result
-    told c.in-Ok.ensures.asks c.outgoing.ensures c.send.ensures
+    let told : can_be_told (request_of c.args.request.now) ≡ true = search rules in (
+      called_by g.C.Reader.Read.remaining g.C.Writer.Write.contents (limits_of c.args.self.now).object (text_of c.outgoing.result) (request_of c.args.request.now) c.in-Ok.text c.send.result
+          told c.in-Ok.ensures.asks c.outgoing.ensures c.send.ensures.sent,
+      c.send.ensures.stays,
+    )

@@ -1,9 +1,11 @@
 use Rattle.std.proofs.Common.{rules, ◌≡◌, subst}
 use Rattle.client.specs.Calls.{text_of}
-use Rattle.remote.specs.Asked.{IsSent, limits_of, list_text}
+use Rattle.collection_texts.specs.Targets.{list_target}
+use Rattle.remote.specs.Asked.{IsSent, limits_of, scope_at}
+use Rattle.remote.specs.Outgoing.{get_text}
 use Rattle.remote.proofs.asking.RemoteApi.list.Goals as goal
 
 pub returns-in-Ok : goal.returns-in-Ok
 returns-in-Ok g c =
-    let same : text_of c.get.result ≡ list_text c.args.kind = search rules in
-    subst (λ t. IsSent g.C.Reader.Read.remaining g.C.Writer.Write.contents (limits_of c.args.self.now).list t c.send.result) same c.send.ensures
+    let same : text_of c.get.result ≡ get_text (list_target (scope_at c.args.self.now) c.args.kind) = search rules in
+    (subst (λ t. IsSent g.C.Reader.Read.remaining g.C.Writer.Write.contents (limits_of c.args.self.now).list t c.send.result) same c.send.ensures.sent, c.send.ensures.stays)

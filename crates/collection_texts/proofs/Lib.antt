@@ -1,0 +1,5 @@
+pub mod Paths
+pub mod Bytes
+pub mod Parameters
+pub mod Options
+pub mod Asked

@@ -1,0 +1,8 @@
+use Rattle.collection_texts.specs.Seen.{scope_of}
+use Rattle.collection_texts.proofs.Asked.{asks_stream, text_given, told}
+use Rattle.collection_texts.proofs.targets.stream_target.Goals as goal
+
+pub returns-clause-asks : goal.returns-clause-asks
+returns-clause-asks c =
+    let scope = c.args.scope.now in
+    told c.target.result _ _ c.target.ensures (asks_stream (scope_of scope) c.args.kind scope.understood (text_given scope.selector))

@@ -1,0 +1,24 @@
+//! Why there is no such scope.
+ghost use Rattle.std.specs.Prelude.{◌≡◌};
+ghost use Rattle.collection_texts.specs.declared.faults.ScopeFault.TheVariants.{NoMemory};
+
+use std::alloc::AllocError;
+
+/// Why there is no such scope.
+#[derive(Clone, Copy, Debug, PartialEq, Eq, Drop)]
+pub enum ScopeFault {
+    /// No namespace can be called so.
+    Namespace,
+    /// The text is no selector of labels.
+    Selector,
+    /// Memory was wanted and refused.
+    NoMemory,
+}
+
+impl From<AllocError> for ScopeFault {
+    ghost from_gives = { λ _ e. e ≡ NoMemory };
+
+    fn from(_: AllocError) -> ScopeFault {
+        ScopeFault::NoMemory
+    }
+}

@@ -1,0 +1,11 @@
+use Rattle.std.proofs.Common.{rules, ◌≡◌, subst}
+use Rattle.client.specs.Calls.{text_of}
+use Rattle.collection_texts.specs.Targets.{page_target}
+use Rattle.remote.specs.Asked.{IsSent, limits_of, scope_at}
+use Rattle.remote.specs.Outgoing.{get_text}
+use Rattle.remote.proofs.asking.RemoteApi.first_at.Goals as goal
+
+pub returns-in-Ok-clause-sent : goal.returns-in-Ok-clause-sent
+returns-in-Ok-clause-sent g c =
+    let same : text_of c.get.result ≡ get_text (page_target (scope_at c.args.self.now) c.args.kind 1 c.args.revision) = search rules in
+    subst (λ t. IsSent g.C.Reader.Read.remaining g.C.Writer.Write.contents (limits_of c.args.self.now).object t c.send.result) same c.send.ensures.sent

@@ -1,0 +1,11 @@
+-- What connects to a server.
+use Rattle.tcp_client.specs.declared.connecting.TcpConnect.{TcpConnect}
+use Rattle.tcp_client.specs.declared.time_limits.TimeLimits.{TimeLimits}
+
+-- the server to which it connects
+abbrev pub server_of : {R A : Type 0} → TcpConnect R A → A
+server_of c = c.server
+
+-- how long its connections wait
+abbrev pub limits_of : {R A : Type 0} → TcpConnect R A → TimeLimits
+limits_of c = c.limits

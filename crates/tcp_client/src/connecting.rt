@@ -1,0 +1,64 @@
+//! Connections over TCP.
+use crate::time_limits::TimeLimits;
+use remote::Connect;
+use std::alloc::Global;
+use std::io;
+use std::io::{BufReader, ErrorKind};
+use std::net::{Net, TcpStream, ToSocketAddrs};
+
+/// Connects to a server over TCP, again for each request. Where a host's name has several addresses, they are tried in turn.
+#[derive(Drop)]
+pub struct TcpConnect<'a, R, A: Drop> {
+    rt: &'a R,
+    alloc: Global,
+    server: A,
+    limits: TimeLimits,
+}
+
+impl<'a, R, A: Drop> TcpConnect<'a, R, A> {
+    ghost use Rattle.std.specs.Prelude.{◌≡◌};
+    ghost use Rattle.tcp_client.specs.Connections.{limits_of, server_of};
+
+    /// Returns what connects to a server within these time limits. The server is named as for `TcpStream::connect`: `(Ipv4Addr::LOCALHOST, port)`
+    /// is a port of this machine, and `"HOST:PORT"` one of any.
+    pub fn new(rt: &'a R, alloc: Global, server: A, limits: TimeLimits) -> TcpConnect<'a, R, A>
+        ensures server { server_of result ≡ server }
+        ensures limits { limits_of result ≡ limits }
+    {
+        TcpConnect {
+            rt,
+            alloc,
+            server,
+            limits,
+        }
+    }
+}
+
+impl<R: Net<Stream = TcpStream>, A: ToSocketAddrs> TcpConnect<'_, R, A> {
+    /// Returns a stream to the first address of the server that takes a connection in time; where none does, the error of the last.
+    fn reach(&self) -> io::Result<TcpStream> {
+        let mut last = io::Error::from(ErrorKind::AddrNotAvailable);
+        for address in self.server.to_socket_addrs(self.rt)? {
+            match TcpStream::connect_timeout(self.rt, &address, self.limits.connect) {
+                Ok(stream) => return Ok(stream),
+                Err(error) => last = error,
+            }
+        }
+        Err(last)
+    }
+}
+
+impl<R: Net<Stream = TcpStream>, A: ToSocketAddrs> Connect for TcpConnect<'_, R, A> {
+    type Reader = BufReader<TcpStream>;
+
+    type Writer = TcpStream;
+
+    fn connect(&mut self) -> io::Result<(BufReader<TcpStream>, TcpStream)> {
+        let writer = self.reach()?;
+        writer.set_nodelay(true)?;
+        writer.set_read_timeout(Some(self.limits.read))?;
+        writer.set_write_timeout(Some(self.limits.write))?;
+        let reader = BufReader::new(self.alloc, writer.try_clone()?)?;
+        Ok((reader, writer))
+    }
+}
