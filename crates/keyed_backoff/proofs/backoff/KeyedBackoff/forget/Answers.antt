@@ -1,0 +1,13 @@
+use Rattle.std.proofs.Common.{ap, ◌∙◌}
+use Rattle.std.specs.FinMap as map_of
+use Rattle.named_keys.specs.Numbers.{said}
+use Rattle.named_keys.proofs.Numbers.{removed}
+use Rattle.keyed_backoff.proofs.backoff.KeyedBackoff.forget.Goals as goal
+
+pub returns : goal.returns
+returns g c =
+    let m = g.met.K.Named in
+    let R = g.K.Named.order in
+    let say = g.K.Named.says in
+    removed R m.ordered m.apart say g.K.Ord.cmp m.alike c.self.inside.failures.entries c.remove.new.self.entries c.args.key.now c.remove.ensures.updates.1 c.remove.ensures.updates.3
+    ∙ ap (λ l. map_of.remove (said R say l) (say c.args.key.now)) c.self.view_is

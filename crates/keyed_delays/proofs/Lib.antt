@@ -1,0 +1,4 @@
+pub mod Alarms
+pub mod Due
+pub mod SeenAlarms
+pub mod Steps

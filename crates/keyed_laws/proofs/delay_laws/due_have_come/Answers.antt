@@ -1,0 +1,5 @@
+use Rattle.keyed_laws.proofs.DueKeys.{have_come}
+use Rattle.keyed_laws.proofs.delay_laws.due_have_come.Goals as goal
+
+pub returns : goal.returns
+returns g c = have_come g.K.Named.order g.met.K.Named.ordered g.met.K.Named.apart

@@ -1,0 +1,10 @@
+use Rattle.keyed_queue.specs.Queues.{added}
+use Rattle.keyed_laws.specs.QueueLaws.{made}
+use Rattle.keyed_laws.proofs.QueueRuns.{wanted_is_served, added-wanted}
+use Rattle.keyed_laws.proofs.queue_laws.added_is_served.Goals as goal
+
+pub returns : goal.returns
+returns g c =
+    let R = g.K.Named.order in
+    let total = g.met.K.Named.ordered in
+    λ before cs k e. wanted_is_served R total k (added k (made R before)) cs (added-wanted R total k (made R before) e)

@@ -1,0 +1,14 @@
+use Rattle.std.proofs.Common.{refl}
+use Rattle.keyed_queue.specs.Queues.{shut}
+use Rattle.keyed_laws.specs.QueueLaws.{made}
+use Rattle.keyed_laws.proofs.QueueRuns.{sound, runs_are_sound, queued_is_wanted, front_is_queued, shut-wanted}
+use Rattle.keyed_laws.proofs.queue_laws.shut_adds_nothing.Goals as goal
+
+pub returns : goal.returns
+returns g c =
+    let R = g.K.Named.order in
+    let total = g.met.K.Named.ordered in
+    λ before cs k e.
+    let w = made R before in
+    let end = runs_are_sound R total (shut w) cs (sound R total before) in
+    shut-wanted R total k (shut w) cs refl (queued_is_wanted _ _ _ (end.1 k) (front_is_queued R total _ k e))

@@ -1,0 +1,4 @@
+pub mod DelayLaws
+pub mod FailureLaws
+pub mod QueueLaws
+pub mod WorkLaws
