@@ -23,6 +23,9 @@ BESIDE = {
     "client": ["Replies", "Bodies", "Calls", "Watches"],
     "server_state": ["Snapshots", "Recorded", "Servers"],
     "controllers": ["ReadFrames", "Reflectors", "WorkQueues", "Delays", "Expectations", "Informers", "Shifts", "OwnerReferences", "OwedKeys", "Hands", "Commands"],
+    "keyed_queue": ["Queues"],
+    "keyed_delays": ["Delays"],
+    "keyed_backoff": ["Failures"],
     "control": ["Boards"],
     "simulation": ["Followers", "Moves", "Clusters", "OutcomeTexts", "StepLines"],
     "reconciling": ["Turns", "NextSteps", "PodObservations", "Managers", "Outcomes", "ControlPlanes", "OutcomeTexts", "StepLines"],
@@ -30,8 +33,8 @@ BESIDE = {
               "Counts", "Statuses", "Orders"],
 }
 
-# The crates of laws: a file of laws stands in src, with `_laws` at the end of its name.
-LAWS = ["laws", "informer_laws", "plan_laws", "reconciling_laws", "simulation_laws", "control_plane_laws", "collector_laws", "overshoot_laws", "following_laws", "stream_laws", "exchanges"]
+# The crates of laws, whose words stand in the index of words.
+LAWS = ["laws", "keyed_laws", "informer_laws", "plan_laws", "reconciling_laws", "simulation_laws", "control_plane_laws", "collector_laws", "overshoot_laws", "following_laws", "stream_laws", "exchanges"]
 
 HEAD = """# Definitions
 
@@ -45,9 +48,10 @@ Texts are lists of bytes, and numbers are natural, unless a definition says othe
 
 LAWS_HEAD = """# Laws
 
-What follows from the [definitions](DEFINITIONS.md), whatever code meets them. Each law is the contract of a public function in
-the crates `laws`, `informer_laws`, `plan_laws`, `reconciling_laws`, `simulation_laws`, `control_plane_laws`, `collector_laws`, `overshoot_laws`, `following_laws`, `stream_laws` and `exchanges`, and proved. Single cases, computed, are in
-`crates/examples`, `crates/simulation_examples` and `crates/reconciling_examples`. `docs/definitions.py` makes this page.
+What follows from the [definitions](DEFINITIONS.md), whatever code meets them, and what crates of code say of their own words. Each law is
+the contract of a public function with an empty body, and proved; a heading has its crate and its file, in the order of `crates.txt`.
+Single cases, computed, are in `crates/examples`, `crates/simulation_examples` and `crates/reconciling_examples`. `docs/definitions.py` makes
+this page.
 """
 
 
@@ -110,25 +114,30 @@ def crate_rows(crate, modules, used):
     return rows + [row_of(crate, CRATES / crate / f"specs/{module}.antt", used) for module in modules]
 
 
-def law_rows(path):
-    """Returns the heading of a file of laws, its own sentence, and for each law its name and what it says."""
-    rows = ["", f"## `{path.name}`", "", sentence_of(path), ""]
-    for lines, name in re.findall(r"((?:^///.*\n)+)pub fn (\w+)", text_of(path), re.M):
-        sentence = " ".join(line.removeprefix("///").strip() for line in lines.splitlines())
-        rows.append(f"- `{name}`: {sentence}")
+def laws_of(path):
+    """Returns the laws of a file: of each its name, and what it says."""
+    found = re.findall(r"((?:^///.*\n)+)(?:^#.*\n)*pub fn (\w+)\(\)\n(?:^    (?:ensures|//) .*\n)+\{\}", text_of(path), re.M)
+    return [(name, " ".join(line.removeprefix("///").strip() for line in lines.splitlines())) for lines, name in found]
+
+
+def law_rows():
+    """Returns for each file of laws, crate by crate, its heading, its own sentence, and for each law its name and what it says."""
+    crates, rows = re.findall(r"^(\w+):", text_of(DOCS.parent / "crates.txt"), re.M), []
+    for path in (path for crate in crates for path in sorted((CRATES / crate / "src").glob("*.rt")) if "examples" not in str(path)):
+        if laws := laws_of(path):
+            rows += ["", f"## `{path.parent.parent.name}`, `{path.name}`", "", sentence_of(path), ""]
+            rows += [f"- `{name}`: {sentence}" for name, sentence in laws]
     return rows
 
 
 def pages():
     """Returns both pages by their names."""
     used = used_words()
-    words, laws = [HEAD.rstrip("\n")], [LAWS_HEAD.rstrip("\n")]
+    words, laws = [HEAD.rstrip("\n")], [LAWS_HEAD.rstrip("\n"), *law_rows()]
     for folder in modules_of(SPECS / "Lib.antt"):
         words += folder_rows(folder, used)
     for crate, modules in BESIDE.items():
         words += crate_rows(crate, modules, used)
-    for path in sorted((path for crate in LAWS for path in (CRATES / crate / "src").glob("*_laws.rt")), key=lambda path: path.name):
-        laws += law_rows(path)
     return {"DEFINITIONS.md": "\n".join(words) + "\n", "LAWS.md": "\n".join(laws) + "\n"}
 
 
