@@ -5,6 +5,7 @@ A case is a file cases/NAME.http. The program begins with nothing and serves the
 
     > "text"         bytes to send, as a JSON string; `> 16000 * "a"` sends a text so many times
     pieces 7         what is sent goes out in pieces of so many bytes
+    slowly           each piece is sent a while after the one before, so that the server reads it alone
     end              nothing more is sent: that half of the connection is closed
     < 200 {..}       the whole reply: this code and this body, `{time}` in it being the moment of the request
     < refused 400 BadRequest bad request: head
@@ -25,10 +26,12 @@ import re
 import socket
 import subprocess
 import sys
+import time
 
 HERE = pathlib.Path(__file__).resolve().parent
 SECONDS = 60
 AT_ONCE = 8
+BETWEEN_PIECES = 0.02
 TIME = re.compile(rb"\d{4}-\d\d-\d\dT\d\d:\d\d:\d\dZ")
 SOME_TIME = "2026-01-01T00:00:00Z"
 
@@ -79,7 +82,7 @@ class Connection:
     """What is sent over one connection, and what has to come back."""
 
     def __init__(self, lines):
-        self.sent, self.is_ended, self.pieces, self.wanted, frames = b"", False, None, None, None
+        self.sent, self.is_ended, self.pieces, self.between, self.wanted, frames = b"", False, None, 0, None, None
         for line in lines:
             if line.startswith("> "):
                 times, text = re.fullmatch(r"> (?:(\d+) \* )?(\".*\")", line).groups()
@@ -88,6 +91,8 @@ class Connection:
                 self.is_ended = True
             elif line.startswith("pieces "):
                 self.pieces = int(line.removeprefix("pieces "))
+            elif line == "slowly":
+                self.between = BETWEEN_PIECES
             elif line == "< nothing":
                 self.wanted = b""
             elif line == "< watch":
@@ -112,6 +117,7 @@ class Connection:
             try:
                 for at in range(0, len(self.sent), self.pieces or len(self.sent) or 1):
                     stream.sendall(self.sent[at : at + (self.pieces or len(self.sent))])
+                    time.sleep(self.between)
                 if self.is_ended:
                     stream.shutdown(socket.SHUT_WR)
             except (BrokenPipeError, ConnectionResetError):

@@ -1,14 +1,11 @@
 -- A request that is not whole.
-use Rattle.std.specs.Prelude.{◌≡◌, ◌<◌, ◌==◌, ◌⊎◌, ℕ, List, ◌++◌, length, Option, Some, Ok, Err, false}
-use Rattle.std.specs.List.{list_any}
+use Rattle.std.specs.Prelude.{◌≡◌, ◌⊎◌, ℕ, List, ◌++◌, Option, Some, Ok, Err}
 use Rattle.std.specs.Io.KnownBytes.{Consumes}
-use Rattle.httparse.specs.Ascii.{line_feed}
-use Rattle.httparse.specs.Grammar.{HasNoRequest}
 use Rattle.definitions.specs.Refusals.{Refusal, no_memory}
 use Rattle.definitions.specs.Replies.{outcome}
 use Rattle.definitions.specs.Verbs.{refused}
 use Rattle.asked.specs.Asked.{asked_seen}
-use Rattle.connections.specs.Connections.{longest_head, IsHalfAHead, Asks}
+use Rattle.connections.specs.Connections.{IsHalfAHead, Asks}
 use Rattle.connections.specs.Replies.{reply_text}
 use Rattle.received.specs.Arriving.{WaitsFor}
 use Rattle.api.specs.Responding.{text_of, IsReplyTo}
@@ -19,22 +16,12 @@ use Rattle.http_connection.specs.declared.arriving.Awaited.TheVariants as awaite
 use Rattle.http_connection.specs.declared.phase.Phase.{Phase}
 use Rattle.http_connection.specs.declared.phase.Phase.TheVariants as phase
 
--- no line ends in these bytes
-abbrev pub HasNoLineEnd : List ℕ → Type 0
-HasNoLineEnd bytes = list_any (λ b. b == line_feed) bytes ≡ false
-
--- no head ends in these bytes, which are fewer than one may have; but for a piece of a line at their end they are a part of one
-abbrev pub IsInHead : List ℕ → Type 0
-IsInHead bytes =
-    (length bytes < longest_head) × HasNoRequest bytes
-    × ((front : List ℕ) × (line : List ℕ) × (bytes ≡ front ++ line) × IsHalfAHead front × HasNoLineEnd line)
-
--- these bytes are no whole request, nor are they with more, before what is awaited has come
+-- these bytes are no whole request, nor are they refused, nor with more, before what is awaited has come
 abbrev pub Awaits : Awaited → List ℕ → Type 0
-Awaits awaited.LineEnd bytes = IsInHead bytes
+Awaits awaited.HeadEnd bytes = IsHalfAHead bytes
 Awaits (awaited.Bytes n) bytes = WaitsFor bytes n
 
--- these bytes were read, which are no whole request
+-- these bytes were read, which are no whole request and may become one
 abbrev pub IsArriving : Arriving → List ℕ → Type 0
 IsArriving a read = (a.bytes.items ≡ read) × Awaits a.awaited read
 

@@ -7,8 +7,8 @@ use std::alloc::Global;
 /// What has to come before a request can be whole.
 #[derive(Debug, Clone, Copy, PartialEq, Eq)]
 pub enum Awaited {
-    /// The end of a line of its head.
-    LineEnd,
+    /// The end of its head.
+    HeadEnd,
     /// So many bytes in all.
     Bytes(usize),
 }

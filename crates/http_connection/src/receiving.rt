@@ -38,14 +38,13 @@ fn is_half_a_head(bytes: &[u8]) -> bool
     matches!(find_head(bytes, &mut fields), Found::Cut)
 }
 
-/// Returns what has to come after bytes that ask nothing before there are so many. One byte more can end a body; a head it ends only
-/// as the end of a line.
+/// Returns what has to come after bytes that ask nothing before there are so many.
 fn awaited_after(bytes: &[u8], needs: usize) -> Awaited
     requires { WaitsFor bytes.now needs }
     ensures { Awaits result bytes.now }
 {
     if needs - bytes.len() == 1 && is_half_a_head(bytes) {
-        Awaited::LineEnd
+        Awaited::HeadEnd
     } else {
         Awaited::Bytes(needs)
     }
@@ -67,20 +66,20 @@ fn look(alloc: Global, routes: &Routes, bytes: Vec<u8>) -> Phase
     }
 }
 
-/// Returns whether what was awaited has come with a piece, after which there are so many bytes.
-fn has_come(awaited: Awaited, piece: &[u8], len: usize) -> bool
-    ensures { result ≡ false → (before : List ℕ) → length (before ++ piece.now) ≡ len → Awaits awaited before
-        → Awaits awaited (before ++ piece.now) }
+/// Returns whether bytes are to be looked at that are so many by now: a head whenever more of it has come, as it is refused where nothing
+/// can follow that makes it one, and a body once it is whole.
+fn is_to_be_looked_at(awaited: Awaited, len: usize) -> bool
+    ensures { result ≡ false → (before piece : List ℕ) → length (before ++ piece) ≡ len → Awaits awaited before
+        → Awaits awaited (before ++ piece) }
 {
     match awaited {
-        Awaited::LineEnd => len >= LONGEST_HEAD || piece.contains(&b'\n'),
+        Awaited::HeadEnd => true,
         Awaited::Bytes(needs) => len >= needs,
     }
 }
 
-/// Returns where a connection stands whose request was not whole, after these bytes came. A head is looked at only where a line ends, or
-/// at the length that none may have, and a body only once it is whole, so that a request that comes byte by byte costs little more than
-/// one that comes at once. Running out of memory is replied.
+/// Returns where a connection stands whose request was not whole, after these bytes came: what it is does not depend on the pieces in
+/// which they came. Running out of memory is replied.
 pub fn arrived(alloc: Global, routes: &Routes, arriving: Arriving, piece: &[u8]) -> Phase
     ensures { (read : List ℕ) → IsArriving arriving read → Arrives (read ++ piece.now) result }
 {
@@ -89,7 +88,7 @@ pub fn arrived(alloc: Global, routes: &Routes, arriving: Arriving, piece: &[u8])
     if bytes.extend_from_slice(piece).is_err() {
         return refused(Text::OutOfMemory);
     }
-    if has_come(awaited, piece, bytes.len()) {
+    if is_to_be_looked_at(awaited, bytes.len()) {
         look(alloc, routes, bytes)
     } else {
         Phase::Reading(Arriving { bytes, awaited })

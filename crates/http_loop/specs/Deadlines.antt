@@ -9,7 +9,7 @@ use Rattle.http_connection.specs.declared.phase.Phase.TheVariants as phase
 
 -- a head has ten seconds from when the peer connected, and a request thirty
 abbrev pub awaited_deadline : Awaited → List ℕ → ℕ
-awaited_deadline awaited.LineEnd bytes = 10
+awaited_deadline awaited.HeadEnd bytes = 10
 awaited_deadline (awaited.Bytes n) [] = 10
 awaited_deadline (awaited.Bytes n) (b ∷ bytes) = 30
 

@@ -21,7 +21,7 @@ fn reading_seconds(arriving: &Arriving) -> u64
     ensures { result ≡ reading_deadline arriving.now }
 {
     match arriving.awaited {
-        Awaited::LineEnd => HEAD_SECONDS,
+        Awaited::HeadEnd => HEAD_SECONDS,
         Awaited::Bytes(_) => {
             if arriving.bytes.is_empty() {
                 HEAD_SECONDS
