@@ -1,19 +1,19 @@
 //! Delays that grow with each failure.
-ghost use Rattle.std.specs.Prelude.{◌≡◌, ◌+◌, min, true, IfOk, OnOk, OnErr};
+ghost use Rattle.std.specs.Prelude.{◌≡◌, true, IfOk, OnOk, OnErr};
 ghost use Rattle.std.specs.FinMap as map;
 ghost use Rattle.controllers.specs.Delays.{failures, failed, delay_after};
 ghost use Rattle.backoff.specs.Seen.{restored};
 ghost use Rattle.work_keys.specs.WorkKeys.{work_key_of};
 
+use keyed_backoff::KeyedBackoff;
 use std::alloc::{AllocError, Global};
-use std::collections::BTreeMap;
 use std::marker::Model;
 use work_keys::WorkKey;
 
-/// How often each key failed in a row.
+/// How often each work key failed in a row.
 #[derive(Drop)]
 pub struct Backoff {
-    failures: BTreeMap<WorkKey, u32>,
+    keys: KeyedBackoff<WorkKey>,
 }
 
 impl Model for Backoff {
@@ -24,9 +24,9 @@ impl Model for Backoff {
 
     ghost coded = { coded_counts };
 
-    ghost use Rattle.work_keys.specs.Seen.{by_work_key};
+    ghost use Rattle.backoff.specs.Seen.{counts_of};
 
-    ghost view = { λ b. by_work_key (λ f. f) b.failures.entries };
+    ghost view = { λ b. counts_of b.keys };
 }
 
 impl Backoff {
@@ -35,7 +35,7 @@ impl Backoff {
         ensures { result ≡ map.empty }
     {
         Backoff {
-            failures: BTreeMap::new(alloc),
+            keys: KeyedBackoff::new(alloc),
         }
     }
 
@@ -46,17 +46,14 @@ impl Backoff {
         ensures delay { IfOk result (λ d. d ≡ delay_after (failures (work_key_of key.now) self.old)) }
         ensures err { OnErr result (self.new ≡ self.old) }
     {
-        let before = self.failures.get(key).copied().unwrap_or(0);
-        let kept = key.try_copy()?;
-        self.failures.insert(kept, one_more(before))?;
-        Ok(delay_of(before))
+        self.keys.delay(key)
     }
 
     /// Returns how often a key failed in a row, if it did.
     pub fn failures(&self, key: &WorkKey) -> Option<u32>
         ensures { result ≡ map.get self.now (work_key_of key.now) }
     {
-        self.failures.get(key).copied()
+        self.keys.failures(key)
     }
 
     /// Sets how often a key failed in a row to what `failures` returned before a failure that is not to count.
@@ -64,38 +61,13 @@ impl Backoff {
         requires { map.contains_key self.old (work_key_of key.now) ≡ true }
         ensures { self.new ≡ restored (work_key_of key.now) before self.old }
     {
-        match before {
-            None => drop(self.failures.remove(key)),
-            Some(before) => {
-                if let Some(failures) = self.failures.get_mut(key) {
-                    *failures = before;
-                }
-            }
-        }
+        self.keys.restore(key, before);
     }
 
     /// Removes the failures of a key that succeeded.
     pub fn forget(&mut self, key: &WorkKey)
         ensures { self.new ≡ map.remove self.old (work_key_of key.now) }
     {
-        self.failures.remove(key);
-    }
-}
-
-/// Returns one more failure, of which 32 are counted.
-fn one_more(failures: u32) -> u32
-    ensures { result ≡ min (failures + 1) 32 }
-{
-    if failures < 32 { failures + 1 } else { 32 }
-}
-
-/// Returns the delay after some failures. The 18th doubling passes the ceiling.
-fn delay_of(failures: u32) -> u64
-    ensures { result ≡ delay_after failures }
-{
-    if failures < 18 {
-        5 * 2u64.pow(failures)
-    } else {
-        1_000_000
+        self.keys.forget(key);
     }
 }

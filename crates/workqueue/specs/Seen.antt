@@ -1,9 +1,9 @@
--- A work queue, by the keys in its list and in its two sets.
-use Rattle.std.specs.Prelude.{Bool, List, map}
-use Rattle.controllers.specs.WorkQueues.{WorkQueue}
-use Rattle.work_keys.specs.Seen.{work_keys_of}
+-- What a queue of work keys says.
+use Rattle.controllers.specs.WorkQueues.{WorkQueue, work_key_cmp}
 use Rattle.work_keys.specs.WorkKeys.{work_key_of}
 use Rattle.work_keys.specs.declared.work_key.WorkKey.{WorkKey}
+use Rattle.keyed_queue.specs.Lists.{Lists, said}
+use Rattle.keyed_laws.specs.WorkLaws.{work_queue}
 
-abbrev pub work_of : List WorkKey → List WorkKey → List WorkKey → Bool → WorkQueue
-work_of queue dirty processing is_shut = record { queue = map work_key_of queue; dirty = work_keys_of dirty; processing = work_keys_of processing; is_shut = is_shut }
+abbrev pub work_of : Lists WorkKey → WorkQueue
+work_of l = work_queue (said work_key_cmp work_key_of l)

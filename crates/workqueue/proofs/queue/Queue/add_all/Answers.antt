@@ -1,9 +1,16 @@
-use Rattle.workqueue.proofs.Undone.{next_added}
+use Rattle.std.proofs.Common.{ap, ◌∙◌, map}
+use Rattle.std.proofs.lemmas.Result.{on_ok_weaker, on_err_weaker}
+use Rattle.controllers.specs.WorkQueues.{work_key_cmp, add, after_all}
+use Rattle.work_keys.specs.WorkKeys.{work_key_of}
+use Rattle.keyed_queue.specs.Lists.{said}
+use Rattle.keyed_laws.specs.WorkLaws.{work_queue}
+use Rattle.keyed_laws.proofs.WorkQueues.{added_all_are}
 use Rattle.workqueue.proofs.queue.Queue.add_all.Goals as goal
 
-pub loop-key-preserved : goal.loop-key-preserved
-loop-key-preserved c =
-    record {
-      made = c.in_default.ensures.fresh c.args.self.now c.loop-key.invariant.made;
-      added = next_added c.args.self.now c.loop-key.self c.add_fresh.new.self c.args.keys.now c.loop-key.key-index c.key-item.result c.loop-key-test.true c.key-item.is c.loop-key.invariant.added c.in_default.ensures.ok;
-    }
+pub returns-clause-ok : goal.returns-clause-ok
+returns-clause-ok c =
+    let ks = map work_key_of c.args.keys.now in
+    on_ok_weaker c.add_all.result (λ e. ap work_queue e ∙ added_all_are ks (said work_key_cmp work_key_of c.self.inside.keys) ∙ ap (λ w. after_all w (map add ks)) c.self.view_is) c.add_all.ensures.ok
+
+pub returns-clause-err : goal.returns-clause-err
+returns-clause-err c = on_err_weaker c.add_all.result (λ e. ap work_queue e ∙ c.self.view_is) c.add_all.ensures.err

@@ -1,0 +1,9 @@
+use Rattle.std.proofs.Common.{ap, ◌∙◌}
+use Rattle.std.proofs.lemmas.Result.{IfOk-weaker}
+use Rattle.controllers.specs.Delays.{due}
+use Rattle.keyed_laws.proofs.WorkDelays.{same_due}
+use Rattle.backoff.specs.Seen.{counts_of}
+use Rattle.backoff.proofs.delayed.Delayed.due.Goals as goal
+
+pub returns-clause-keys : goal.returns-clause-keys
+returns-clause-keys c = IfOk-weaker c.due.result _ _ (λ ks e. e ∙ same_due c.args.now (counts_of c.self.inside.keys) ∙ ap (due c.args.now) c.self.view_is) c.due.ensures.keys
