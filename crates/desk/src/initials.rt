@@ -11,12 +11,13 @@ use meta::Member;
 use revisions::Event;
 use selector::View;
 use std::alloc::{AllocError, Global};
+use store::ViewSnapshot;
 
-/// What is there of a view, lent, and the revision at which it is: the initial events of a watch.
+/// What is there of a view, and the revision at which it is: the initial events of a watch.
 #[derive(Drop)]
-pub struct InitialEvents<'a> {
+pub struct InitialEvents {
     /// The objects, in the order of keys.
-    pub members: Vec<Member<'a>>,
+    pub objects: ViewSnapshot,
     /// The present revision, after which the watch goes on.
     pub revision: u64,
 }
@@ -41,7 +42,7 @@ fn added_events(
     Ok(events)
 }
 
-impl InitialEvents<'_> {
+impl InitialEvents {
     ghost use Rattle.std.specs.Prelude.{◌≡◌, IfOk, map};
     ghost use Rattle.desk.specs.Initials.{initial_of};
     ghost use Rattle.revisions.specs.Events.{event_seen};
@@ -51,32 +52,31 @@ impl InitialEvents<'_> {
     pub fn events(&self, alloc: Global) -> Result<Vec<Event>, AllocError>
         ensures { IfOk result (λ found. map event_seen found.items ≡ (initial_of self.now).events) }
     {
-        added_events(alloc, self.revision, &self.members)
+        let members = self.objects.all(alloc)?;
+        added_events(alloc, self.revision, &members)
     }
 }
 
 impl Server {
-    ghost use Rattle.std.specs.Prelude.{◌≡◌, IfOk, map};
+    ghost use Rattle.std.specs.Prelude.{◌≡◌, IfOk};
     ghost use Rattle.definitions.specs.History.{viewed};
-    ghost use Rattle.meta.specs.Members.{member_of};
     ghost use Rattle.server_state.specs.Servers.{initial_by};
     ghost use Rattle.selector.specs.Views.{view_of};
     ghost use Rattle.watch_cache.specs.Served.{Serves};
     ghost use Rattle.desk.specs.Initials.{initial_of};
 
     /// Returns what is there of a view, in the order of keys, at the present revision, which may not be older than the one that
-    /// is named, if one is. Nothing is copied: the objects are lent. The errors are a revision above the present one, which
-    /// takes no memory, and running out of memory.
-    pub fn initial<'a>(
-        &'a self,
+    /// is named, if one is. The objects are shared and not looked at, so that it costs little however many there are. The errors
+    /// are a revision above the present one, which takes no memory, and running out of memory.
+    pub fn initial(
+        &self,
         alloc: Global,
         view: &View,
         least: Option<u64>,
-    ) -> Result<InitialEvents<'a>, Fault>
-        ensures events { Serves initial_of (initial_by self.entry.now (view_of view.entry.now) least) result }
-        ensures members { IfOk result (λ i. map member_of i.members.items
-            ≡ viewed (view_of view.entry.now) self.entry.now.snapshot.members) }
-        ensures revision { IfOk result (λ i. i.revision ≡ self.entry.now.snapshot.revision) }
+    ) -> Result<InitialEvents, Fault>
+        ensures events { Serves initial_of (initial_by self.now (view_of view.now) least) result }
+        ensures members { IfOk result (λ i. i.objects ≡ viewed (view_of view.now) self.now.snapshot.members) }
+        ensures revision { IfOk result (λ i. i.revision ≡ self.now.snapshot.revision) }
     {
         let revision = self.revision();
         if let Some(asked) = least {
@@ -87,7 +87,7 @@ impl Server {
                 });
             }
         }
-        let members = self.added(alloc, view)?;
-        Ok(InitialEvents { members, revision })
+        let objects = self.store.snapshot(alloc, view)?;
+        Ok(InitialEvents { objects, revision })
     }
 }

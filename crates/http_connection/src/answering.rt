@@ -37,6 +37,7 @@ fn opened(alloc: Global, watch: OpenWatch) -> Phase
         out: watch.opened.text,
         taken: 0,
         rest: watch.opened.rest,
+        pieces: 0,
         later: Vec::new(alloc),
     })
 }

@@ -44,6 +44,7 @@ fn with_text(watching: Watching, text: Vec<u8>, at: Option<Standing>) -> Phase
             out: watching.out,
             taken: watching.taken,
             rest: watching.rest,
+            pieces: watching.pieces,
             later,
         }),
         None => Phase::Closing(Served::Asked),

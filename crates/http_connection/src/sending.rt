@@ -127,6 +127,7 @@ fn refilled(alloc: Global, watching: Watching) -> Option<Watching>
     Some(Watching {
         out,
         taken: 0,
+        pieces: watching.pieces.wrapping_add(1),
         ..watching
     })
 }

@@ -25,6 +25,8 @@ pub struct Watching {
     pub taken: usize,
     /// What it opened with and is still to be made. It is to be written after these.
     pub rest: FirstFrames,
+    /// How many pieces of that were made: each only once all before it was written.
+    pub pieces: usize,
     /// What is to be written after all of that: the frames of its looks, and its end.
     pub later: Vec<u8>,
 }

@@ -49,18 +49,23 @@ pub(crate) struct Held {
     left: Option<usize>,
 }
 
-/// Returns how much there is to take: objects whose frames are still to be made, and bytes that are.
-fn extent(phase: &Phase) -> (usize, usize) {
+/// Returns how many pieces were made of what there is to take, and how much is made and not taken; nothing where there is nothing to take.
+fn extent(phase: &Phase) -> Option<(usize, usize)> {
     match phase {
-        Phase::Replying(replying) => (0, usize::MAX - replying.taken),
-        Phase::Watching(watching) => (watching.rest.objects_left(), watching.left()),
-        _ => (0, 0),
+        Phase::Replying(replying) => Some((0, usize::MAX - replying.taken)),
+        Phase::Watching(watching) if watching.has_more() => {
+            Some((watching.pieces, watching.left()))
+        }
+        _ => None,
     }
 }
 
-/// Returns whether there was nothing to take, or there is less than there was: something was taken.
-fn has_taken(before: (usize, usize), now: (usize, usize)) -> bool {
-    (before.0 == 0 && before.1 == 0) || now.0 < before.0 || (now.0 == before.0 && now.1 < before.1)
+/// Returns whether there was nothing to take, or something was taken: what was made is, or some of it.
+fn has_taken(before: Option<(usize, usize)>, now: Option<(usize, usize)>) -> bool {
+    match (before, now) {
+        (Some(before), Some(now)) => before.0 != now.0 || before.1 > now.1,
+        _ => true,
+    }
 }
 
 impl Held {

@@ -28,8 +28,8 @@ fn lines(alloc: Global, events: &[Event]) -> Result<Vec<u8>, AllocError> {
 /// Returns the lines of what is there of a kind as a watch begins, and of the bookmark that closes them. The error is running out of memory.
 fn initial_lines(alloc: Global, kind: Kind, begun: &Begun) -> Result<Vec<u8>, AllocError> {
     let mut text = Vec::new(alloc);
-    for object in &begun.objects {
-        let line = added_text(alloc, object)?;
+    for member in &begun.objects.all(alloc)? {
+        let line = added_text(alloc, member.object)?;
         text.extend_from_slice(line.as_bytes())?;
     }
     let line = bookmark_text(alloc, kind, true, begun.revision)?;

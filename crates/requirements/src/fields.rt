@@ -10,7 +10,7 @@ use crate::cuts::{cut_at, is_blank};
 use crate::faults::{Fault, Stop};
 use crate::texts::compare;
 use definitions::selectors::{Operator, SelectableField};
-use std::alloc::Global;
+use std::alloc::{AllocError, Global};
 use std::marker::Model;
 
 /// A requirement of a field. A value can be any bytes, so it is stored as they are.
@@ -111,6 +111,16 @@ fn field_requirements(alloc: Global, text: &[u8]) -> Result<Vec<FieldRequirement
 }
 
 impl FieldRequirement {
+    fn try_copy(&self, alloc: Global) -> Result<FieldRequirement, AllocError>
+        ensures { IfOk result (λ r. field_requirement_of r ≡ field_requirement_of self.now) }
+    {
+        Ok(FieldRequirement {
+            field: self.field,
+            wanted: self.wanted,
+            value: Vec::from_slice(alloc, &self.value)?,
+        })
+    }
+
     fn is_met(&self, name: &str, namespace: &str) -> bool
         ensures { result ≡ field_meets (field_requirement_of self.now) name.now namespace.now }
     {
@@ -132,6 +142,19 @@ fn all_are_met(requirements: &Vec<FieldRequirement>, name: &str, namespace: &str
         }
     }
     true
+}
+
+fn copies(
+    alloc: Global,
+    requirements: &[FieldRequirement],
+) -> Result<Vec<FieldRequirement>, AllocError>
+    ensures { IfOk result (λ v. field_requirements_of v.items ≡ field_requirements_of requirements.now) }
+{
+    let mut copies = Vec::with_capacity(alloc, requirements.len())?;
+    for requirement in requirements {
+        copies.push(requirement.try_copy(alloc)?)?;
+    }
+    Ok(copies)
 }
 
 impl Fields {
@@ -158,6 +181,15 @@ impl Fields {
             Err(Stop::Refused) => Err(Fault::Malformed),
             Err(Stop::NoMemory) => Err(Fault::NoMemory),
         }
+    }
+
+    /// Returns a copy of the selector. The error is running out of memory.
+    pub fn try_copy(&self, alloc: Global) -> Result<Fields, AllocError>
+        ensures { IfOk result (λ s. s ≡ self.now) }
+    {
+        Ok(Fields {
+            requirements: copies(alloc, &self.requirements)?,
+        })
     }
 
     /// Returns whether it has no requirement, and so matches all.

@@ -1,11 +1,12 @@
 //! One requirement of labels.
-ghost use Rattle.std.specs.Prelude.{◌≡◌, option_map};
+ghost use Rattle.std.specs.Prelude.{◌≡◌, IfOk, option_map};
 ghost use Rattle.definitions.specs.Labels.{label_at};
 ghost use Rattle.definitions.specs.Selectors.{is_among, holds, meets};
 ghost use Rattle.requirements.specs.Seen.{now, texts_of, requirement_of, labels_in};
 
 use definitions::selectors::Operator;
 use serde_json::Value;
+use std::alloc::{AllocError, Global};
 
 /// What a selector says of the label under a key (Kubernetes, Labels and Selectors).
 #[derive(Drop)]
@@ -40,7 +41,28 @@ fn label_at<'l>(labels: Option<&'l Value>, key: &str) -> Option<&'l str>
     }
 }
 
+fn copies(alloc: Global, texts: &[String]) -> Result<Vec<String>, AllocError>
+    ensures { IfOk result (λ v. texts_of v.items ≡ texts_of texts.now) }
+{
+    let mut copies = Vec::with_capacity(alloc, texts.len())?;
+    for text in texts {
+        copies.push(text.clone()?)?;
+    }
+    Ok(copies)
+}
+
 impl Requirement {
+    /// Returns a copy of the requirement. The error is running out of memory.
+    pub fn try_copy(&self, alloc: Global) -> Result<Requirement, AllocError>
+        ensures { IfOk result (λ r. requirement_of r ≡ requirement_of self.now) }
+    {
+        Ok(Requirement {
+            key: self.key.clone()?,
+            operator: self.operator,
+            values: copies(alloc, &self.values)?,
+        })
+    }
+
     /// Returns whether the value of the label under its key, where there is one, meets it. It takes no memory.
     pub fn holds(&self, found: Option<&str>) -> bool
         ensures { result ≡ holds self.now.operator (texts_of self.now.values.items) (option_map now found.entry) }

@@ -12,7 +12,7 @@ use meta::stored::StoredObject;
 use requirements::texts::requirements;
 use requirements::{Fault, Requirement, Stop};
 use serde_json::Value;
-use std::alloc::Global;
+use std::alloc::{AllocError, Global};
 use std::marker::Model;
 
 /// Requirements of labels, all of which must hold (Kubernetes, Labels and Selectors).
@@ -65,6 +65,16 @@ fn all_are_met_by(requirements: &Vec<Requirement>, object: &StoredObject) -> boo
     true
 }
 
+fn copies(alloc: Global, requirements: &[Requirement]) -> Result<Vec<Requirement>, AllocError>
+    ensures { IfOk result (λ v. requirements_of v.items ≡ requirements_of requirements.now) }
+{
+    let mut copies = Vec::with_capacity(alloc, requirements.len())?;
+    for requirement in requirements {
+        copies.push(requirement.try_copy(alloc)?)?;
+    }
+    Ok(copies)
+}
+
 impl Selector {
     /// Returns the selector that matches all. It takes no memory.
     pub fn everything(alloc: Global) -> Selector
@@ -106,6 +116,15 @@ impl Selector {
             Err(Stop::Refused) => Err(Fault::Invalid),
             Err(Stop::NoMemory) => Err(Fault::NoMemory),
         }
+    }
+
+    /// Returns a copy of the selector. The error is running out of memory.
+    pub fn try_copy(&self, alloc: Global) -> Result<Selector, AllocError>
+        ensures { IfOk result (λ s. s ≡ self.now) }
+    {
+        Ok(Selector {
+            requirements: copies(alloc, &self.requirements)?,
+        })
     }
 
     /// Returns whether it has no requirement, and so matches all.

@@ -1,5 +1,5 @@
 //! Views.
-ghost use Rattle.std.specs.Prelude.{◌≡◌};
+ghost use Rattle.std.specs.Prelude.{◌≡◌, IfOk, option_map, string_bytes};
 ghost use Rattle.definitions.specs.History.{in_view};
 ghost use Rattle.keys.specs.Keys.{key_of};
 
@@ -8,7 +8,7 @@ use definitions::kinds::Kind;
 use keys::Key;
 use meta::stored::StoredObject;
 use requirements::Fields;
-use std::alloc::Global;
+use std::alloc::{AllocError, Global};
 
 /// What a list or a watch asks for (Kubernetes API Concepts, Resource URIs; Labels and Selectors; Field Selectors).
 #[derive(Drop)]
@@ -22,8 +22,17 @@ pub struct View {
     pub fields: Fields,
 }
 
+fn copied(text: Option<&String>) -> Result<Option<String>, AllocError>
+    ensures { IfOk result (λ copy. option_map string_bytes copy ≡ option_map (λ t. string_bytes t.now) text.entry) }
+{
+    match text {
+        None => Ok(None),
+        Some(text) => Ok(Some(text.clone()?)),
+    }
+}
+
 impl View {
-    ghost use Rattle.std.specs.Prelude.{◌≡◌, ◌==◌, option_map, string_bytes};
+    ghost use Rattle.std.specs.Prelude.{◌≡◌, ◌==◌, IfOk, option_map, string_bytes};
     ghost use Rattle.definitions.specs.History.{in_view, in_namespace, unfiltered};
     ghost use Rattle.definitions.specs.Lists.{is_selective};
     ghost use Rattle.selector.specs.Views.{view_of};
@@ -38,6 +47,18 @@ impl View {
             labels: Selector::everything(alloc),
             fields: Fields::everything(alloc),
         }
+    }
+
+    /// Returns a copy of the view. The error is running out of memory.
+    pub fn try_copy(&self, alloc: Global) -> Result<View, AllocError>
+        ensures { IfOk result (λ v. view_of v ≡ view_of self.now) }
+    {
+        Ok(View {
+            kind: self.kind,
+            namespace: copied(self.namespace.as_ref())?,
+            labels: self.labels.try_copy(alloc)?,
+            fields: self.fields.try_copy(alloc)?,
+        })
     }
 
     /// Returns whether the view selects by labels or fields, and not by kind and namespace alone. It takes no memory.

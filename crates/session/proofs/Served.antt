@@ -1,5 +1,5 @@
 -- What a served request says of its outcome, and what initial events say of the lines of a stream.
-use Rattle.std.proofs.Common.{◌≡◌, ◌≢◌, ◌∙◌, ◌⊎◌, inl, inr, ℕ, Bool, List, [], ◌∷◌, ◌++◌, map, Option, Some, None, Result, Ok, Err, IfOk, decimal, option_map, string_bytes, ap, ap₂, sym}
+use Rattle.std.proofs.Common.{◌≡◌, ◌≢◌, ◌∙◌, ◌⊎◌, inl, inr, ℕ, Bool, List, [], ◌∷◌, ◌++◌, Option, Some, None, Result, Ok, Err, IfOk, decimal, option_map, string_bytes, ap, ap₂, sym}
 use Rattle.answers.specs.Serves.{Serves}
 use Rattle.definitions.specs.declared.versions.Start.TheVariants.{Streamed}
 use Rattle.definitions.specs.History.{View, Entries, viewed}
@@ -17,7 +17,6 @@ use Rattle.desk.specs.declared.initials.InitialEvents.{InitialEvents}
 use Rattle.keys.specs.Faults.{refusal_of}
 use Rattle.keys.specs.declared.fault.Fault.{Fault}
 use Rattle.keys.specs.declared.fault.Fault.TheVariants as fault
-use Rattle.meta.specs.Members.{member_of}
 use Rattle.meta.specs.Writes.{write_of}
 use Rattle.meta.specs.declared.writes.Write.{Write}
 use Rattle.reply.specs.declared.reply.Reply.{Reply}
@@ -42,9 +41,8 @@ list-refused (refused f) e text (Ok l) is same wants = same ∙ ap (λ g. reply_
 -- ---- initial events
 
 -- the lines of a stream whose initial events are given
-pub stream-given : (s : Server) (v : View) (bookmarks : Bool) (least : Option ℕ) (i : InitialEvents) → Serving initial_of (initial_by s v least) (Ok i) → map member_of i.members.items ≡ viewed v s.snapshot.members
-    → i.revision ≡ s.snapshot.revision
-    → reply_text (shown v.kind (opening_lines bookmarks i.revision (map member_of i.members.items))) ≡ reply_text (watch_reply v.kind (watch_served s v (record { start = Streamed least; bookmarks = bookmarks })))
+pub stream-given : (s : Server) (v : View) (bookmarks : Bool) (least : Option ℕ) (i : InitialEvents) → Serving initial_of (initial_by s v least) (Ok i) → i.objects ≡ viewed v s.snapshot.members → i.revision ≡ s.snapshot.revision
+    → reply_text (shown v.kind (opening_lines bookmarks i.revision i.objects)) ≡ reply_text (watch_reply v.kind (watch_served s v (record { start = Streamed least; bookmarks = bookmarks })))
 stream-given s v bookmarks None i is members revision = ap₂ (λ r ms. reply_text (shown v.kind (opening_lines bookmarks r ms))) revision members
 stream-given s v bookmarks (Some r) i is members revision =
     let ms = viewed v s.snapshot.members in

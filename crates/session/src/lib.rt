@@ -2,6 +2,7 @@
 #![tactic(auto)]
 
 pub mod effects;
+mod openings;
 pub mod session_laws;
 pub mod sessions;
 

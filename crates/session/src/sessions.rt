@@ -1,5 +1,6 @@
 //! Sessions.
 use crate::effects::{Effect, Prepared};
+use crate::openings::stream_opening;
 use asked::{Asked, read_request};
 use definitions::methods::Method;
 use definitions::refusals::Part;
@@ -10,7 +11,7 @@ use line_service::LineService;
 use meta::Write;
 use reply::Reply;
 use reply_lines::lines::{
-    change_lines, fault_line, initial_lines, line, opening_lines, refusal_line, success_line,
+    change_lines, fault_line, initial_lines, line, refusal_line, success_line,
 };
 use reply_lines::no_memory_line;
 use requests::Request;
@@ -44,10 +45,9 @@ impl Model for Session {
 }
 
 impl Session {
-    ghost use Rattle.std.specs.Prelude.{◌≡◌, IfOk, OnOk, OnErr, false, map};
+    ghost use Rattle.std.specs.Prelude.{◌≡◌, IfOk, OnOk, OnErr, false};
     ghost use Rattle.definitions.specs.History.{viewed};
     ghost use Rattle.desk.specs.Initials.{initial_of};
-    ghost use Rattle.meta.specs.Members.{member_of};
     ghost use Rattle.answers.specs.Serves as answers;
     ghost use Rattle.desk.specs.Replies.{Lists};
     ghost use Rattle.revisions.specs.Watches.{watched_of};
@@ -128,17 +128,16 @@ impl Session {
         self.server.watch_from(alloc, view, from, most)
     }
 
-    /// Returns what is there of a view, lent, not older than the revision that is named, if one is.
-    fn initial<'a>(
-        &'a self,
+    /// Returns what is there of a view, not older than the revision that is named, if one is.
+    fn initial(
+        &self,
         alloc: Global,
         view: &View,
         least: Option<u64>,
-    ) -> Result<InitialEvents<'a>, Fault>
-        ensures events { Serves initial_of (initial_by self.entry.now.server (view_of view.entry.now) least) result }
-        ensures members { IfOk result (λ i. map member_of i.members.items
-            ≡ viewed (view_of view.entry.now) self.entry.now.server.snapshot.members) }
-        ensures revision { IfOk result (λ i. i.revision ≡ self.entry.now.server.snapshot.revision) }
+    ) -> Result<InitialEvents, Fault>
+        ensures events { Serves initial_of (initial_by self.now.server (view_of view.now) least) result }
+        ensures members { IfOk result (λ i. i.objects ≡ viewed (view_of view.now) self.now.server.snapshot.members) }
+        ensures revision { IfOk result (λ i. i.revision ≡ self.now.server.snapshot.revision) }
     {
         self.server.initial(alloc, view, least)
     }
@@ -175,13 +174,7 @@ impl Session {
             (watch_served self.now.server (view_of view.now) (record { start = Start.Streamed least; bookmarks = bookmarks })))) }
     {
         match self.initial(alloc, view, least) {
-            Ok(initial) => opening_lines(
-                alloc,
-                view.kind,
-                bookmarks,
-                &initial.members,
-                initial.revision,
-            ),
+            Ok(initial) => stream_opening(alloc, view.kind, bookmarks, &initial),
             Err(fault) => fault_line(alloc, &fault),
         }
     }

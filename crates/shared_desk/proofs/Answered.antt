@@ -43,5 +43,5 @@ there size h s v least l is begins = by begins.0
     by (inr none) = inr none
 
 pub begun_there : (size : ℕ) (h : History) (s : Server) (v : View) (least : Option ℕ) (r : Result Begun Fault) → IsAfter size h s → GivesBegun (λ l. BeginsAlone s v least l s) r → GivesBegun (IsThere h v least) r
-begun_there size h s v least (Ok b) is g = (g.0, g.1, there size h s v least _ is g.2)
+begun_there size h s v least (Ok b) is g = there size h s v least _ is g
 begun_there size h s v least (Err e) is g = there size h s v least _ is g

@@ -103,5 +103,5 @@ module _ (may_ask : Request → Type 0) (Also : Type 0) (also : Also) where
 
   pub begun : (v w : Known Server Entry) (view : View) (least : Option ℕ) (r : Result Begun Fault) → Step may_ask v (λ h. None) (λ h. GivesBegun (IsThere h view least) r) w
       → GivesBegun (λ l. BeginsAt may_ask v view least l w × Also) r
-  begun v w view least (Ok b) step = let g = step.says in (g.0, g.1, (restated may_ask v w _ _ _ _ step refl g.2, also))
+  begun v w view least (Ok b) step = (restated may_ask v w _ _ _ _ step refl step.says, also)
   begun v w view least (Err e) step = (restated may_ask v w _ _ _ _ step refl step.says, also)

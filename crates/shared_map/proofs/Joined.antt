@@ -55,3 +55,10 @@ drop_done [] zero is = refl
 drop_done [] (suc n) is = refl
 drop_done (x ∷ xs) zero is = absurd (omega (arith, is))
 drop_done (x ∷ xs) (suc n) is = drop_done xs n (omega (arith, is))
+
+pub first_of : {X : Type 0} (x y : X) (xs ys : List X) → x ∷ xs ≡ y ∷ ys → x ≡ y
+first_of x y xs ys is = ap (λ l. head_or l x) is
+  where
+    head_or : {X : Type 0} → List X → X → X
+    head_or [] d = d
+    head_or (z ∷ zs) d = z

@@ -1,4 +1,6 @@
 pub mod Between
+pub mod Changed
+pub mod Cuts
 pub mod Joined
 pub mod Located
 pub mod Orders

@@ -1,9 +1,10 @@
 -- What is done to the chunk that may have a key is done to all entries.
-use Rattle.std.proofs.Common.{◌≡◌, ◌++◌, ◌+◌, ◌<◌, ℕ, List, ◌∷◌, Bool, true, false, Ordering, Less, Greater, sym, ap, ◌∙◌, length, take, drop, subst}
+use Rattle.std.proofs.Common.{map, slice_set, slice_index_or, ◌≡◌, ◌++◌, ◌+◌, ◌<◌, ℕ, List, ◌∷◌, Bool, true, false, Ordering, Less, Greater, sym, ap, ◌∙◌, length, take, drop, subst}
 use Rattle.std.specs.Cmp.{IsTotalOrder}
 use Rattle.std.specs.Map.{lookup, remove_entry}
 use Rattle.std.specs.BTreeMap.{is_at}
-use Rattle.std.proofs.lemmas.List.{length-append}
+use Rattle.std.proofs.lemmas.List.{length-append, take-append-drop}
+use Rattle.shared_map.proofs.Places.{map_at, map_set}
 use Rattle.shared_map.specs.Entries.{put_entry}
 use Rattle.shared_map.specs.Parts.{AllAre, BeginsAt, starts_after, joined, AreFilled}
 use Rattle.shared_map.proofs.Between.{put_between, remove_between, remove_place, found_between}
@@ -43,3 +44,9 @@ module _ {K X : Type 0} {R : K → K → Ordering} (o : IsTotalOrder R) (k : K) 
 
   pub length_at : length (joined ps) ≡ length (joined (take i ps)) + (length C + length (joined (drop (i + 1) ps)))
   length_at = ap length (around ps i C here) ∙ length-append (joined (take i ps)) (C ++ joined (drop (i + 1) ps)) ∙ ap (λ n. length (joined (take i ps)) + n) (length-append C (joined (drop (i + 1) ps)))
+
+-- ---- the chunk at a place, put in the place of itself
+
+pub set_same : {X Y : Type 0} (f : X → List Y) (xs : List X) (i : ℕ) (x y : X) → i < length xs → x ≡ slice_index_or xs i x → f y ≡ f x → map f (slice_set xs i y) ≡ map f xs
+set_same f xs i x y within is same =
+    map_set f xs i y within ∙ ap (λ e. take i (map f xs) ++ (e ∷ drop (i + 1) (map f xs))) same ∙ ap (λ l. take i (map f xs) ++ l) (sym (map_at f xs i x within is)) ∙ take-append-drop i (map f xs)

@@ -134,7 +134,7 @@ module _ {K X : Type 0} {R : K → K → Ordering} (o : IsTotalOrder R) where
 
   -- ---- the chunk that is found
 
-  front_by : (k : K) (A : List (K × X)) (qs : List (List (K × X))) → InOrder (A ++ joined qs) → AreFilled qs → starts_after R k qs ≡ false → AllAre R Greater k A
+  pub front_by : (k : K) (A : List (K × X)) (qs : List (List (K × X))) → InOrder (A ++ joined qs) → AreFilled qs → starts_after R k qs ≡ false → AllAre R Greater k A
   front_by k A [] s f is = cc
   front_by k A ([] ∷ qs) s f is = absurd (omega (arith, f.0))
   front_by k A ((e ∷ es) ∷ qs) s f is = above_front k A e (es ++ joined qs) s is

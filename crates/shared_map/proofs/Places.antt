@@ -48,3 +48,7 @@ pub map_removed : {X Y : Type 0} (f : X → Y) (xs : List X) (i : ℕ) → map f
 map_removed f xs i =
     map-append f (take i xs) (drop (suc i) xs) ∙ ap (λ l. l ++ map f (drop (suc i) xs)) (sym (take-map f i xs))
     ∙ ap (λ l. take i (map f xs) ++ l) (sym (drop-map f (suc i) xs) ∙ ap (λ n. drop n (map f xs)) (sym (plus_one i)))
+
+pub map_inserted : {X Y : Type 0} (f : X → Y) (xs : List X) (i : ℕ) (x : X) → map f (insert xs i x) ≡ take i (map f xs) ++ (f x ∷ drop i (map f xs))
+map_inserted f xs i x =
+    map-append f (take i xs) (x ∷ drop i xs) ∙ ap (λ l. l ++ (f x ∷ map f (drop i xs))) (sym (take-map f i xs)) ∙ ap (λ l. take i (map f xs) ++ (f x ∷ l)) (sym (drop-map f i xs))

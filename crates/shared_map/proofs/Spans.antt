@@ -45,7 +45,7 @@ module _ {K X : Type 0} {R : K → K → Ordering} (o : IsTotalOrder R) (p : K) 
   less_above e [] is b = tt
   less_above e (x ∷ es) is b = (o.trans p e.0 x.0 is b.0, less_above e es is b.1)
 
-  rest_above : (e : K × X) (es : List (K × X)) → InOrder o (e ∷ es) → is_le (R p e.0) ≡ true → AllAre R Less p es
+  pub rest_above : (e : K × X) (es : List (K × X)) → InOrder o (e ∷ es) → is_le (R p e.0) ≡ true → AllAre R Less p es
   unfolding IsStrictlySortedBy
   rest_above e es s le = by (R p e.0) refl le
     where

@@ -57,3 +57,7 @@ AreFilled ps = AllByRecursion (λ p. 0 < length p) ps
 -- the entries are in order, no chunk is empty, and there are so many
 abbrev pub IsSound : {K X : Type 0} → (K → K → Ordering) → List (List (K × X)) → ℕ → Type 0
 IsSound cmp ps n = IsStrictlySortedBy cmp (keys_of (joined ps)) × AreFilled ps × (n ≡ length (joined ps))
+
+-- the entries of a front, of chunks and of a back, one after another
+abbrev pub entries_left : {K X A B : Type 0} → List (Arc (K × X) A) → List (Arc (Vec (Arc (K × X) A)) B) → List (Arc (K × X) A) → List (K × X)
+entries_left front cs back = seen front ++ (joined (parts cs) ++ seen back)

@@ -7,10 +7,10 @@ use std::cmp::Ordering;
 use std::sync::Arc;
 
 /// How many entries a chunk has at most.
-const LIMIT: usize = 24;
+pub const LIMIT: usize = 24;
 
 /// Returns whether entries begin after a key.
-fn begins_after<K: Ord, V>(entries: &[Arc<(K, V), Global>], key: &K) -> bool
+pub fn begins_after<K: Ord, V>(entries: &[Arc<(K, V), Global>], key: &K) -> bool
     ensures { result ≡ begins_after K.cmp key.now (seen entries.now) }
 {
     match entries.first() {

@@ -1,6 +1,5 @@
 -- What the owner of a server is told.
-use Rattle.std.proofs.Common.{◌≡◌, ◌⊎◌, inl, inr, ℕ, List, Option, Some, None, Result, Ok, Err, map, refl, sym, ap, ◌∙◌}
-use Rattle.std.proofs.lemmas.Simd.{map-map}
+use Rattle.std.proofs.Common.{◌≡◌, ◌⊎◌, inl, inr, ℕ, List, Option, Some, None, Result, Ok, Err, refl, sym, ap, ap₂, ◌∙◌}
 use Rattle.definitions.specs.History.{View, Entries, viewed}
 use Rattle.definitions.specs.ObjectRequests.{Request}
 use Rattle.definitions.specs.Refusals.{Refusal, no_memory}
@@ -10,7 +9,6 @@ use Rattle.definitions.specs.WatchReplies.{initial_from}
 use Rattle.desk.proofs.Begun.{served_once, refused_once}
 use Rattle.desk.specs.Initials.{initial_of}
 use Rattle.desk.specs.Replies.{Replies}
-use Rattle.meta.specs.Members.{member_of}
 use Rattle.desk.specs.declared.initials.InitialEvents.{InitialEvents}
 use Rattle.keys.specs.Faults.{refusal_of}
 use Rattle.keys.specs.declared.fault.Fault.{Fault}
@@ -19,7 +17,6 @@ use Rattle.watch_cache.specs.Served.{Serves}
 use Rattle.reply.specs.declared.reply.Reply.{Reply}
 use Rattle.server_state.specs.Servers.{Server, after_writing, initial_by}
 use Rattle.watch_service.specs.Given.{GivesBegun, there_from}
-use Rattle.watch_service.specs.declared.begun.Begun.{Begun}
 use Rattle.sites.specs.Alone.{CallsAlone, BeginsAlone}
 use Rattle.sites.specs.Told.{Tells}
 
@@ -43,12 +40,11 @@ given : (now : ℕ) (ms : Entries) (least : Option ℕ) (i : InitialEvents) → 
 given now ms None i is = refl
 given now ms (Some r) i is = served_once now r ms i (listed_as now ms) is
 
-pub begun : (s : Server) (v : View) (least : Option ℕ) (i : InitialEvents) (b : Begun) → Serves initial_of (initial_by s v least) (Ok i) → map member_of i.members.items ≡ viewed v s.snapshot.members
-    → map (λ o. o.value) b.objects.items ≡ map (λ m. (member_of m).1) i.members.items → b.revision ≡ s.snapshot.revision → GivesBegun (λ l. BeginsAlone s v least l s) (Ok b)
-begun s v least i b gives is copied present =
+pub begun : (s : Server) (v : View) (least : Option ℕ) (i : InitialEvents) → Serves initial_of (initial_by s v least) (Ok i) → i.objects ≡ viewed v s.snapshot.members → i.revision ≡ s.snapshot.revision
+    → GivesBegun (λ l. BeginsAlone s v least l s) (Ok (record { objects = i.objects; revision = i.revision }))
+begun s v least i gives is present =
     let ms = viewed v s.snapshot.members in
-    let shown : map (λ m. m.1) ms ≡ map (λ o. o.value) b.objects.items = ap (map (λ m. m.1)) (sym is) ∙ map-map (λ m. m.1) member_of i.members.items ∙ sym copied in
-    (ms, shown, (inl (ap (λ r. Ok (listed_as r ms)) present ∙ sym (given s.snapshot.revision ms least i gives)), refl))
+    (inl (ap₂ (λ r ms. Ok (listed_as r ms)) present is ∙ sym (given s.snapshot.revision ms least i gives)), refl)
 
 abbrev refusing : Fault → Result Listed Refusal
 refusing e = Err (refusal_of e)

@@ -1,6 +1,4 @@
 //! What a server answers that one thread owns.
-ghost use Rattle.std.specs.Prelude.{◌≡◌, IfOk, map};
-ghost use Rattle.meta.specs.Members.{member_of};
 ghost use Rattle.requests.specs.Collected.{list_seen};
 ghost use Rattle.revisions.specs.Watches.{watched_of};
 ghost use Rattle.selector.specs.Views.{view_of};
@@ -11,14 +9,13 @@ ghost use Rattle.watch_service.specs.Given.{Gives, GivesBegun};
 
 use desk::Server;
 use keys::Fault;
-use meta::{Member, StoredObject};
 use reply::Reply;
 use requests::Request;
 use requests::list_options::ListOptions;
 use revisions::Watched;
 use selector::View;
 use stamps::moments::Moment;
-use std::alloc::{AllocError, Global};
+use std::alloc::Global;
 use watch_service::Begun;
 
 /// Answers a request at a moment, after which what it writes is written.
@@ -68,17 +65,6 @@ pub(crate) fn watch_from(
     }
 }
 
-/// Copies objects that are lent; their texts are shared.
-fn copies_of(alloc: Global, members: &[Member<'_>]) -> Result<Vec<StoredObject>, AllocError>
-    ensures { IfOk result (λ copies. map (λ o. o.value) copies.items ≡ map (λ m. (member_of m).1) members.now) }
-{
-    let mut copies = Vec::with_capacity(alloc, members.len())?;
-    for member in members {
-        copies.push(member.object.try_copy()?)?;
-    }
-    Ok(copies)
-}
-
 /// Gives what is there of a view, for a watch that begins with it, not older than a revision, if one is named. The errors are a
 /// revision above the present one and out of memory.
 pub fn initial(
@@ -89,15 +75,11 @@ pub fn initial(
 ) -> Result<Begun, Fault>
     ensures { GivesBegun (λ l. BeginsAlone server.now (view_of view.now) least l server.now) result }
 {
-    let initial = match server.initial(alloc, view, least) {
-        Ok(initial) => initial,
-        Err(fault) => return Err(fault),
-    };
-    match copies_of(alloc, &initial.members) {
-        Ok(objects) => Ok(Begun {
-            objects,
+    match server.initial(alloc, view, least) {
+        Ok(initial) => Ok(Begun {
+            objects: initial.objects,
             revision: initial.revision,
         }),
-        Err(_) => Err(Fault::NoMemory),
+        Err(fault) => Err(fault),
     }
 }

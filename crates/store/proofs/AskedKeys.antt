@@ -1,4 +1,5 @@
 -- What a view asks for after a place lies between the first key that it may ask for there and the first past them.
+use denote.Ref.{Bor}
 use Rattle.std.proofs.Common.{◌≡◌, ◌<◌, ◌≤◌, nat_lt, ℕ, zero, suc, ◌==◌, ◌&&◌, not, Bool, true, false, cond, List, [], ◌∷◌, ◌++◌, Option, Some, None, IfSome, option_map, unwrap_or, length, nat_cmp, is_lt, is_eq, is_le, is_gt, Ordering, Less, Equal, Greater, refl, sym, ap, ◌∙◌, subst, arith}
 use Rattle.std.proofs.lemmas.Cmp.{nat_cmp_total, nat_list_cmp_total, tied_itself, upto, on_total, then_total}
 use Rattle.std.proofs.lemmas.Map.Text.{is_eq-slice_cmp}
@@ -27,7 +28,8 @@ use Rattle.keys.specs.Keys.{key_of}
 use Rattle.keys.specs.declared.key.Key.{Key}
 use Rattle.meta.specs.declared.stored.StoredObject.{StoredObject}
 use Rattle.keys.proofs.KeyOrder.{key_cmp-name_cmp}
-use Rattle.store.specs.AskedKeys.{first_name, first_asked, first_past, first_after, start_name, earlier, later}
+use Rattle.shared_map.specs.Entries.{end_before}
+use Rattle.store.specs.AskedKeys.{first_name, first_asked, first_past, first_after, start_name, later}
 use Rattle.store.specs.Seen.{members_seen}
 use Rattle.store.proofs.SeenMaps.{key_cmp}
 
@@ -203,36 +205,6 @@ name_past v past named k d is =
     let p = parts v k d is in
     subst (λ o. IfSome o (λ p. is_le (name_cmp p k) ≡ false)) (sym named) (past_after v.kind v.namespace k p.0 p.1)
 
-first_forward : (v : View) (past : Name) → Some past ≡ first_past v.kind v.namespace → is_le (name_cmp (first_asked v) past) ≡ true
-first_forward v past named =
-    le-gt (name_cmp (first_asked v) past) (subst (λ o. IfSome o (λ p. is_gt (name_cmp (first_asked v) p) ≡ false)) (sym named) (goes_forward v.kind v.namespace))
-
-earlier-second : (a b : Name) → is_le (name_cmp (earlier a b) b) ≡ true
-earlier-second a b = by (is_lt (name_cmp a b)) refl
-  where
-    by : (c : Bool) → is_lt (name_cmp a b) ≡ c → is_le (name_cmp (cond c a b) b) ≡ true
-    by true is = lt-le (name_cmp a b) is
-    by false is = ap is_le (tied_itself name_total b)
-
--- below the second, the earlier of two names is as the first
-earlier-below : (a b k : Name) → is_le (name_cmp b k) ≡ false → is_le (name_cmp (earlier a b) k) ≡ is_le (name_cmp a k)
-earlier-below a b k below = by (is_lt (name_cmp a b)) refl
-  where
-    never : (c : Bool) → is_lt (name_cmp a b) ≡ false → is_le (name_cmp a k) ≡ c → false ≡ c
-    never true is le = sym below ∙ le_through b a k (not-before a b is) le
-    never false is le = refl
-
-    by : (c : Bool) → is_lt (name_cmp a b) ≡ c → is_le (name_cmp (cond c a b) k) ≡ is_le (name_cmp a k)
-    by true is = refl
-    by false is = below ∙ never (is_le (name_cmp a k)) is refl
-
-earlier-from : (f a b : Name) → is_le (name_cmp f a) ≡ true → is_le (name_cmp f b) ≡ true → is_le (name_cmp f (earlier a b)) ≡ true
-earlier-from f a b p q = by (is_lt (name_cmp a b))
-  where
-    by : (c : Bool) → is_le (name_cmp f (cond c a b)) ≡ true
-    by true = p
-    by false = q
-
 -- ---- all of a kind in a namespace
 
 le_same : (s t : List ℕ) → is_le (slice_cmp nat_cmp s t) ≡ true → is_lt (slice_cmp nat_cmp s t) ≡ false → bytes_eq s t ≡ true
@@ -380,11 +352,7 @@ both true false h = (refl, refl)
 both false b h = let not_so : false ≡ true = h in cc
 
 -- the range from the start of a view to the first key past it
-pub ends_forward : (start past : Key) (first : Name) → key_of start ≡ earlier first (key_of past) → is_gt (key_cmp start past) ≡ false
-ends_forward start past first named =
-    gt-le (key_cmp start past) (key-name start (earlier first (key_of past)) named past ∙ earlier-second first (key_of past))
-
-pub between-asked : (v : View) (p : Option Place) (start past : Key) → key_of start ≡ earlier (start_name v p) (key_of past) → Some (key_of past) ≡ first_past v.kind v.namespace → (es : List (Key × StoredObject))
+between-asked : (v : View) (p : Option Place) (start past : Key) → key_of start ≡ start_name v p → Some (key_of past) ≡ first_past v.kind v.namespace → (es : List (Key × StoredObject))
     → viewed v (members_seen (entries_between key_cmp (Included start) (Excluded past) es)) ≡ after_place p (viewed v (members_seen es))
 between-asked v p start past named last es = kept v p (range_contains key_cmp (Included start) (Excluded past)) one es
   where
@@ -392,27 +360,26 @@ between-asked v p start past named last es = kept v p (range_contains key_cmp (I
     one k d is =
         let below = name_past v (key_of past) last (key_of k) d is in
         without_false (is_le (key_cmp start k)) (is_le (key_cmp past k)) (is_after p (key_of k))
-        (key-name start (earlier (start_name v p) (key_of past)) named k ∙ earlier-below (start_name v p) (key_of past) (key_of k) below ∙ start-after v p (key_of k) d is)
+        (key-name start (start_name v p) named k ∙ start-after v p (key_of k) d is)
         (key-name past (key_of past) refl k ∙ below)
 
-pub from-asked : (v : View) (p : Option Place) (start : Key) → key_of start ≡ start_name v p → (es : List (Key × StoredObject))
+from-asked : (v : View) (p : Option Place) (start : Key) → key_of start ≡ start_name v p → (es : List (Key × StoredObject))
     → viewed v (members_seen (entries_between key_cmp (Included start) Unbounded es)) ≡ after_place p (viewed v (members_seen es))
 from-asked v p start named es =
     kept v p (range_contains key_cmp (Included start) Unbounded) (λ k d is. without_false (is_le (key_cmp start k)) false (is_after p (key_of k)) (key-name start (start_name v p) named k ∙ start-after v p (key_of k) d is) refl) es
 
-pub between-all : (v : View) (p : Option Place) (start past : Key) → key_of start ≡ earlier (start_name v p) (key_of past) → Some (key_of past) ≡ first_past v.kind v.namespace → (es : List (Key × StoredObject))
+between-all : (v : View) (p : Option Place) (start past : Key) → key_of start ≡ start_name v p → Some (key_of past) ≡ first_past v.kind v.namespace → (es : List (Key × StoredObject))
     → is_selective v ≡ false → viewed v (members_seen (entries_between key_cmp (Included start) (Excluded past) es)) ≡ members_seen (entries_between key_cmp (Included start) (Excluded past) es)
 between-all v p start past named last es plain = all_kept v (range_contains key_cmp (Included start) (Excluded past)) one es
   where
     one : (k : Key) (d : Data) → range_contains key_cmp (Included start) (Excluded past) k ≡ true → in_view v (key_of k) d ≡ true
     one k d is =
         let ends = both (is_le (key_cmp start k)) (is_le (key_cmp past k)) is in
-        let first = earlier-from (first_asked v) (start_name v p) (key_of past) (start-first v p) (first_forward v (key_of past) last) in
-        let from = le_through (first_asked v) (earlier (start_name v p) (key_of past)) (key_of k) first (sym (key-name start (earlier (start_name v p) (key_of past)) named k) ∙ ends.0) in
+        let from = le_through (first_asked v) (start_name v p) (key_of k) (start-first v p) (sym (key-name start (start_name v p) named k) ∙ ends.0) in
         let below : is_le (name_cmp (key_of past) (key_of k)) ≡ false = sym (key-name past (key_of past) refl k) ∙ ends.1 in
         all-asked v plain (key_of k) d from (subst (λ o. IfSome o (λ p. is_le (name_cmp p (key_of k)) ≡ false)) last below)
 
-pub from-all : (v : View) (p : Option Place) (start : Key) → key_of start ≡ start_name v p → None ≡ first_past v.kind v.namespace → (es : List (Key × StoredObject))
+from-all : (v : View) (p : Option Place) (start : Key) → key_of start ≡ start_name v p → None ≡ first_past v.kind v.namespace → (es : List (Key × StoredObject))
     → is_selective v ≡ false → viewed v (members_seen (entries_between key_cmp (Included start) Unbounded es)) ≡ members_seen (entries_between key_cmp (Included start) Unbounded es)
 from-all v p start named last es plain = all_kept v (range_contains key_cmp (Included start) Unbounded) one es
   where
@@ -421,6 +388,17 @@ from-all v p start named last es plain = all_kept v (range_contains key_cmp (Inc
         let ends = both (is_le (key_cmp start k)) false is in
         let from = le_through (first_asked v) (start_name v p) (key_of k) (start-first v p) (sym (key-name start (start_name v p) named k) ∙ ends.0) in
         all-asked v plain (key_of k) d from (subst (λ o. IfSome o (λ p. is_le (name_cmp p (key_of k)) ≡ false)) last tt)
+
+-- the same, where there may be no key past it
+pub asked-found : (v : View) (p : Option Place) (start : Key) (past : Option (Bor Key)) → key_of start ≡ start_name v p → option_map (λ (k : Bor Key). key_of k.now) past ≡ first_past v.kind v.namespace → (es : List (Key × StoredObject))
+    → viewed v (members_seen (entries_between key_cmp (Included start) (end_before past) es)) ≡ after_place p (viewed v (members_seen es))
+asked-found v p start None named last es = from-asked v p start named es
+asked-found v p start (Some past) named last es = between-asked v p start past.now named last es
+
+pub asked-all : (v : View) (p : Option Place) (start : Key) (past : Option (Bor Key)) → key_of start ≡ start_name v p → option_map (λ (k : Bor Key). key_of k.now) past ≡ first_past v.kind v.namespace → (es : List (Key × StoredObject))
+    → is_selective v ≡ false → viewed v (members_seen (entries_between key_cmp (Included start) (end_before past) es)) ≡ members_seen (entries_between key_cmp (Included start) (end_before past) es)
+asked-all v p start None named last es = from-all v p start named last es
+asked-all v p start (Some past) named last es = between-all v p start past.now named last es
 
 -- without a place, all are after it
 pub after-none : (ms : Entries) → after_place None ms ≡ ms

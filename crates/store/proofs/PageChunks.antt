@@ -1,12 +1,8 @@
 -- The first objects of a range as a page, and what a range has left where the view asks for each.
-use denote.Ref.{Bor}
-use Rattle.std.proofs.Common.{suc, ◌≡◌, ◌≤◌, ◌<◌, ◌+◌, ◌-◌, ◌==◌, ℕ, List, [], ◌∷◌, ◌++◌, length, map, take, filter, append-nil, Bool, true, false, cond, Option, None, refl, sym, ap, ◌∙◌, subst, arith, nat_le, nat_eq}
+use Rattle.std.proofs.Common.{suc, ◌≡◌, ◌≤◌, ◌<◌, ◌+◌, ◌-◌, ◌==◌, ℕ, List, [], ◌∷◌, ◌++◌, length, map, take, filter, append-nil, Bool, true, false, cond, Option, refl, sym, ap, ◌∙◌, subst, arith, nat_le, nat_eq}
 use Rattle.std.proofs.Math.Seq.{take-append_seam}
 use Rattle.std.proofs.lemmas.Bool.Decides.{nat_tests}
 use Rattle.std.proofs.lemmas.List.{length-append, length-map, nil_from_length}
-use Rattle.std.proofs.lemmas.Map.Iter.{iter_end}
-use Rattle.std.specs.Iterator.{Drains}
-use Rattle.std.specs.Map.Iter.{TakesFirst, deref_pair}
 use Rattle.serde_json.specs.Data.{Data}
 use Rattle.definitions.specs.Keys.{Key as Name}
 use Rattle.definitions.specs.History.{View, Entries, viewed, in_view}
@@ -24,7 +20,7 @@ use Rattle.store.specs.declared.chunks.Chunk.{Chunk}
 added : (n : ℕ) (all taken left : Entries) → IsFirst n all taken left → length taken + length left ≡ length all
 added n all taken left f = sym (length-append taken left) ∙ ap length f.split
 
-whole : (all taken left : Entries) → taken ++ left ≡ all → left ≡ [] → taken ≡ all
+pub whole : (all taken left : Entries) → taken ++ left ≡ all → left ≡ [] → taken ≡ all
 whole all taken left split none = sym (append-nil taken) ∙ ap (λ z. taken ++ z) (sym none) ∙ split
 
 as_many : (n : ℕ) (all taken left : Entries) → taken ++ left ≡ all → length taken ≡ n → taken ≡ take n all
@@ -121,9 +117,6 @@ pub after_first : (v : View) (es fs : List (Key × StoredObject)) (e : Key × St
 after_first v es fs e is all = all_left v (key_of e.0, e.1.value) (members_seen fs) (subst (λ z. viewed v (members_seen z) ≡ members_seen z) is all)
 
 -- ---- a count
-
-pub counted_all : (es : List (Key × StoredObject)) (xs : List (Bor Key × Bor StoredObject)) → Drains (TakesFirst deref_pair) es xs → length xs ≡ length es
-counted_all es xs d = (iter_end deref_pair es xs es d.1.0 d.0 None refl d.1.1 refl d.1.2).1
 
 length-seen : (es : List (Key × StoredObject)) → length (members_seen es) ≡ length es
 length-seen es = length-map es (λ e. (key_of e.0, e.1.value))

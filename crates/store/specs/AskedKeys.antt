@@ -23,9 +23,6 @@ first_past kind (Some ns) = Some (first_name kind (ns ++ 0 ∷ []))
 abbrev pub later : Key → Key → Key
 later a b = if is_lt (key_cmp a b) then b else a
 
-abbrev pub earlier : Key → Key → Key
-earlier a b = if is_lt (key_cmp a b) then a else b
-
 -- the first name of a kind after a place
 abbrev pub first_after : Kind → Place → Key
 first_after kind p = record { kind = kind; namespace = p.namespace; name = p.name ++ 0 ∷ [] }

@@ -12,8 +12,8 @@ use keys::Key;
 use meta::lent_members::Member;
 use meta::stored::StoredObject;
 use selector::View;
+use shared_map::EntriesLeft;
 use std::alloc::{AllocError, Global};
-use std::collections::btree_map::Range;
 
 /// A chunk of what a view asks for (Kubernetes API Concepts, Retrieving large results sets in chunks).
 #[derive(Drop)]
@@ -26,7 +26,10 @@ pub struct Chunk<'a> {
 }
 
 /// Removes the next object that a view asks for, and those before it, from a range, and returns it.
-fn next_member<'a>(range: &mut Range<'a, Key, StoredObject>, view: &View) -> Option<Member<'a>>
+pub(crate) fn next_member<'a>(
+    range: &mut EntriesLeft<'a, Key, StoredObject>,
+    view: &View,
+) -> Option<Member<'a>>
     ensures some { IfSome result (λ member. viewed (view_of view.now) (members_seen range.old)
         ≡ member_of member ∷ viewed (view_of view.now) (members_seen range.new)) }
     ensures none { IfNone result (viewed (view_of view.now) (members_seen range.old) ≡ []) }
@@ -34,7 +37,7 @@ fn next_member<'a>(range: &mut Range<'a, Key, StoredObject>, view: &View) -> Opt
     ensures all { viewed (view_of view.now) (members_seen range.old) ≡ members_seen range.old
         → viewed (view_of view.now) (members_seen range.new) ≡ members_seen range.new }
 {
-    while let Some((key, object)) = range.next() {
+    while let Some((key, object)) = range.take_next() {
         if view.contains(key, object) {
             return Some(Member { key, object });
         }
@@ -46,7 +49,7 @@ fn next_member<'a>(range: &mut Range<'a, Key, StoredObject>, view: &View) -> Opt
 /// comes after them. The error is running out of memory.
 pub(crate) fn first_members<'a>(
     alloc: Global,
-    range: &mut Range<'a, Key, StoredObject>,
+    range: &mut EntriesLeft<'a, Key, StoredObject>,
     view: &View,
     limit: usize,
 ) -> Result<Vec<Member<'a>>, AllocError>
@@ -67,14 +70,13 @@ pub(crate) fn first_members<'a>(
 
 /// Returns how many objects of a range a view asks for: without a selection they are counted, and not looked at; with one, the
 /// first is looked for, and 1 stands for any number.
-pub(crate) fn remaining(mut range: Range<Key, StoredObject>, view: &View) -> usize
+pub(crate) fn remaining(mut range: EntriesLeft<'_, Key, StoredObject>, view: &View) -> usize
     requires all { is_selective (view_of view.now) ≡ false
         → viewed (view_of view.now) (members_seen range) ≡ members_seen range }
-    requires few { length (viewed (view_of view.now) (members_seen range)) ≤ most_objects }
     ensures { Tells (view_of view.now) (length (viewed (view_of view.now) (members_seen range.entry))) result }
 {
     if !view.is_selective() {
-        return range.count();
+        return range.len();
     }
     match next_member(&mut range, view) {
         Some(_) => 1,

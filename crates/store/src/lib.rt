@@ -2,9 +2,13 @@
 #![tactic(auto)]
 
 pub mod chunks;
+pub mod members;
 mod objects;
 mod ranges;
+pub mod snapshots;
 pub mod stores;
 
 pub use chunks::Chunk;
+pub use members::MembersLeft;
+pub use snapshots::ViewSnapshot;
 pub use stores::Store;

@@ -6,7 +6,7 @@ ghost use Rattle.definitions.specs.Lists.{is_selective};
 ghost use Rattle.definitions.specs.Pages.{place_of, after_place};
 ghost use Rattle.keys.specs.Keys.{key_of};
 ghost use Rattle.selector.specs.Views.{view_of};
-ghost use Rattle.store.specs.AskedKeys.{first_name, first_asked, first_past, first_after, start_name, earlier, later};
+ghost use Rattle.store.specs.AskedKeys.{first_name, first_asked, first_past, first_after, start_name, later};
 ghost use Rattle.store.specs.Chunks.{after_key};
 ghost use Rattle.store.specs.Seen.{members_seen};
 
@@ -14,32 +14,26 @@ use definitions::kinds::Kind;
 use keys::Key;
 use meta::stored::StoredObject;
 use selector::View;
+use shared_map::{EntriesLeft, SharedMap};
 use std::alloc::{AllocError, Global};
-use std::collections::BTreeMap;
-use std::collections::btree_map::Range;
 
 /// Returns the objects from the first key that a view may ask for to the last, or from the first after a key of the place of
 /// `after`, in the order of keys. A view of a kind or a namespace that does not select asks for each of them. The error is
 /// running out of memory.
 pub fn asked<'a>(
     alloc: Global,
-    objects: &'a BTreeMap<Key, StoredObject>,
+    objects: &'a SharedMap<Key, StoredObject>,
     view: &View,
     after: Option<Key>,
-) -> Result<Range<'a, Key, StoredObject>, AllocError>
+) -> Result<EntriesLeft<'a, Key, StoredObject>, AllocError>
     ensures found { IfOk result (λ range. viewed (view_of view.entry.now) (members_seen range)
-        ≡ after_place (after_key after) (viewed (view_of view.entry.now) (members_seen objects.entry.now.entries))) }
+        ≡ after_place (after_key after) (viewed (view_of view.entry.now) (members_seen objects.entry.now))) }
     ensures all { IfOk result (λ range. is_selective (view_of view.entry.now) ≡ false
         → viewed (view_of view.entry.now) (members_seen range) ≡ members_seen range) }
 {
     let start = start_of(alloc, view, after)?;
-    match first_past(alloc, view)? {
-        None => Ok(objects.range(start..)),
-        Some(past) => {
-            let start = earlier(start, &past)?;
-            Ok(objects.range(start..past))
-        }
-    }
+    let past = first_past(alloc, view)?;
+    Ok(objects.range(&start, past.as_ref()))
 }
 
 /// Returns the first key that a view may ask for after the place of a key, or at all where none is given.
@@ -71,17 +65,6 @@ fn later(first: Key, second: Key) -> Key
     ensures { key_of result ≡ later (key_of first) (key_of second) }
 {
     if first < second { second } else { first }
-}
-
-/// Returns the earlier of two keys, the second of which is copied.
-fn earlier(first: Key, second: &Key) -> Result<Key, AllocError>
-    ensures { IfOk result (λ key. key_of key ≡ earlier (key_of first) (key_of second.now)) }
-{
-    if first < *second {
-        Ok(first)
-    } else {
-        second.try_copy()
-    }
 }
 
 /// Returns the first key that a view may ask for.

@@ -2,14 +2,16 @@
 use crate::chunks::{Chunk, first_members, remaining};
 use crate::objects::take;
 use crate::ranges::asked;
+use crate::snapshots::ViewSnapshot;
 use keys::{Fault, Key};
 use limits::{GREATEST_REVISION, MOST_OBJECTS};
 use meta::lent_members::Member;
 use meta::stored::StoredObject;
 use meta::writes::Write;
 use selector::View;
+use shared_map::SharedMap;
 use std::alloc::{AllocError, Global};
-use std::collections::{BTreeMap, HashMap};
+use std::collections::HashMap;
 use std::marker::Model;
 
 /// All that is there, with one revision over all kinds: 1 for the empty store, and one more after each write.
@@ -17,7 +19,7 @@ use std::marker::Model;
 #[derive(Drop)]
 pub struct Store {
     /// In the order of their keys, for lists.
-    objects: BTreeMap<Key, StoredObject>,
+    objects: SharedMap<Key, StoredObject>,
     /// The same objects, for one under its key: it is found without the way through the order.
     index: HashMap<Key, StoredObject>,
     revision: u64,
@@ -33,9 +35,9 @@ impl Model for Store {
 
     ghost use Rattle.store.specs.Seen.{members_seen, IsKept};
 
-    ghost view = { λ s. record { members = members_seen s.objects.entries; revision = s.revision } };
+    ghost view = { λ s. record { members = members_seen s.objects; revision = s.revision } };
 
-    ghost invariant = { λ s. IsKept s.objects.entries s.index s.revision };
+    ghost invariant = { λ s. IsKept s.objects s.index s.revision };
 }
 
 impl Store {
@@ -56,7 +58,7 @@ impl Store {
         ensures { result ≡ empty }
     {
         Store {
-            objects: BTreeMap::new(alloc),
+            objects: SharedMap::new(alloc),
             index: HashMap::new(alloc),
             revision: 1,
         }
@@ -120,7 +122,8 @@ impl Store {
             ≡ viewed (view_of view.entry.now) self.entry.now.members) }
     {
         let mut found = Vec::new(alloc);
-        for (key, object) in asked(alloc, &self.objects, view, None)? {
+        let mut range = asked(alloc, &self.objects, view, None)?;
+        while let Some((key, object)) = range.take_next() {
             if view.contains(key, object) {
                 found.push(Member { key, object })?;
             }
@@ -128,8 +131,16 @@ impl Store {
         Ok(found)
     }
 
+    /// Returns what a view shows, to be looked at later, whatever is written meanwhile. It costs a count for each few objects that there are.
+    /// The error is running out of memory.
+    pub fn snapshot(&self, alloc: Global, view: &View) -> Result<ViewSnapshot, AllocError>
+        ensures { IfOk result (λ s. s ≡ viewed (view_of view.now) self.now.members) }
+    {
+        ViewSnapshot::of(alloc, &self.objects, view)
+    }
+
     /// Returns a chunk of the list of a view: at most `limit` objects, or all if it is 0, after the place of a key, or the
-    /// first. It costs the way to its start and what it has, and to count the objects that remain a step for each; where the
+    /// first. It costs the way to its start and what it has, and to count what remains a look for each few objects; where the
     /// view selects, a look at each up to the first that remains. The error is running out of memory.
     pub fn page<'a>(
         &'a self,

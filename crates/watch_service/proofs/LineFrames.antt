@@ -11,9 +11,7 @@ use Rattle.chunked.specs.Bodies.{chunk_text}
 use Rattle.connections.specs.Replies.{frames_text}
 use Rattle.responses.specs.Frames.{change_frames, object_frames}
 use Rattle.revisions.specs.Watches.{last_bookmark}
-use Rattle.watch_service.specs.FirstFrames.{first_frames}
-use Rattle.watch_service.specs.Given.{Shows}
-use Rattle.watch_service.specs.declared.begun.Begun.{Begun}
+use Rattle.watch_service.specs.FirstFrames.{first_frames, member_frames}
 
 pub frames-append : (k : Kind) (ls ms : List Line) → frames_text k (ls ++ ms) ≡ frames_text k ls ++ frames_text k ms
 frames-append k [] ms = refl
@@ -32,18 +30,12 @@ pub frames-of_opening : (k : Kind) (bookmarks : Bool) (r : ℕ) (ms : Entries) �
 frames-of_opening k bookmarks r ms = frames-append k (added_lines ms) (closing_lines bookmarks r) ∙ ap (λ t. t ++ frames_text k (closing_lines bookmarks r)) (frames-of_members k ms)
 
 -- the text of a head, of what is there, and of the bookmark that closes it
-pub opening_is : (k : Kind) (bookmarks : Bool) (b : Begun) (ms : Entries) (head text : List ℕ) → Shows ms b
-    → text ≡ head ++ first_frames k bookmarks b.revision b.objects.items → text ≡ head ++ frames_text k (opening_lines bookmarks b.revision ms)
-opening_is k bookmarks b ms head text shown is =
-    let closing = frames_text k (closing_lines bookmarks b.revision) in
-    is ∙ ap (λ t. head ++ t) (sym (frames-of_opening k bookmarks b.revision ms ∙ ap (λ d. object_frames d ++ closing) shown))
+pub opening_is : (k : Kind) (bookmarks : Bool) (r : ℕ) (ms : Entries) (head text : List ℕ) → text ≡ head ++ first_frames k bookmarks r ms → text ≡ head ++ frames_text k (opening_lines bookmarks r ms)
+opening_is k bookmarks r ms head text is = is ∙ ap (λ t. head ++ t) (sym (frames-of_opening k bookmarks r ms))
 
 -- that of a head, and of what is there
-pub listing_is : (k : Kind) (b : Begun) (ms : Entries) (head text : List ℕ) → Shows ms b → text ≡ head ++ first_frames k false b.revision b.objects.items
-    → text ≡ head ++ frames_text k (added_lines ms)
-listing_is k b ms head text shown is =
-    let frames = object_frames (map (λ o. o.value) b.objects.items) in
-    is ∙ ap (λ t. head ++ t) (append-nil frames ∙ sym (frames-of_members k ms ∙ ap object_frames shown))
+pub listing_is : (k : Kind) (r : ℕ) (ms : Entries) (head text : List ℕ) → text ≡ head ++ first_frames k false r ms → text ≡ head ++ frames_text k (added_lines ms)
+listing_is k r ms head text is = is ∙ ap (λ t. head ++ t) (append-nil (member_frames ms) ∙ sym (frames-of_members k ms))
 
 -- a text of which nothing is left to be made
 pub made_is : (text rest whole : List ℕ) → text ≡ whole → rest ≡ [] → text ++ rest ≡ whole

@@ -1,24 +1,27 @@
 -- What a watch begins with, made and written in pieces.
-use Rattle.std.proofs.Common.{◌≡◌, ◌≤◌, ◌<◌, ◌+◌, nat_lt, ℕ, zero, suc, List, [], ◌∷◌, ◌++◌, length, map, drop, Bool, true, false, Option, Result, Ok, Err, refl, sym, ap, subst, ◌∙◌, arith, append_assoc, append-nil, length-append}
+use Rattle.std.proofs.Common.{◌≡◌, ◌<◌, ◌||◌, nat_lt, ℕ, List, [], ◌∷◌, ◌++◌, length, Bool, true, false, Option, Some, None, is_some, IfSome, IfNone, Result, Ok, Err, refl, sym, ap, subst, ◌∙◌, arith, append_assoc, append-nil, length-append}
 use Rattle.std.specs.Fmt.{digits}
 use Rattle.std.proofs.KnownBytes.{Appends-trans}
 use Rattle.std.proofs.lemmas.Bool.{lt-ltb, ltb-false}
-use Rattle.std.proofs.lemmas.List.{drop-drop, drop_all}
 use Rattle.std.specs.Io.KnownBytes.{Appends}
+use Rattle.serde_json.specs.Data.{Data}
 use Rattle.definitions.specs.declared.kinds.Kind.{Kind}
 use Rattle.definitions.specs.declared.frames.FrameKind.TheVariants.{Added}
 use Rattle.definitions.specs.Frames.{frame_text}
-use Rattle.definitions.specs.Objects.{Object}
+use Rattle.definitions.specs.History.{Entries}
+use Rattle.definitions.specs.Keys.{Key}
 use Rattle.definitions.specs.Streams.{frame_of, initial_end}
 use Rattle.definitions.specs.WatchReplies.{closing_lines}
 use Rattle.chunked.specs.Bodies.{chunk_text, crlf}
 use Rattle.chunked.specs.Devices.{AppendsBeginning, device_of, has_failed}
 use Rattle.chunked.specs.declared.watched.Watched as device
 use Rattle.connections.specs.Replies.{frames_text}
-use Rattle.responses.specs.Frames.{object_frames}
+use Rattle.store.specs.Snapshots.{LeavesAfter}
 use Rattle.watch_service.specs.declared.fault.Cut.TheVariants as cut
 use Rattle.watch_service.specs.declared.fault.Cut.{Cut}
-use Rattle.watch_service.specs.FirstFrames.{first_frames}
+use Rattle.meta.specs.Members.{member_of}
+use Rattle.meta.specs.declared.lent_members.Member.{Member}
+use Rattle.watch_service.specs.FirstFrames.{first_frames, member_frames, StopsAt}
 use Rattle.watch_service.specs.Looked.{Writes}
 use Rattle.watch_service.specs.Served.{WritesInParts}
 use Rattle.watch_service.proofs.Going.{appends_none, begun_then}
@@ -37,57 +40,112 @@ pub empty_of : (xs : List ℕ) → nat_lt 0 (length xs) ≡ false → xs ≡ []
 empty_of [] e = refl
 empty_of (x ∷ xs) e = absurd (omega (arith, ltb-false 0 (length (x ∷ xs)) e))
 
-is_some : (n : ℕ) → 0 < n → true ≡ nat_lt 0 n
-is_some n some = sym (lt-ltb 0 n some)
+is_positive : (n : ℕ) → 0 < n → true ≡ nat_lt 0 n
+is_positive n some = sym (lt-ltb 0 n some)
 
--- frames are left where objects are
-object_some : (k : Kind) (closing : Bool) (r : ℕ) (o : Object) (os : List Object) → 0 < length (first_frames k closing r (o ∷ os))
-object_some k closing r o os =
-    let first = frame_text (record { kind = Added; object = o.value }) in
-    let more = object_frames (map (λ o. o.value) os) in
+-- frames are left where members are
+member_some : (k : Kind) (closing : Bool) (r : ℕ) (m : Key × Data) (ms : Entries) → 0 < length (first_frames k closing r (m ∷ ms))
+member_some k closing r m ms =
+    let first = frame_text (record { kind = Added; object = m.1 }) in
+    let more = member_frames ms in
     let last = frames_text k (closing_lines closing r) in
     let some : 0 < length (chunk_text first ++ more) = chunk_some first more in
     omega (arith, some, length-append (chunk_text first ++ more) last)
-
-pub objects_some : (k : Kind) (closing : Bool) (r made : ℕ) (os : List Object) → made < length os → 0 < length (first_frames k closing r (drop made os))
-objects_some k closing r zero [] short = absurd (omega (arith, short))
-objects_some k closing r zero (o ∷ os) short = object_some k closing r o os
-objects_some k closing r (suc made) [] short = absurd (omega (arith, short))
-objects_some k closing r (suc made) (o ∷ os) short = objects_some k closing r made os (omega (arith, short))
-
-pub any_object : (k : Kind) (closing : Bool) (r made : ℕ) (os : List Object) → made < length os → true ≡ nat_lt 0 (length (first_frames k closing r (drop made os)))
-any_object k closing r made os short = is_some (length (first_frames k closing r (drop made os))) (objects_some k closing r made os short)
 
 -- else where the bookmark is
 end_some : (k : Kind) (closing : Bool) (r : ℕ) → closing ≡ nat_lt 0 (length (first_frames k closing r []))
 end_some k true r =
     let last = frame_text (frame_of k (initial_end r)) in
-    is_some (length (chunk_text last ++ [])) (chunk_some last [])
+    is_positive (length (chunk_text last ++ [])) (chunk_some last [])
 end_some k false r = refl
 
-pub any_end : (k : Kind) (closing : Bool) (r made : ℕ) (os : List Object) → length os ≤ made → closing ≡ nat_lt 0 (length (first_frames k closing r (drop made os)))
-any_end k closing r made os all = end_some k closing r ∙ ap (λ l. nat_lt 0 (length (first_frames k closing r l))) (sym (drop_all made os all))
+-- members make a frame each, and so does the bookmark
+pub any_left : (k : Kind) (closing : Bool) (r : ℕ) (ms : Entries) → (nat_lt 0 (length ms) || closing) ≡ nat_lt 0 (length (first_frames k closing r ms))
+any_left k closing r [] = end_some k closing r
+any_left k closing r (m ∷ ms) =
+    ap (λ b. b || closing) (sym (is_positive (length (m ∷ ms)) (omega arith))) ∙ is_positive (length (first_frames k closing r (m ∷ ms))) (member_some k closing r m ms)
 
 -- after some frames more
-pub some_made : (k : Kind) (closing : Bool) (r made more : ℕ) (os : List Object) (old new : List ℕ)
-    → new ++ object_frames (map (λ o. o.value) (drop more (drop made os))) ≡ old ++ object_frames (map (λ o. o.value) (drop made os))
-    → old ++ first_frames k closing r (drop made os) ≡ new ++ first_frames k closing r (drop (made + more) os)
-some_made k closing r made more os old new is =
+pub some_made : (k : Kind) (closing : Bool) (r : ℕ) (all left : Entries) (old new : List ℕ) → new ++ member_frames left ≡ old ++ member_frames all
+    → old ++ first_frames k closing r all ≡ new ++ first_frames k closing r left
+some_made k closing r all left old new is =
     let last = frames_text k (closing_lines closing r) in
-    let left = object_frames (map (λ o. o.value) (drop made os)) in
-    let then = object_frames (map (λ o. o.value) (drop more (drop made os))) in
-    sym (append_assoc old left last) ∙ ap (λ t. t ++ last) (sym is) ∙ append_assoc new then last ∙ ap (λ l. new ++ first_frames k closing r l) (drop-drop more made os)
+    sym (append_assoc old (member_frames all) last) ∙ ap (λ t. t ++ last) (sym is) ∙ append_assoc new (member_frames left) last
 
 -- after the last of them
-pub all_made : (k : Kind) (closing : Bool) (r made more : ℕ) (os : List Object) (old mid new : List ℕ)
-    → mid ++ object_frames (map (λ o. o.value) (drop more (drop made os))) ≡ old ++ object_frames (map (λ o. o.value) (drop made os))
-    → length (drop made os) ≤ more → new ≡ mid ++ frames_text k (closing_lines closing r)
-    → old ++ first_frames k closing r (drop made os) ≡ new ++ []
-all_made k closing r made more os old mid new is le end =
+pub all_made : (k : Kind) (closing : Bool) (r : ℕ) (all : Entries) (old mid new : List ℕ) → mid ≡ old ++ member_frames all → new ≡ mid ++ frames_text k (closing_lines closing r)
+    → old ++ first_frames k closing r all ≡ new ++ []
+all_made k closing r all old mid new is end =
     let last = frames_text k (closing_lines closing r) in
-    let left = object_frames (map (λ o. o.value) (drop made os)) in
-    let all : old ++ left ≡ mid = sym is ∙ ap (λ l. mid ++ object_frames (map (λ o. o.value) l)) (drop_all more (drop made os) le) ∙ append-nil mid in
-    sym (append_assoc old left last) ∙ ap (λ t. t ++ last) all ∙ sym end ∙ sym (append-nil new)
+    sym (append_assoc old (member_frames all) last) ∙ ap (λ t. t ++ last) (sym is) ∙ sym end ∙ sym (append-nil new)
+
+-- ---- where a piece ends
+
+module _ (all now : Entries) (old new : List ℕ) (key : Key) (s : StopsAt all old new key) (past : LeavesAfter key all now) where
+  left_now : now ≡ s.left
+  left_now = past s.before s.left s.object s.split
+
+  pub still_more : (more : Bool) → more ≡ nat_lt 0 (length all) → more ≡ nat_lt 0 (length now)
+  still_more more is =
+      let some : 0 < length all = omega (arith, ap length s.split, length-append s.before ((key, s.object) ∷ s.left)) in
+      let left : 0 < length now = subst (λ ms. 0 < length ms) (sym left_now) s.more in
+      is ∙ sym (is_positive (length all) some) ∙ is_positive (length now) left
+
+  pub piece_made : (k : Kind) (closing : Bool) (r : ℕ) → old ++ first_frames k closing r all ≡ new ++ first_frames k closing r now
+  piece_made k closing r = some_made k closing r all s.left old new s.frames ∙ ap (λ ms. new ++ first_frames k closing r ms) (sym left_now)
+
+  pub piece_some : new ≡ [] → ⊥
+  piece_some none = omega (arith, s.full, ap length none)
+
+-- ---- what is made of members that are taken one after another
+
+-- a member that was taken, and those that are left
+abbrev pub with_next : Option Member → Entries → Entries
+with_next None ms = []
+with_next (Some m) ms = member_of m ∷ ms
+
+pub next_taken : (next : Option Member) (old new : Entries) → IfSome next (λ m. old ≡ member_of m ∷ new) → IfNone next (old ≡ []) → with_next next new ≡ old
+next_taken None old new some none = sym none
+next_taken (Some m) old new some none = sym some
+
+pub next_some : (next : Option Member) (ms : Entries) → is_some next ≡ true → 0 < length (with_next next ms)
+next_some None ms none = cc
+next_some (Some m) ms some = omega arith
+
+-- the frames of some of the members were added to a text, and these are left
+pub record ArePushed (all left : Entries) (old new : List ℕ) : Type 0 where
+  pub before : Entries
+  pub split : before ++ left ≡ all
+  pub frames : new ++ member_frames left ≡ old ++ member_frames all
+
+pub none_pushed : (all left : Entries) (old : List ℕ) → left ≡ all → ArePushed all left old old
+none_pushed all left old is = record { before = []; split = is; frames = ap (λ ms. old ++ member_frames ms) is }
+
+pub one_pushed : (all more left : Entries) (m : Key × Data) (old mid new : List ℕ) → ArePushed all (m ∷ more) old mid → new ≡ mid ++ chunk_text (frame_text (record { kind = Added; object = m.1 })) → left ≡ more
+    → ArePushed all left old new
+one_pushed all more left m old mid new h is same =
+    let frame = chunk_text (frame_text (record { kind = Added; object = m.1 })) in
+    record {
+      before = h.before ++ m ∷ [];
+      split = append_assoc h.before (m ∷ []) left ∙ ap (λ ms. h.before ++ m ∷ ms) same ∙ h.split;
+      frames = ap (λ t. t ++ member_frames left) is ∙ append_assoc mid frame (member_frames left) ∙ ap (λ ms. mid ++ (frame ++ member_frames ms)) same ∙ h.frames;
+    }
+
+pub stops_at : (all more left : Entries) (m : Key × Data) (k : Key) (old mid new : List ℕ) → ArePushed all (m ∷ more) old mid → new ≡ mid ++ chunk_text (frame_text (record { kind = Added; object = m.1 })) → left ≡ more
+    → k ≡ m.0 → 0 < length left → 0 < length new → StopsAt all old new k
+stops_at all more left m k old mid new h is same named some full =
+    record {
+      before = h.before;
+      object = m.1;
+      left = more;
+      split = sym h.split ∙ ap (λ n. h.before ++ (n, m.1) ∷ more) (sym named);
+      frames = ap (λ ms. new ++ member_frames ms) (sym same) ∙ (one_pushed all more left m old mid new h is same).frames;
+      more = subst (λ ms. 0 < length ms) same some;
+      full = full;
+    }
+
+pub all_pushed : (all left : Entries) (old new : List ℕ) → ArePushed all left old new → left ≡ [] → new ≡ old ++ member_frames all
+all_pushed all left old new h none = sym (append-nil new) ∙ ap (λ ms. new ++ member_frames ms) (sym none) ∙ h.frames
 
 -- ---- what is written
 

@@ -1,5 +1,5 @@
 -- What is given, as the definitions say it.
-use Rattle.std.specs.Prelude.{◌≡◌, ℕ, map, Option, Some, None, Result, Ok, Err}
+use Rattle.std.specs.Prelude.{ℕ, Option, Some, None, Result, Ok, Err}
 use Rattle.definitions.specs.History.{Entries}
 use Rattle.definitions.specs.Refusals.{Refusal}
 use Rattle.definitions.specs.Versions.{Listed, listed_as, once_present}
@@ -12,14 +12,13 @@ abbrev pub Gives : {X Y : Type 0} → (Y → X) → (Result X Refusal → Type 0
 Gives seen is_so (Ok y) = is_so (Ok (seen y))
 Gives seen is_so (Err e) = is_so (Err (refusal_of e))
 
--- these are the objects that are there
-abbrev pub Shows : Entries → Begun → Type 0
-Shows ms b = map (λ m. m.1) ms ≡ map (λ o. o.value) b.objects.items
+-- what a watch begins with, as a list
+abbrev pub begun_as : Begun → Listed
+begun_as b = listed_as b.revision b.objects
 
 -- what is there, or why it is refused, is so
 abbrev pub GivesBegun : (Result Listed Refusal → Type 0) → Result Begun Fault → Type 0
-GivesBegun is_so (Ok b) = (ms : Entries) × Shows ms b × is_so (Ok (listed_as b.revision ms))
-GivesBegun is_so (Err e) = is_so (Err (refusal_of e))
+GivesBegun is_so r = Gives begun_as is_so r
 
 -- what is there at the present revision, which may not be older than the one that is named, if one is
 abbrev pub there_from : ℕ → Entries → Option ℕ → Result Listed Refusal

@@ -1,19 +1,21 @@
 //! The frames of what is there as a watch begins, made as they are written.
-ghost use Rattle.std.specs.Prelude.{◌≡◌, ◌≤◌, ◌<◌, ◌++◌, [], IfErr, IfOk, OnOk, drop, length, map, nat_lt};
+ghost use Rattle.std.specs.Prelude.{◌≡◌, ◌++◌, [], IfErr, IfNone, IfOk, IfSome, OnOk, length, nat_lt};
 ghost use Rattle.chunked.specs.Bodies.{chunk_text};
 ghost use Rattle.connections.specs.Replies.{frames_text};
 ghost use Rattle.definitions.specs.Frames.{frame_text};
 ghost use Rattle.definitions.specs.WatchReplies.{closing_lines};
 ghost use Rattle.definitions.specs.declared.frames.FrameKind.TheVariants.{Added};
-ghost use Rattle.responses.specs.Frames.{object_frames};
-ghost use Rattle.watch_service.specs.FirstFrames.{first_frames};
+ghost use Rattle.keys.specs.Keys.{key_of};
+ghost use Rattle.watch_service.specs.FirstFrames.{first_frames, member_frames, StopsAt};
 
 use crate::begun::Begun;
 use definitions::kinds::Kind;
+use keys::Key;
 use meta::StoredObject;
 use responses::{push_closing, push_objects};
 use std::alloc::{AllocError, Global};
 use std::marker::Model;
+use store::ViewSnapshot;
 
 /// How long a text may be for one frame more to be added to it.
 const MOST_AHEAD: usize = 65_536;
@@ -23,21 +25,23 @@ const MOST_AHEAD: usize = 65_536;
 #[derive(Drop)]
 pub struct FirstFrames {
     kind: Kind,
-    objects: Vec<StoredObject>,
-    made: usize,
+    /// The objects whose frames are still to be made.
+    objects: ViewSnapshot,
+    /// Whether there are any.
+    more: bool,
     closing: bool,
     revision: u64,
 }
 
 impl Model for FirstFrames {
-    ghost use Rattle.std.specs.Prelude.{◌≤◌, ℕ, List, drop, length};
+    ghost use Rattle.std.specs.Prelude.{◌≡◌, ℕ, List, length, nat_lt};
     ghost use Rattle.watch_service.specs.FirstFrames.{first_frames};
 
     ghost Value = { List ℕ };
 
-    ghost view = { λ f. first_frames f.kind f.closing f.revision (drop f.made f.objects.items) };
+    ghost view = { λ f. first_frames f.kind f.closing f.revision f.objects };
 
-    ghost invariant = { λ f. f.made ≤ length f.objects.items };
+    ghost invariant = { λ f. f.more ≡ nat_lt 0 (length f.objects) };
 }
 
 /// Adds the frame of an object.
@@ -48,26 +52,26 @@ fn push_object(alloc: Global, text: &mut Vec<u8>, object: &StoredObject) -> Resu
     push_objects(alloc, text, std::slice::from_ref(object))
 }
 
-/// Adds the frames of objects, in their order, as long as the text is not too long for one more, and returns how many it added.
+/// Adds the frames of objects, in their order: the first, and others as long as the text is not too long for one more. Returns the key
+/// of the last of them, where others are left.
 fn push_some(
     alloc: Global,
     text: &mut Vec<u8>,
-    objects: &[StoredObject],
-) -> Result<usize, AllocError>
-    ensures frames { IfOk result (λ n. text.new.items ++ object_frames (map (λ o. o.value) (drop n objects.now))
-        ≡ text.old.items ++ object_frames (map (λ o. o.value) objects.now)) }
-    ensures within { IfOk result (λ n. n ≤ length objects.now) }
-    ensures full { IfOk result (λ n. n < length objects.now → 0 < length text.new.items) }
+    objects: &ViewSnapshot,
+) -> Result<Option<Key>, AllocError>
+    ensures all { IfOk result (λ last. IfNone last (text.new.items ≡ text.old.items ++ member_frames objects.now)) }
+    ensures some { IfOk result (λ last. IfSome last (λ k. StopsAt objects.now text.old.items text.new.items (key_of k))) }
 {
-    let mut made = 0;
-    for object in objects {
-        if text.len() >= MOST_AHEAD {
-            return Ok(made);
+    let mut members = objects.members(alloc)?;
+    let mut next = members.take_next();
+    while let Some(member) = next {
+        push_object(alloc, text, member.object)?;
+        next = members.take_next();
+        if next.is_some() && text.len() >= MOST_AHEAD {
+            return Ok(Some(member.key.try_copy()?));
         }
-        push_object(alloc, text, object)?;
-        made += 1;
     }
-    Ok(made)
+    Ok(None)
 }
 
 /// Adds the frame of the bookmark that closes what is there, if it is to come.
@@ -93,57 +97,53 @@ impl FirstFrames {
     {
         FirstFrames {
             kind,
-            objects: Vec::new(alloc),
-            made: 0,
+            objects: ViewSnapshot::none(alloc, kind),
+            more: false,
             closing: false,
             revision: 0,
         }
     }
 
-    /// Returns the frames of what is there, and of the bookmark that closes it, if that is to come.
-    pub(crate) fn of(kind: Kind, closing: bool, begun: Begun) -> FirstFrames
-        ensures { result ≡ first_frames kind closing begun.revision begun.objects.items }
+    /// Returns the frames of what is there, and of the bookmark that closes it, if that is to come. The error is running out of memory.
+    pub(crate) fn of(
+        alloc: Global,
+        kind: Kind,
+        closing: bool,
+        begun: Begun,
+    ) -> Result<FirstFrames, AllocError>
+        ensures { IfOk result (λ f. f ≡ first_frames kind closing begun.revision begun.objects) }
     {
-        FirstFrames {
+        let more = !begun.objects.is_empty(alloc)?;
+        Ok(FirstFrames {
             kind,
             objects: begun.objects,
-            made: 0,
+            more,
             closing,
             revision: begun.revision,
-        }
+        })
     }
 
     /// Returns whether frames are still to be made.
     pub fn has_more(&self) -> bool
         ensures { result ≡ nat_lt 0 (length self.now) }
     {
-        self.made < self.objects.len() || self.closing
+        self.more || self.closing
     }
 
-    /// Returns how many objects there are whose frames are still to be made.
-    pub fn objects_left(&self) -> usize
-        ensures { 0 < result → 0 < length self.now }
-    {
-        self.objects.len() - self.made
-    }
-
-    /// Makes the next frames, and adds them to a text: as many as make it up to 64 KiB long, the last of them whole. The error is running out
-    /// of memory: then all are still to be made, and some may have been added.
+    /// Makes the next frames, and adds them to a text: one, and as many as make it up to 64 KiB long, the last of them whole. The error is
+    /// running out of memory: then all are still to be made, and some may have been added.
     pub fn push_next(&mut self, alloc: Global, text: &mut Vec<u8>) -> Result<(), AllocError>
         ensures made { OnOk result (text.old.items ++ self.old ≡ text.new.items ++ self.new) }
         ensures kept { IfErr result (λ _. self.new ≡ self.old) }
         ensures some { OnOk result (text.new.items ≡ [] → self.new ≡ []) }
     {
-        let left = self.objects.as_slice().split_at(self.made).1;
-        let count = left.len();
-        let made = push_some(alloc, text, left)?;
-        if made < count {
-            self.made += made;
+        if let Some(last) = push_some(alloc, text, &self.objects)? {
+            self.objects.go_past(last);
             return Ok(());
         }
         push_end(alloc, text, self.kind, self.closing, self.revision)?;
-        self.objects = Vec::new(alloc);
-        self.made = 0;
+        self.objects = ViewSnapshot::none(alloc, self.kind);
+        self.more = false;
         self.closing = false;
         Ok(())
     }

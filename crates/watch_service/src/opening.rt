@@ -75,13 +75,13 @@ fn opened_with(
     bookmarks: bool,
     begun: Begun,
 ) -> Result<Opened, AllocError>
-    ensures opening { IfOk result (λ r. opening_of r ≡ watch_head ++ first_frames kind bookmarks begun.revision begun.objects.items) }
+    ensures opening { IfOk result (λ r. opening_of r ≡ watch_head ++ first_frames kind bookmarks begun.revision begun.objects) }
     ensures revision { IfOk result (λ r. r.at.revision ≡ begun.revision) }
     ensures idle { IfOk result (λ r. r.at.idle ≡ 0) }
 {
     let at = standing_at(&begun);
     let mut text = head_text(alloc)?;
-    let mut rest = FirstFrames::of(kind, bookmarks, begun);
+    let mut rest = FirstFrames::of(alloc, kind, bookmarks, begun)?;
     rest.push_next(alloc, &mut text)?;
     Ok(Opened { at, text, rest })
 }

@@ -12,6 +12,7 @@ returns c =
       out = c.args.watch.opened.text;
       taken = 0;
       rest = c.args.watch.opened.rest;
+      pieces = 0;
       later = c.new.result;
     } in
     (w, refl, refl, refl, refl, refl, refl, refl, c.new.ensures.items, search rules)

@@ -6,6 +6,6 @@ use Rattle.store.proofs.chunks.next_member.Goals as goal
 pub loop-key-preserved : goal.loop-key-preserved
 loop-key-preserved c =
     record {
-      left = passed (view_of c.args.view.now) c.loop-key.range c.next.new.self (c.in-Some.key.now, c.in-Some.object.now) c.in-Some.ensures.steps c.if-contains.ensures ∙ c.loop-key.invariant.left;
-      all = λ all. after_first (view_of c.args.view.now) c.loop-key.range c.next.new.self (c.in-Some.key.now, c.in-Some.object.now) c.in-Some.ensures.steps (c.loop-key.invariant.all all);
+      left = passed (view_of c.args.view.now) c.loop-key.range c.take_next.new.self _ c.in-Some.ensures.some c.if-contains.ensures ∙ c.loop-key.invariant.left;
+      all = λ all. after_first (view_of c.args.view.now) c.loop-key.range c.take_next.new.self _ c.in-Some.ensures.some (c.loop-key.invariant.all all);
     }

@@ -1,10 +1,10 @@
-use Rattle.std.proofs.Common.{◌≡◌, ◌++◌, map, drop}
-use Rattle.responses.specs.Frames.{object_frames}
+use Rattle.std.proofs.Common.{length}
+use Rattle.watch_service.proofs.Pieces.{ArePushed, with_next}
 use Rattle.watch_service.proofs.first_frames.push_some.Given as goal
 
--- so many are made; the frames so far and those that are left are all
-abbrev pub invariant-loop-object : goal.invariant-loop-object
-invariant-loop-object l = record {
-  many : l.made ≡ l.object-index;
-  frames : l.text.items ++ object_frames (map (λ o. o.value) (drop l.object-index l.objects)) ≡ l.initial.text.items ++ object_frames (map (λ o. o.value) l.objects);
-}
+-- the frames so far and those that are left are all
+abbrev pub invariant-loop-next : goal.invariant-loop-next
+invariant-loop-next l = ArePushed l.objects (with_next l.next l.members) l.initial.text.items l.text.items
+
+abbrev pub decreases-loop-next : goal.decreases-loop-next
+decreases-loop-next l = length (with_next l.next l.members)

@@ -1,16 +1,16 @@
 use Rattle.std.proofs.Common.{Ok, inr, refl, sym, ◌∙◌, append-nil}
 use Rattle.connections.specs.Replies.{watch_head}
-use Rattle.definitions.specs.Versions.{listed_as}
 use Rattle.watch_service.proofs.LineFrames.{made_is}
+use Rattle.watch_service.specs.Given.{begun_as}
 use Rattle.watch_service.specs.Watches.{opening_after}
 use Rattle.watch_service.proofs.opening.open_after.Goals as goal
 
 pub returns-in-Ok-head_text : goal.returns-in-Ok-head_text
 returns-in-Ok-head_text g c =
     let h = c.in-Ok.ensures.begins in
-    let l = listed_as c.in-Ok.begun.revision h.0 in (
+    let l = begun_as c.in-Ok.begun in (
       opening_after l,
-      (Ok l, h.2, refl),
+      (Ok l, h, refl),
       c.standing_at.ensures.revision,
       c.standing_at.ensures.idle,
       made_is c.in-Ok-head_text.text.items c.none.result watch_head c.in-Ok-head_text.ensures c.none.ensures ∙ sym (append-nil watch_head),
@@ -19,5 +19,5 @@ returns-in-Ok-head_text g c =
 pub returns : goal.returns
 returns g c =
     let h = c.in-Ok.ensures.begins in
-    let l = listed_as c.in-Ok.begun.revision h.0 in
-    inr (refl, opening_after l, (Ok l, h.2, refl))
+    let l = begun_as c.in-Ok.begun in
+    inr (refl, opening_after l, (Ok l, h, refl))

@@ -1,7 +1,7 @@
 use Rattle.std.proofs.Common.{Ok, inr, refl}
 use Rattle.connections.specs.Replies.{watch_head}
-use Rattle.definitions.specs.Versions.{listed_as}
 use Rattle.watch_service.proofs.LineFrames.{listing_is}
+use Rattle.watch_service.specs.Given.{begun_as}
 use Rattle.watch_service.specs.Opened.{opening_of}
 use Rattle.watch_service.specs.Watches.{opening_with}
 use Rattle.watch_service.proofs.opening.open_with.Goals as goal
@@ -9,16 +9,16 @@ use Rattle.watch_service.proofs.opening.open_with.Goals as goal
 pub returns-in-Ok-opened_with : goal.returns-in-Ok-opened_with
 returns-in-Ok-opened_with g c =
     let h = c.in-Ok.ensures.begins in
-    let l = listed_as c.in-Ok.begun.revision h.0 in (
+    let l = begun_as c.in-Ok.begun in (
       opening_with l,
-      (Ok l, h.2, refl),
+      (Ok l, h, refl),
       c.in-Ok-opened_with.ensures.revision,
       c.in-Ok-opened_with.ensures.idle,
-      listing_is c.args.view.now.kind c.in-Ok.begun h.0 watch_head (opening_of c.in-Ok-opened_with.opened) h.1 c.in-Ok-opened_with.ensures.opening,
+      listing_is c.args.view.now.kind c.in-Ok.begun.revision c.in-Ok.begun.objects watch_head (opening_of c.in-Ok-opened_with.opened) c.in-Ok-opened_with.ensures.opening,
     )
 
 pub returns-in-Err-opened_with : goal.returns-in-Err-opened_with
 returns-in-Err-opened_with g c =
     let h = c.in-Ok.ensures.begins in
-    let l = listed_as c.in-Ok.begun.revision h.0 in
-    inr (refl, opening_with l, (Ok l, h.2, refl))
+    let l = begun_as c.in-Ok.begun in
+    inr (refl, opening_with l, (Ok l, h, refl))

@@ -2,8 +2,6 @@ use Rattle.definitions.specs.Replies.{shown, watch_reply}
 use Rattle.definitions.specs.WatchReplies.{opening_lines}
 use Rattle.definitions.specs.declared.versions.Start.TheVariants.{Streamed}
 use Rattle.line_protocol.specs.Lines.{reply_text}
-use Rattle.std.proofs.Common.{map}
-use Rattle.meta.specs.Members.{member_of}
 use Rattle.selector.specs.Views.{view_of}
 use Rattle.server_state.specs.Servers.{watch_served}
 use Rattle.session.proofs.Served.{stream-given, stream-refused, as-given}
@@ -14,9 +12,9 @@ returns-in-Ok c =
     let s = c.args.self.now.server in
     let v = view_of c.args.view.now in
     let i = c.in-Ok.initial in
-    as-given (λ l. l.items) c.opening_lines.result (reply_text (shown v.kind (opening_lines c.args.bookmarks i.revision (map member_of i.members.items))))
+    as-given (λ l. l.items) c.stream_opening.result (reply_text (shown v.kind (opening_lines c.args.bookmarks i.revision i.objects)))
     (reply_text (watch_reply v.kind (watch_served s v (record { start = Streamed c.args.least; bookmarks = c.args.bookmarks }))))
-    (stream-given s v c.args.bookmarks c.args.least i c.in-Ok.ensures.events c.in-Ok.ensures.members c.in-Ok.ensures.revision) (rw c.deref.ensures.value at c.opening_lines.ensures)
+    (stream-given s v c.args.bookmarks c.args.least i c.in-Ok.ensures.events c.in-Ok.ensures.members c.in-Ok.ensures.revision) c.stream_opening.ensures
 
 pub returns-in-Err : goal.returns-in-Err
 returns-in-Err c =

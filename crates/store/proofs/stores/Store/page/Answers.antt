@@ -1,20 +1,13 @@
-use Rattle.std.proofs.Common.{◌∙◌, ap, map}
+use Rattle.std.proofs.Common.{◌∙◌, ap}
 use Rattle.definitions.specs.History.{viewed}
 use Rattle.definitions.specs.Pages.{after_place}
 use Rattle.server_state.specs.Snapshots.{Snapshot}
-use Rattle.definitions.specs.Verbs.{most_objects}
-use Rattle.meta.specs.Members.{member_of}
 use Rattle.selector.specs.Views.{view_of}
 use Rattle.store.specs.Chunks.{after_key}
 use Rattle.store.specs.Seen.{members_seen}
 use Rattle.store.specs.declared.chunks.Chunk.{Chunk}
-use Rattle.store.proofs.PageChunks.{few_left, is_page}
+use Rattle.store.proofs.PageChunks.{is_page}
 use Rattle.store.proofs.stores.Store.page.Goals as goal
-
-pub remaining-remaining-requires-clause-few : goal.remaining-remaining-requires-clause-few
-remaining-remaining-requires-clause-few c =
-    few_left c.args.limit most_objects (view_of c.args.view.now) c.self.inside.objects.entries c.in_ok-range.range (after_key c.args.after) (map member_of c.in_ok-members.members.items) (viewed (view_of c.args.view.now) (members_seen c.first_members.new.range))
-    c.in_ok-range.ensures.found c.in_ok-members.ensures.taken c.self.invariant.few
 
 pub returns : goal.returns
 returns c =
