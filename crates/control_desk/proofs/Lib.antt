@@ -1,1 +1,4 @@
-pub mod Failures
+pub mod Hands
+pub mod Standing
+pub mod Same
+pub mod Turns

@@ -1,11 +1,15 @@
-//! The board that the workers of controllers share: the work queue, the keys with a delay, the failures in a row, what is
-//! expected, and the time. Each call is one step.
+//! The work of controllers that threads share: one board, of which each worker has a pass. Each call of a pass is one step of the
+//! board at one point of one history of all calls, and no key is in the hands of two passes.
 #![tactic(auto)]
 
-pub mod aged_out;
-pub mod board;
-pub mod observation;
+mod calls;
+pub mod desks;
+pub mod entries;
+mod expecting;
+pub mod hand_laws;
+mod handling;
+mod steps;
+pub mod work_law;
 
-pub use aged_out::AgedOut;
-pub use board::Board;
-pub use observation::{Observation, Owner};
+pub use desks::{ControlDesk, WorkPass};
+pub use work_law::WorkLaw;

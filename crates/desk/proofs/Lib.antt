@@ -1,6 +1,9 @@
-pub mod Begun
-pub mod ListedMembers
+pub mod Answered
+pub mod Entering
+pub mod Coming
+pub mod Compacted
+pub mod Stepping
+pub mod Named
+pub mod Seated
 pub mod Sent
-pub mod Served
-pub mod Watches
-pub mod Windows
+pub mod Wrote

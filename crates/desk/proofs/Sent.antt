@@ -1,62 +1,39 @@
--- A server may cross threads.
-use denote.RattleType.{RattleType}
-use denote.Struct.Field.{u64-field}
+-- A desk may be lent to threads, and a pass sent to one.
+use denote.Struct.Field.{usize-field}
 use denote.Hole.{as_row}
-use denote.Param.Send.{IsSend, sendable, view_send}
-use denote.Param.SendFields.{declared_send, as_row_send}
-use Rattle.std.proofs.Crossing as heap
-use Rattle.std.proofs.MapsCrossing as maps
-use Rattle.std.specs.contracts.alloc.Global as Heap
-use Rattle.std.specs.contracts.impls.GlobalAllocator.TheImpl.{ghosts}
-use Rattle.circular_buffer.proofs.heap.HeapCircularBuffer.TheSendSync as ring_of
-use Rattle.circular_buffer.specs.contracts.heap.HeapCircularBuffer as Ring
-use Rattle.keys.proofs.key.Key.TheSendSync as key
-use Rattle.keys.specs.contracts.key.Key as Key
-use Rattle.meta.proofs.Kind.TheSendSync as kind
-use Rattle.meta.proofs.labels.Label.TheSendSync as label
-use Rattle.meta.proofs.pieces.Item.TheSendSync as item
-use Rattle.meta.proofs.pieces.Pieces.TheSendSync as pieces
-use Rattle.meta.below.serde_json.proofs.value.Value.TheLaws.TheKnot as tree
-use Rattle.watch_cache.specs.contracts.changes.Change as Change
-use Rattle.watch_cache.specs.contracts.cache.Cache as Cache
-use Rattle.watch_cache.specs.contracts.cache.Cache.TheInside as Inside
-use Rattle.definitions.specs.contracts.kinds.Kind as Kind
-use Rattle.watch_cache.specs.contracts.caches.Caches as Caches
-use Rattle.watch_cache.specs.contracts.caches.Caches.TheInside as CachesInside
-use Rattle.store.specs.contracts.stores.Store as Store
-use Rattle.store.specs.contracts.stores.Store.TheInside as StoreInside
+use denote.Param.Send.{IsSend, IsSync, sendable}
+use denote.Param.SendFields.{declared_sync, as_row_sync, as_row_send}
+use Rattle.std.specs.contracts.option.Option as Option
+use Rattle.std.proofs.option.Option.TheSendSync as option
+use Rattle.crossbeam_queue.below.atomic_table.proofs.shared.Seat.TheSendSync as pass_of
+use Rattle.crossbeam_queue.below.atomic_table.specs.contracts.shared.Seat as Pass
+use Rattle.crossbeam_queue.specs.contracts.array_queue.Doing as Doing
+use Rattle.baton.proofs.batons.Baton.TheSendSync as baton_of
+use Rattle.baton.specs.contracts.batons.Baton as Baton
+use Rattle.baton.specs.contracts.views.View as View
 use Rattle.desk.specs.contracts.servers.Server as Server
-use Rattle.desk.specs.contracts.servers.Server.TheInside as ServerInside
+use Rattle.desk.proofs.Sent.{server}
+use Rattle.shared_desk.specs.contracts.askings.Anything as Anything
+use Rattle.shared_desk.specs.contracts.askings.AnythingAsking.TheImpl as asks
+use Rattle.shared_desk.specs.contracts.desks.Desk as Desk
+use Rattle.shared_desk.specs.contracts.entries.Entry as Entry
+use Rattle.shared_desk.specs.contracts.store_law.StoreLaw as StoreLaw
+use Rattle.shared_desk.specs.contracts.store_law.StoreLawLawServer.TheImpl as laws
 
-number : IsSend (as_row u64-field)
-number = search sendable
+size : IsSync (as_row usize-field)
+size = search sendable
 
-change : IsSend Change.the_row
-change = search (kind.the_field_send, kind.the_field_sync, key.the_field_send, key.the_send, label.the_send, label.the_sync, item.the_field_send, item.the_field_sync, maps.crosses, heap.crosses, tree.crosses, tree.crosses_both, sendable) depth 60 fits 20000
+pub desk : IsSync (Desk.the_row Anything.the_row asks.ghosts)
+desk =
+    let field = Baton.the_field Server.the_row (StoreLaw.the_row Anything.the_row) Entry.the_row (laws.ghosts Anything.the_row asks.ghosts laws.no_dict) in
+    declared_sync (Desk.the_type Anything.the_row asks.ghosts) (as_row_sync field (baton_of.the_field_sync Server.the_row (StoreLaw.the_row Anything.the_row) Entry.the_row (laws.ghosts Anything.the_row asks.ghosts laws.no_dict) server), (size, tt))
 
-ring : IsSend (as_row (Ring.the_field Change.the_row Heap.the_row ghosts))
-ring = as_row_send (Ring.the_field Change.the_row Heap.the_row ghosts) (ring_of.the_send Change.the_row Heap.the_row ghosts change heap.send heap.frees)
+taken : IsSend (Option.the_row Server.the_row)
+taken = search (option.the_send, server, sendable) depth 20
 
-known_kind : IsSend (as_row Kind.the_field)
-known_kind = search (kind.the_send, sendable)
+pub pass : IsSend (Pass.the_row (Option.the_row Server.the_row) (Doing.the_row Server.the_row (View.the_row Server.the_row Entry.the_row)))
+pass = pass_of.the_send (Option.the_row Server.the_row) (Doing.the_row Server.the_row (View.the_row Server.the_row Entry.the_row)) taken
 
-inside : IsSend Inside.the_row
-inside = declared_send Inside.the_type (known_kind, (ring, (number, tt)))
-
-cache : IsSend Cache.the_row
-cache = search (inside, view_send)
-
-caches_inside : IsSend CachesInside.the_row
-caches_inside = search (cache, heap.Vec-send, sendable, declared_send) depth 40
-
-caches : IsSend Caches.the_row
-caches = search (caches_inside, view_send)
-
-store : IsSend Store.the_row
-store = search (kind.the_field_send, kind.the_field_sync, key.the_field_send, key.the_send, label.the_send, label.the_sync, item.the_field_send, item.the_field_sync, maps.crosses, heap.crosses, tree.crosses, tree.crosses_both, sendable) depth 60 fits 20000
-
-server_inside : IsSend ServerInside.the_row
-server_inside = declared_send ServerInside.the_type (as_row_send Store.the_field store, (as_row_send Caches.the_field caches, tt))
-
-pub server : IsSend Server.the_row
-server = search (server_inside, view_send)
+-- the same as a part of a struct
+pub pass_field : IsSend (as_row (Pass.the_field (Option.the_row Server.the_row) (Doing.the_row Server.the_row (View.the_row Server.the_row Entry.the_row))))
+pass_field = as_row_send (Pass.the_field (Option.the_row Server.the_row) (Doing.the_row Server.the_row (View.the_row Server.the_row Entry.the_row))) pass

@@ -1,4 +1,9 @@
-pub mod Pages
-pub mod Initials
-pub mod Replies
-pub mod Standing
+pub mod Entries
+pub mod Askings
+pub mod Histories
+pub mod Steps
+pub mod Desks
+pub mod Told
+pub mod Kinds
+pub mod Asked
+pub mod Seats

@@ -1,13 +1,24 @@
-//! The server's pure part: what is there, with the last changes of each kind beside it, and what is answered by these. It
-//! knows no thread, no clock and no connection; whoever holds it decides who may use it when.
+//! A server that threads share. Each thread has a pass, and each call of a pass is answered at one point of one history of all
+//! calls: the server is taken, makes one step, and is given back. A seat has a pass with what else a thread needs.
 #![tactic(auto)]
 
-mod compacting;
-pub mod initials;
-mod listing;
-pub mod servers;
-mod serving;
-pub mod watching;
+pub mod askings;
+mod calls;
+mod compactions;
+pub mod desks;
+pub mod entries;
+mod kinds;
+pub mod listeners;
+mod reads;
+mod seat_calls;
+pub mod seats;
+pub mod served;
+mod steps;
+pub mod store_law;
+pub mod store_laws;
 
-pub use initials::InitialEvents;
-pub use servers::Server;
+pub use askings::{Anything, Asking, Readable};
+pub use desks::{Desk, StorePass};
+pub use listeners::{Listener, Silent};
+pub use seats::Seat;
+pub use store_law::StoreLaw;

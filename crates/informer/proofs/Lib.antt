@@ -1,1 +1,4 @@
-pub mod SeenTasks
+pub mod Keeps
+pub mod Logs
+pub mod Batches
+pub mod Sent

@@ -1,2 +1,7 @@
-pub mod Owed
-pub mod Appended
+pub mod SharedDeltas
+pub mod Published
+pub mod Knowing
+pub mod Copies
+pub mod Listers
+pub mod Informers
+pub mod Shared

@@ -1,16 +1,18 @@
-//! Informers: published maps that controllers look at, what changes when they are published, and which work keys a change owes.
+//! Informers whose maps are read without waiting: two copies take turns, and every reader sees a map that was published whole.
 #![tactic(auto)]
 
-pub(crate) mod looking;
-pub mod owed;
-pub(crate) mod owing;
-pub mod plain;
-pub mod publisher;
-pub(crate) mod publishing;
-pub(crate) mod rollouts;
+pub(crate) mod changes;
+pub(crate) mod copies;
+pub mod informers;
+pub mod listers;
+pub(crate) mod published;
+pub(crate) mod rules;
+pub mod seen;
+pub mod shared;
+pub(crate) mod shared_deltas;
+pub(crate) mod views;
 
 pub use indexer::{Indexed, Shift};
-pub use owed::keys_of;
-pub use plain::PlainInformer;
-pub use publisher::Publishing;
-pub use turns::{Command, Entry, Hand, Looks, Plan, Seen};
+pub use informers::Informer;
+pub use listers::{Lister, Look};
+pub use shared::SharedInformer;

@@ -1,4 +1,0 @@
-pub mod Keeps
-pub mod Logs
-pub mod Batches
-pub mod Sent

@@ -1,7 +1,0 @@
-pub mod SharedDeltas
-pub mod Published
-pub mod Knowing
-pub mod Copies
-pub mod Listers
-pub mod Informers
-pub mod Shared

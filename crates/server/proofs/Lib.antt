@@ -1,0 +1,6 @@
+pub mod Begun
+pub mod ListedMembers
+pub mod Sent
+pub mod Served
+pub mod Watches
+pub mod Windows

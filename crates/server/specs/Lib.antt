@@ -1,0 +1,4 @@
+pub mod Pages
+pub mod Initials
+pub mod Replies
+pub mod Standing
